@@ -1,0 +1,12 @@
+pub mod Faults
+pub mod Devices
+pub mod Layout
+pub mod Record
+pub mod State
+pub mod History
+pub mod Objects
+pub mod Image
+pub mod Text
+pub mod JobText
+pub mod Report
+pub mod ReportText

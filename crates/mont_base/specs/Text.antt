@@ -1,0 +1,40 @@
+-- Texts of lines of words.
+use Rattle.std.specs.Prelude.{◌≡◌, ℕ, zero, suc, ◌+◌, ◌/◌, ◌%◌, ◌<◌, ◌⊎◌, ◌==◌, nat_lt, List, [], ◌∷◌, ◌++◌, length, slice_index_or, if◌then◌else◌}
+use Rattle.std.specs.List.{flat_map, join_with_byte, slice_split}
+
+-- words are separated by one space
+abbrev pub spaced : List (List ℕ) → List ℕ
+spaced words = join_with_byte 32 words
+
+-- a line is ended by one line feed
+abbrev pub line_of : List (List ℕ) → List ℕ
+line_of words = spaced words ++ 10 ∷ []
+
+abbrev pub text_of : List (List (List ℕ)) → List ℕ
+text_of lines = flat_map line_of lines
+
+-- the digit of a number below 16
+abbrev pub hex_digit : ℕ → ℕ
+hex_digit n = if nat_lt n 10 then 48 + n else 87 + n
+
+-- a number by so many digits in base 16
+abbrev pub hex_digits : ℕ → ℕ → List ℕ
+hex_digits zero n = []
+hex_digits (suc count) n = hex_digits count (n / 16) ++ hex_digit (n % 16) ∷ []
+
+-- the parts of a text between its line feeds
+abbrev pub parts_of : List ℕ → List (List ℕ)
+parts_of text = slice_split (λ b. b == 10) text
+
+-- the bytes of a line, counted from 0, without its line feed
+abbrev pub line_at : List ℕ → ℕ → List ℕ
+line_at text i = slice_index_or (parts_of text) i []
+
+-- a line feed ends the line
+abbrev pub IsEnded : List ℕ → ℕ → Type 0
+IsEnded text i = i + 1 < length (parts_of text)
+
+-- a text has a line for each line feed, and one more where it goes on behind the last of them; where it is
+-- empty it has one line, which isn't ended
+abbrev pub HasLine : List ℕ → ℕ → Type 0
+HasLine text i = IsEnded text i ⊎ ((i + 1 ≡ length (parts_of text)) × ((0 < length (line_at text i)) ⊎ (i ≡ 0)))

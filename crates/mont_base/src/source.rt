@@ -1,0 +1,88 @@
+// Where bytes are read from.
+ghost use Rattle.std.specs.Prelude.{◌≡◌, ◌<◌, ◌≤◌, ◌+◌, ℕ, List, length, drop, Option, Some, IfOk};
+ghost use Rattle.std.specs.Io.KnownBytes.{ReadConsumes};
+ghost use Rattle.mont_base.specs.Faults.{HasCause};
+
+use std::marker::Model;
+
+/// A device failed.
+#[derive(Clone, Copy, Debug, PartialEq, Eq)]
+pub struct Failed;
+
+/// Bytes to read.
+pub trait Source {
+    /// The bytes still to come, where the source tells them.
+    ghost left: { Self → Option (List ℕ) };
+
+    /// How often it failed. It never falls, and stands still at the last value of a `u64`.
+    ghost faults: { Self → ℕ };
+
+    /// Reads the next bytes into the front of the buffer and says how many. It gives none only at the end.
+    fn read(&mut self, buf: &mut [u8]) -> Result<usize, Failed>
+        requires { 0 < length buf.old }
+        ensures bound { IfOk result (λ n. n ≤ length buf.new) }
+        ensures bytes { ReadConsumes (left self.old) (left self.new) result buf.new }
+        ensures cause { HasCause (faults self.old) (faults self.new) result };
+}
+
+/// Bytes in memory, given in pieces of a stated size. The calls whose numbers are listed fail; the first
+/// call has number 0.
+///
+/// Contracts see the bytes that are left and the count of faults.
+#[derive(Debug, Drop)]
+pub struct MemSource {
+    bytes: Vec<u8>,
+    at: usize,
+    piece: usize,
+    fail_calls: Vec<u64>,
+    calls: u64,
+    faults: u64,
+}
+
+impl Model for MemSource {
+    ghost use Rattle.std.specs.Prelude.{◌<◌, ◌≤◌, drop, length};
+    ghost use Rattle.mont_base.specs.Devices.{Readable};
+
+    ghost Value = { Readable };
+
+    ghost view = { λ s. record { left = drop s.at s.bytes.items; faults = s.faults } };
+
+    ghost invariant = { λ s. (0 < s.piece) × (s.at ≤ length s.bytes.items) };
+}
+
+impl MemSource {
+    /// A source of these bytes, of which a call gives at most `piece`.
+    pub fn new(bytes: Vec<u8>, piece: usize, fail_calls: Vec<u64>) -> MemSource
+        requires { 0 < piece }
+        ensures { result ≡ record { left = bytes.items; faults = 0 } }
+    {
+        MemSource {
+            bytes,
+            at: 0,
+            piece,
+            fail_calls,
+            calls: 0,
+            faults: 0,
+        }
+    }
+}
+
+impl Source for MemSource {
+    ghost left = { λ s. Some s.left };
+
+    ghost faults = { λ s. s.faults };
+
+    fn read(&mut self, buf: &mut [u8]) -> Result<usize, Failed> {
+        let call = self.calls;
+        self.calls = call.saturating_add(1);
+        if self.fail_calls.contains(&call) {
+            self.faults = self.faults.saturating_add(1);
+            return Err(Failed);
+        }
+        let rest = &self.bytes[self.at..];
+        let count = rest.len().min(self.piece).min(buf.len());
+        buf[..count].copy_from_slice(&rest[..count]);
+        self.at += count;
+        Ok(count)
+    }
+}
