@@ -14,18 +14,18 @@ use Rattle.mont_base.specs.Objects.{live_objects, key_of, value_of, IsStructure}
 use Rattle.montage_tool.specs.Log.{IsPair, Follows, IsLog, set_all, puts_of, puts_of_op, put_of_record, kept_at}
 use Rattle.montage_tool.proofs.NoFault.{structure_of_log}
 
-abbrev Puts : Type 0
+abbrev pub Puts : Type 0
 Puts = List (ℕ × (ℕ × ℕ))
 
 -- the pairs after these puts, in their order
-abbrev set_puts : Pairs → Puts → Pairs
+abbrev pub set_puts : Pairs → Puts → Pairs
 set_puts m [] = m
 set_puts m (p ∷ ps) = set_puts (finite.insert m p.1.0 p.1.1) ps
 
 abbrev puts_at : ℕ → Puts → Puts
 puts_at x ps = filter (λ (p : ℕ × (ℕ × ℕ)). nat_le p.0 x) ps
 
-state_of_puts : (m : Pairs) (h : List Entry) → state_after (MapOf m) h ≡ MapOf (set_puts m (puts_of h))
+pub state_of_puts : (m : Pairs) (h : List Entry) → state_after (MapOf m) h ≡ MapOf (set_puts m (puts_of h))
 state_of_puts m [] = refl
 state_of_puts m (e ∷ h) = by_op (λ n. state_of_puts n h) e.op
   where

@@ -4,3 +4,7 @@ pub mod Cut
 pub mod Memory
 pub mod Reading
 pub mod WellFormed
+pub mod Latest
+pub mod Steps
+pub mod Sound
+pub mod Calls

@@ -80,7 +80,7 @@ live-log (r ∷ rs) log =
     turned false xs ys = refl
 
 -- a key is there where it has a latest record
-has_key-latest : (key : ℕ) (rs : List Held) → has_key key rs ≡ is_some (latest key rs)
+pub has_key-latest : (key : ℕ) (rs : List Held) → has_key key rs ≡ is_some (latest key rs)
 has_key-latest key [] = refl
 has_key-latest key (r ∷ rs) = ap (λ (b : Bool). (key == key_of r.body) || b) (has_key-latest key rs) ∙ found (latest key rs) (key == key_of r.body)
   where

@@ -16,6 +16,7 @@ use Rattle.mont_base.specs.declared.record.SlotFault.TheVariants as faults
 use Rattle.mont_base.specs.Layout.{Shape, IsLayout, total_of, units_of, unit_of_slot}
 use Rattle.mont_base.specs.Record.{IsLabel, IsVersionOf, number_of_kind, kind_of_number, is_version_of, label_at, body_at, slot_words, reading, reading_of_kind}
 use Rattle.mont_base.specs.Image.{words_at, epoch_at, cut_of, is_within, found, record_at, slots_of, records_of}
+use Rattle.montage_tool.specs.Machine.{Holds}
 use Rattle.montage_tool.specs.Log.{IsPair, Follows, IsLog, StandFrom, kept_at, words_of_record, memory}
 use Rattle.montage_tool.proofs.Memory.{Eight, eights_of_log, words_at-memory, epoch_at-memory, epoch_at-closed}
 
@@ -95,14 +96,6 @@ pair_in : (rs : List Held) (i : ℕ) (r : Held) → IsLog rs → slice_get rs i 
 pair_in [] i r log at = absurd (cc)
 pair_in (q ∷ rs) zero r log at = subst IsPair (same_Some q r at) log.0
 pair_in (q ∷ rs) (suc i) r log at = pair_in rs i r log.2 at
-
--- A store of one map unit whose first slots hold a log.
-pub record Holds (s : Shape) (rs : List Held) : Type 0 where
-  pub layout : IsLayout s
-  pub one : s.maps ≡ 1
-  pub log : IsLog rs
-  pub stand : StandFrom 0 rs
-  pub room : length rs ≤ s.slots
 
 module _ (s : Shape) (clock : ℕ) (rs : List Held) (h : Holds s rs) where
   pub unit_zero : (i : ℕ) → i < s.slots → unit_of_slot s i ≡ 0

@@ -19,13 +19,14 @@ use Rattle.mont_base.specs.State.{State, MapOf, QueueOf, GraphOf, empty_state}
 use Rattle.mont_base.specs.Objects.{live_objects, IsStructure}
 use Rattle.mont_base.specs.Image.{words_at, is_within, records_of, IsRead, DiffersFrom, IsWellFormed, IsRecovered}
 use Rattle.mont_base.specs.History.{state_after, cut_at}
+use Rattle.montage_tool.specs.Machine.{Holds}
 use Rattle.montage_tool.specs.Log.{IsPair, Follows, IsLog, kept_at, memory, puts_of, put_of_record, set_all}
 use Rattle.montage_tool.proofs.Memory.{eights_of_log, length-memory}
-use Rattle.montage_tool.proofs.Reading.{Holds, reading_here, unit_zero, closed_beyond, records_of_first, records_of_other}
+use Rattle.montage_tool.proofs.Reading.{reading_here, unit_zero, closed_beyond, records_of_first, records_of_other}
 use Rattle.montage_tool.proofs.NoFault.{structure_of_log}
 use Rattle.montage_tool.proofs.Cut.{log_kept, structure_of_cut}
 
-item_at : {A : Type 0} (xs : List A) (i : ℕ) → i < length xs → (a : A) × (slice_get xs i ≡ Some a)
+pub item_at : {A : Type 0} (xs : List A) (i : ℕ) → i < length xs → (a : A) × (slice_get xs i ≡ Some a)
 item_at [] i h = absurd (omega arith)
 item_at (x ∷ xs) zero h = (x, refl)
 item_at (x ∷ xs) (suc i) h = item_at xs i (omega arith)

@@ -4,6 +4,8 @@ use Rattle.std.specs.List.{flat_map, AllByRecursion}
 use Rattle.std.specs.FinMap as finite
 use Rattle.mont_base.specs.declared.constants.TheConstants.{FIELDS}
 use Rattle.mont_base.specs.declared.record.Held.{Held}
+use Rattle.mont_base.specs.declared.record.Label.{Label}
+use Rattle.mont_base.specs.declared.record.Kind.TheVariants as kinds
 use Rattle.mont_base.specs.declared.operation.Entry.{Entry}
 use Rattle.mont_base.specs.declared.operation.Op.{Op}
 use Rattle.mont_base.specs.declared.operation.Op.TheVariants.{Put, Get}
@@ -74,3 +76,12 @@ put_of_record r = (r.label.epoch, (key_of r.body, value_of r.body))
 -- the records whose epoch is at most x
 abbrev pub kept_at : ℕ → List Held → List Held
 kept_at x rs = filter (λ (r : Held). nat_le r.label.epoch x) rs
+
+-- the label of a key's next version: one more than the latest, or the first of a new identity
+abbrev pub next_label : ℕ → ℕ → Option Held → Label
+next_label clock keys None = record { epoch = clock; kind = kinds.New; unit = 0; identity = keys + 1; version = 1 }
+next_label clock keys (Some p) = record { epoch = clock; kind = kinds.Copy; unit = 0; identity = p.label.identity; version = p.label.version + 1 }
+
+-- the record that a put adds to these
+abbrev pub next_record : ℕ → ℕ → List Held → ℕ → ℕ → Held
+next_record clock keys rs key value = record { slot = length rs; label = next_label clock keys (latest key rs); body = pair_body key value }

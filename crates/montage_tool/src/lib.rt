@@ -1,4 +1,4 @@
 //! Private machine.
 #![tactic(auto)]
 
-pub use mont_base::Held;
+mod machine;
