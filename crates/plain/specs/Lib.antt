@@ -1,0 +1,2 @@
+pub mod GraphCode
+pub mod States
