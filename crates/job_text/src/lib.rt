@@ -1,4 +1,13 @@
 //! Reports of runs, and their one text.
 #![tactic(auto)]
 
-pub mod history_writer;
+mod contents_writer;
+mod history_writer;
+mod report;
+mod report_writer;
+
+pub use report::Report;
+pub use report_writer::write_report;
+
+#[cfg(test)]
+mod samples;
