@@ -1,2 +1,4 @@
+pub mod Keys
+pub mod Legal
 pub mod Lists
 pub mod Maps
