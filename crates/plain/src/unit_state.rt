@@ -10,7 +10,7 @@ use mont_base::{Op, Reply, UnitKind};
 use std::alloc::{AllocError, Global};
 
 /// The state of a unit of each kind.
-#[derive(Debug, Drop)]
+#[derive(Clone, Debug, Drop)]
 pub enum UnitState {
     Map { state: MapState },
     Queue { state: QueueState },
