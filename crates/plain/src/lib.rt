@@ -9,6 +9,7 @@ mod map_state;
 mod objects;
 mod pair;
 mod queue_state;
+mod same;
 mod structure;
 mod unit_state;
 
@@ -19,5 +20,6 @@ pub use map_state::MapState;
 pub use objects::live_objects;
 pub use pair::pair_body;
 pub use queue_state::QueueState;
+pub use same::same_state;
 pub use structure::{BuildRefusal, build};
 pub use unit_state::UnitState;
