@@ -19,10 +19,13 @@ pair_lines pairs = map (λ (p : ℕ × ℕ). decimal p.0 ∷ decimal p.1 ∷ [])
 abbrev pub edge_lines : List ((ℕ × ℕ) × ℕ) → List (List (List ℕ))
 edge_lines edges = map (λ (e : (ℕ × ℕ) × ℕ). decimal e.0.0 ∷ decimal e.0.1 ∷ decimal e.1 ∷ []) edges
 
+abbrev pub item_lines : List ℕ → List (List (List ℕ))
+item_lines items = map (λ item. decimal item ∷ []) items
+
 -- the contents of a unit: a map by rising key, a queue from first to last, a graph by rising vertex and edge
 abbrev pub state_lines : ℕ → State → List (List (List ℕ))
 state_lines unit (MapOf m) = (codes "map" ∷ decimal unit ∷ decimal (finite.len m) ∷ []) ∷ pair_lines (finite.entries m)
-state_lines unit (QueueOf items) = (codes "queue" ∷ decimal unit ∷ decimal (length items) ∷ []) ∷ map (λ item. decimal item ∷ []) items
+state_lines unit (QueueOf items) = (codes "queue" ∷ decimal unit ∷ decimal (length items) ∷ []) ∷ item_lines items
 state_lines unit (GraphOf g) =
     (codes "graph" ∷ decimal unit ∷ decimal (finite.len g.vertices) ∷ decimal (finite.len g.edges) ∷ [])
     ∷ (pair_lines (finite.entries g.vertices) ++ edge_lines (finite.entries g.edges))

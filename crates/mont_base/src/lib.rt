@@ -12,6 +12,7 @@ mod record;
 mod sequence;
 mod sink;
 mod source;
+mod spelling;
 mod words;
 
 pub use constants::{BODY, FIELDS, LAST};

@@ -1,2 +1,5 @@
+pub mod Keys
+pub mod Legal
 pub mod Lists
 pub mod Maps
+pub mod SameEntries

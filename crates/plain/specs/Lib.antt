@@ -1,2 +1,4 @@
+pub mod Follows
 pub mod GraphCode
+pub mod Newest
 pub mod States

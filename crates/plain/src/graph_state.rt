@@ -8,7 +8,7 @@ use std::collections::btree_map::Iter;
 use std::marker::Model;
 
 /// Vertices with their attributes, and edges with theirs. Contracts see it as the record of both maps.
-#[derive(Debug, Drop)]
+#[derive(Clone, Debug, Drop)]
 pub struct GraphState {
     vertices: BTreeMap<u64, u64>,
     edges: BTreeMap<(u64, u64), u64>,

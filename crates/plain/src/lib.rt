@@ -4,12 +4,22 @@
 
 mod contents;
 mod graph_state;
+mod history;
 mod map_state;
+mod objects;
+mod pair;
 mod queue_state;
+mod same;
+mod structure;
 mod unit_state;
 
 pub use contents::Contents;
 pub use graph_state::GraphState;
+pub use history::{cut_at, is_legal, state_after};
 pub use map_state::MapState;
+pub use objects::live_objects;
+pub use pair::pair_body;
 pub use queue_state::QueueState;
+pub use same::same_state;
+pub use structure::{BuildRefusal, build};
 pub use unit_state::UnitState;

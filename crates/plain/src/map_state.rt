@@ -10,7 +10,7 @@ use std::collections::btree_map::Iter;
 use std::marker::Model;
 
 /// A map from keys to values. Contracts see it as the finite map.
-#[derive(Debug, Drop)]
+#[derive(Clone, Debug, Drop)]
 pub struct MapState {
     pairs: BTreeMap<u64, u64>,
 }

@@ -8,7 +8,7 @@ use std::collections::vec_deque::Iter;
 use std::marker::Model;
 
 /// A queue of items. Contracts see it as the list from first to last.
-#[derive(Debug, Drop)]
+#[derive(Clone, Debug, Drop)]
 pub struct QueueState {
     items: VecDeque<u64>,
 }

@@ -1,16 +1,16 @@
 // The structure of one unit in memory.
-ghost use Rattle.std.specs.Prelude.{◌≡◌};
-ghost use Rattle.mont_base.specs.State.{empty_state};
+ghost use Rattle.std.specs.Prelude.{◌≡◌, IfOk, OnOk, OnErr};
+ghost use Rattle.mont_base.specs.State.{empty_state, step};
 ghost use Rattle.plain.specs.States.{state_of};
 
 use crate::graph_state::GraphState;
 use crate::map_state::MapState;
 use crate::queue_state::QueueState;
-use mont_base::UnitKind;
-use std::alloc::Global;
+use mont_base::{Op, Reply, UnitKind};
+use std::alloc::{AllocError, Global};
 
 /// The state of a unit of each kind.
-#[derive(Debug, Drop)]
+#[derive(Clone, Debug, Drop)]
 pub enum UnitState {
     Map { state: MapState },
     Queue { state: QueueState },
@@ -32,6 +32,19 @@ impl UnitState {
             UnitKind::Graph => UnitState::Graph {
                 state: GraphState::new(alloc),
             },
+        }
+    }
+
+    /// Carries an operation out, and answers it. An operation of another kind of unit changes nothing, and
+    /// neither does want of memory.
+    pub fn apply(&mut self, op: &Op) -> Result<Reply, AllocError>
+        ensures reply { IfOk result (λ r. r ≡ (step (state_of self.old) op.now).reply) }
+        ensures state { OnOk result (state_of self.new ≡ (step (state_of self.old) op.now).state) }
+        ensures err { OnErr result (state_of self.new ≡ state_of self.old) }
+    {
+        match self {
+            UnitState::Map { state } => state.apply(op),
+            UnitState::Queue { .. } | UnitState::Graph { .. } => Ok(Reply::Nothing),
         }
     }
 }

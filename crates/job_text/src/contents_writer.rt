@@ -1,0 +1,96 @@
+// The lines of a report that tell the contents of its units.
+ghost use Rattle.std.specs.Prelude.{◌≡◌, ◌++◌, map, OnOk};
+ghost use Rattle.std.specs.String.{string_bytes};
+ghost use Rattle.std.specs.VecDeque.Iter.{deque_iter_rest};
+ghost use Rattle.mont_base.specs.State.{MapOf, QueueOf, GraphOf};
+ghost use Rattle.mont_base.specs.Text.{text_of};
+ghost use Rattle.mont_base.specs.ReportText.{contents_lines, state_lines, pair_lines, edge_lines, item_lines};
+ghost use Rattle.plain.specs.States.{state_of};
+
+use plain::{GraphState, MapState, QueueState, UnitState};
+use std::alloc::AllocError;
+use std::collections::{btree_map, vec_deque};
+
+/// The contents of all units.
+pub fn write_units(text: &mut String, units: &[UnitState]) -> Result<(), AllocError>
+    ensures { OnOk result (string_bytes text.new
+        ≡ string_bytes text.old ++ text_of (contents_lines (map state_of units.now))) }
+{
+    for (unit, state) in units.iter().enumerate() {
+        write_unit(text, unit, state)?;
+    }
+    Ok(())
+}
+
+fn write_unit(text: &mut String, unit: usize, state: &UnitState) -> Result<(), AllocError>
+    ensures { OnOk result (string_bytes text.new
+        ≡ string_bytes text.old ++ text_of (state_lines unit (state_of state.now))) }
+{
+    match state {
+        UnitState::Map { state } => write_map(text, unit, state),
+        UnitState::Queue { state } => write_queue(text, unit, state),
+        UnitState::Graph { state } => write_graph(text, unit, state),
+    }
+}
+
+fn write_map(text: &mut String, unit: usize, state: &MapState) -> Result<(), AllocError>
+    ensures { OnOk result (string_bytes text.new
+        ≡ string_bytes text.old ++ text_of (state_lines unit (MapOf state.now))) }
+{
+    let length = state.len();
+    writeln!(text, "map {unit} {length}")?;
+    write_pairs(text, state.iter())
+}
+
+fn write_queue(text: &mut String, unit: usize, state: &QueueState) -> Result<(), AllocError>
+    ensures { OnOk result (string_bytes text.new
+        ≡ string_bytes text.old ++ text_of (state_lines unit (QueueOf state.now))) }
+{
+    let length = state.len();
+    writeln!(text, "queue {unit} {length}")?;
+    write_items(text, state.items())
+}
+
+fn write_graph(text: &mut String, unit: usize, state: &GraphState) -> Result<(), AllocError>
+    ensures { OnOk result (string_bytes text.new
+        ≡ string_bytes text.old ++ text_of (state_lines unit (GraphOf state.now))) }
+{
+    let vertices = state.vertices_len();
+    let edges = state.edges_len();
+    writeln!(text, "graph {unit} {vertices} {edges}")?;
+    write_pairs(text, state.vertices())?;
+    write_edges(text, state.edges())
+}
+
+fn write_pairs(text: &mut String, pairs: btree_map::Iter<'_, u64, u64>) -> Result<(), AllocError>
+    ensures { OnOk result (string_bytes text.new
+        ≡ string_bytes text.old ++ text_of (pair_lines pairs.entry)) }
+{
+    for (key, value) in pairs {
+        writeln!(text, "{key} {value}")?;
+    }
+    Ok(())
+}
+
+fn write_edges(
+    text: &mut String,
+    edges: btree_map::Iter<'_, (u64, u64), u64>,
+) -> Result<(), AllocError>
+    ensures { OnOk result (string_bytes text.new
+        ≡ string_bytes text.old ++ text_of (edge_lines edges.entry)) }
+{
+    for ((from, to), attribute) in edges {
+        writeln!(text, "{from} {to} {attribute}")?;
+    }
+    Ok(())
+}
+
+fn write_items(text: &mut String, items: vec_deque::Iter<'_, u64>) -> Result<(), AllocError>
+    ensures { OnOk result (string_bytes text.new
+        ≡ string_bytes text.old ++ text_of (item_lines (deque_iter_rest items.entry))) }
+{
+    for item in items {
+        writeln!(text, "{item}")?;
+    }
+    Ok(())
+}

@@ -1,0 +1,22 @@
+// What a run of a job reports.
+use mont_base::{Entry, Epoch, Layout, Outcome, Sequence};
+use plain::Contents;
+
+/// A report of a run: what the store held when it began, what its callers did, and what a crash at the end
+/// leaves of it.
+#[derive(Debug, Drop)]
+pub struct Report {
+    pub layout: Layout,
+    pub callers: u64,
+    /// The clock when the run began.
+    pub base_clock: Epoch,
+    pub base: Contents,
+    /// The history of each unit.
+    pub histories: Sequence<Sequence<Entry>>,
+    /// What came of each line, caller by caller.
+    pub outcomes: Sequence<Sequence<Outcome>>,
+    /// The clock of the image that the crash leaves.
+    pub image_clock: Epoch,
+    /// What recovery finds in that image.
+    pub contents: Contents,
+}

@@ -1,0 +1,76 @@
+// Reports of runs with one map unit of eight slots and one caller, made by hand.
+use crate::report::Report;
+use mont_base::{Entry, Epoch, Layout, Op, Outcome, Reply, Sequence, UnitKind};
+use plain::{Contents, MapState, UnitState};
+use std::alloc::{AllocError, Global};
+
+/// A report of a run that began with nothing, with the history of the map unit, the outcomes of the caller,
+/// and the pairs that the crash leaves.
+pub fn report_of_run(
+    alloc: Global,
+    layout: Layout,
+    history: &[Entry],
+    outcomes: &[Outcome],
+    image_clock: Epoch,
+    pairs: &[(u64, u64)],
+) -> Result<Report, AllocError> {
+    let mut histories = Sequence::new(alloc);
+    histories.push(copied(alloc, history)?)?;
+    histories.push(Sequence::new(alloc))?;
+    histories.push(Sequence::new(alloc))?;
+    let mut of_callers = Sequence::new(alloc);
+    of_callers.push(copied(alloc, outcomes)?)?;
+    let mut state = MapState::new(alloc);
+    for (key, value) in pairs {
+        let _ = state.insert(*key, *value)?;
+    }
+    let mut units = Sequence::new(alloc);
+    units.push(UnitState::Map { state })?;
+    units.push(UnitState::empty(alloc, UnitKind::Queue))?;
+    units.push(UnitState::empty(alloc, UnitKind::Graph))?;
+    Ok(Report {
+        layout,
+        callers: 1,
+        base_clock: 2,
+        base: Contents::empty(alloc, layout)?,
+        histories,
+        outcomes: of_callers,
+        image_clock,
+        contents: Contents { units },
+    })
+}
+
+fn copied<T: Copy + Drop>(alloc: Global, items: &[T]) -> Result<Sequence<T>, AllocError> {
+    let mut sequence = Sequence::new(alloc);
+    for item in items {
+        sequence.push(*item)?;
+    }
+    Ok(sequence)
+}
+
+/// The report of a run that puts 10 under 1, moves the clock twice, and puts 11 under 1.
+pub fn two_puts(alloc: Global, layout: Layout) -> Result<Report, AllocError> {
+    let history = [
+        Entry {
+            caller: 0,
+            call: 0,
+            op: Op::Put { key: 1, value: 10 },
+            reply: Reply::Nothing,
+            epoch: 2,
+        },
+        Entry {
+            caller: 0,
+            call: 1,
+            op: Op::Put { key: 1, value: 11 },
+            reply: Reply::Was { value: 10 },
+            epoch: 4,
+        },
+    ];
+    let outcomes = [
+        Outcome::At { unit: 0, place: 0 },
+        Outcome::Ticked { epoch: 3 },
+        Outcome::Ticked { epoch: 4 },
+        Outcome::At { unit: 0, place: 1 },
+    ];
+    report_of_run(alloc, layout, &history, &outcomes, 4, &[(1, 10)])
+}
