@@ -10,6 +10,8 @@ mod objects;
 mod pair;
 mod queue_state;
 mod structure;
+#[cfg(test)]
+mod tests;
 mod unit_state;
 
 pub use contents::Contents;
