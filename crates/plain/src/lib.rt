@@ -11,6 +11,8 @@ mod pair;
 mod queue_state;
 mod same;
 mod structure;
+#[cfg(test)]
+mod tests;
 mod unit_state;
 
 pub use contents::Contents;
