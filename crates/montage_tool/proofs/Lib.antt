@@ -8,3 +8,4 @@ pub mod Latest
 pub mod Steps
 pub mod Sound
 pub mod Calls
+pub mod Played

@@ -3,12 +3,12 @@ ghost use Rattle.std.specs.Prelude.{◌≡◌, ◌+◌, ◌<◌, ◌≤◌, [], 
 ghost use Rattle.std.specs.BTreeMap.{btree_map_len};
 ghost use Rattle.std.specs.FinMap as finite;
 ghost use Rattle.mont_base.specs.JobText.{is_put_op};
-ghost use Rattle.mont_base.specs.Objects.{pair_body};
 ghost use Rattle.mont_base.specs.State.{earlier};
 ghost use Rattle.montage_tool.specs.Log.{set_all, latest, next_label};
 
-use mont_base::{BODY, Entry, Epoch, FIELDS, Held, Kind, LAST, Label, Layout, Op, Reply};
+use mont_base::{Entry, Epoch, FIELDS, Held, Kind, LAST, Label, Layout, Op, Reply};
 use payload::write_words;
+use plain::pair_body;
 use std::alloc::{AllocError, Global};
 use std::collections::BTreeMap;
 
@@ -32,12 +32,6 @@ pub(crate) struct Machine {
     /// The newest record of each key.
     pub newest: BTreeMap<u64, Held>,
     pub history: Vec<Entry>,
-}
-
-fn pair_body(key: u64, value: u64) -> [u64; BODY]
-    ensures { result ≡ pair_body key value }
-{
-    [key, value, 0, 0]
 }
 
 impl Machine {

@@ -1,0 +1,45 @@
+-- What a run of a job's lines leaves.
+use Rattle.std.specs.Prelude.{◌≡◌, ℕ, ◌+◌, ◌≤◌, ◌<◌, List, [], ◌∷◌, length, All, count_by}
+use Rattle.mont_base.specs.declared.operation.Entry.{Entry}
+use Rattle.mont_base.specs.declared.job.Job.{Job}
+use Rattle.mont_base.specs.declared.job.Line.{Line}
+use Rattle.mont_base.specs.declared.job.Outcome.{Outcome}
+use Rattle.mont_base.specs.declared.job.Outcome.TheVariants.{At, Ticked}
+use Rattle.mont_base.specs.Layout.{Shape}
+use Rattle.mont_base.specs.State.{State}
+use Rattle.mont_base.specs.Image.{clock_of, IsWellFormed, IsRecovered}
+use Rattle.mont_base.specs.Report.{Report, AnswersLines, IsFaithful, empty_states, is_at, names}
+
+-- the report of a run of one caller on a store of one map unit
+abbrev pub made : Shape → List Entry → List Outcome → ℕ → List State → Report
+made s h os clock contents = record {
+  layout = s;
+  callers = 1;
+  base_clock = 2;
+  base = empty_states s;
+  histories = h ∷ [] ∷ [] ∷ [];
+  outcomes = os ∷ [];
+  image_clock = clock;
+  contents = contents;
+}
+
+-- an outcome of the run so far: an entry that is there, or a clock that was reached
+abbrev pub IsReached : List Entry → ℕ → Outcome → Type 0
+IsReached h clock (At unit place) = (unit ≡ 0) × (place < length h)
+IsReached h clock (Ticked epoch) = epoch ≤ clock
+
+-- The outcomes so far answer the lines so far, and name each entry once.
+pub record Played (s : Shape) (h : List Entry) (clock : ℕ) (lines : List Line) (os : List Outcome) : Type 0 where
+  pub answers : AnswersLines (made s h [] clock []) 0 lines os
+  pub reached : All (IsReached h clock) os
+  pub calls : count_by is_at os ≡ length h
+  pub once : (place : ℕ) → place < length h → count_by (names 0 place) os ≡ 1
+
+-- A report of a run of the job on a fresh store: it is faithful, and its contents are what recovery rebuilds from
+-- the words that outlive a crash.
+pub record IsRun (j : Job) (r : Report) : Type 0 where
+  pub faithful : IsFaithful j 2 (empty_states j.layout) r
+  pub words : List ℕ
+  pub accepted : IsWellFormed j.layout words
+  pub clock : clock_of words ≡ r.image_clock
+  pub contents : IsRecovered j.layout words r.contents
