@@ -2,3 +2,4 @@ pub mod Keys
 pub mod Legal
 pub mod Lists
 pub mod Maps
+pub mod Recovered
