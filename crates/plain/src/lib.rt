@@ -1,15 +1,20 @@
 //! The structures kept plainly in memory, and plain programs of the definitions: the live objects among
-//! records, the structure that objects make, and what a history leads to.
+//! records, the structure that objects make, what a history leads to, and what recovery rebuilds.
 #![tactic(auto)]
 
 mod contents;
 mod graph_state;
 mod history;
+mod image;
 mod map_state;
 mod objects;
 mod pair;
 mod queue_state;
+<<<<<<< HEAD
 mod same;
+=======
+mod recovery;
+>>>>>>> dce177b2fab05b0217bfd8384ad43e7f615145f8
 mod structure;
 #[cfg(test)]
 mod tests;
@@ -18,10 +23,15 @@ mod unit_state;
 pub use contents::Contents;
 pub use graph_state::GraphState;
 pub use history::{cut_at, is_legal, state_after};
+pub use image::records;
 pub use map_state::MapState;
 pub use objects::live_objects;
 pub use pair::pair_body;
 pub use queue_state::QueueState;
+<<<<<<< HEAD
 pub use same::same_state;
+=======
+pub use recovery::recover;
+>>>>>>> dce177b2fab05b0217bfd8384ad43e7f615145f8
 pub use structure::{BuildRefusal, build};
 pub use unit_state::UnitState;
