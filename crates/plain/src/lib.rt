@@ -10,11 +10,8 @@ mod map_state;
 mod objects;
 mod pair;
 mod queue_state;
-<<<<<<< HEAD
 mod same;
-=======
 mod recovery;
->>>>>>> dce177b2fab05b0217bfd8384ad43e7f615145f8
 mod structure;
 #[cfg(test)]
 mod tests;
@@ -26,12 +23,9 @@ pub use history::{cut_at, is_legal, state_after};
 pub use image::records;
 pub use map_state::MapState;
 pub use objects::live_objects;
-pub use pair::pair_body;
+pub use pair::{pair_body, pair_of};
 pub use queue_state::QueueState;
-<<<<<<< HEAD
 pub use same::same_state;
-=======
 pub use recovery::recover;
->>>>>>> dce177b2fab05b0217bfd8384ad43e7f615145f8
 pub use structure::{BuildRefusal, build};
 pub use unit_state::UnitState;

@@ -11,8 +11,8 @@ pub fn pair_body(key: u64, value: u64) -> [u64; BODY]
     [key, value, 0, 0]
 }
 
-// The key and the value of a body.
-pub(crate) fn pair_of(body: &[u64; BODY]) -> (u64, u64)
+/// The key and the value of a body.
+pub fn pair_of(body: &[u64; BODY]) -> (u64, u64)
     ensures key { result.0 ≡ key_of body.now }
     ensures value { result.1 ≡ value_of body.now }
 {
