@@ -1,5 +1,7 @@
 // What callers ask of units, and what they are answered.
-use crate::layout::{Epoch, Unit};
+ghost use Rattle.std.specs.Prelude.{◌≡◌};
+
+use crate::layout::{Epoch, Layout, Unit};
 
 /// An operation on a structure.
 #[derive(Clone, Copy, Debug, PartialEq, Eq)]
@@ -37,4 +39,17 @@ pub struct Receipt {
     /// The entry's place in the history of its unit.
     pub place: u64,
     pub entry: Entry,
+}
+
+impl Op {
+    ghost use Rattle.mont_base.specs.State.{unit_of_op};
+
+    /// The unit that the operation belongs to.
+    pub fn unit(&self, layout: Layout) -> Unit
+        ensures { result ≡ unit_of_op layout self.now }
+    {
+        match self {
+            Op::Put { key, .. } | Op::Get { key } => layout.unit_of_key(*key),
+        }
+    }
 }

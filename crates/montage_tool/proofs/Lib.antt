@@ -9,3 +9,6 @@ pub mod Steps
 pub mod Sound
 pub mod Calls
 pub mod Played
+pub mod Lines
+pub mod Recovery
+pub mod Faithful

@@ -43,7 +43,7 @@ module _ {A : Type 0} where
   get_left (x ∷ xs) ys zero low = refl
   get_left (x ∷ xs) ys (suc n) low = get_left xs ys n (omega arith)
 
-  get_last : (xs : List A) (x : A) → slice_get (xs ++ x ∷ []) (length xs) ≡ Some x
+  pub get_last : (xs : List A) (x : A) → slice_get (xs ++ x ∷ []) (length xs) ≡ Some x
   get_last [] x = refl
   get_last (y ∷ xs) x = get_last xs x
 
@@ -59,7 +59,7 @@ module _ {A : Type 0} where
   push_cases (z ∷ xs) x y zero at = inl (omega arith, at)
   push_cases (z ∷ xs) x y (suc n) at = ⊎_elim (λ (t : (n < length xs) × (slice_get xs n ≡ Some y)). let low = t.0 in inl (omega arith, t.1)) (λ (t : (n ≡ length xs) × (x ≡ y)). inr (ap suc t.0, t.1)) (push_cases xs x y n at)
 
-  count_push : (p : A → Bool) (xs : List A) (x : A) → count_by p (xs ++ x ∷ []) ≡ count_by p xs + (if p x then 1 else 0)
+  pub count_push : (p : A → Bool) (xs : List A) (x : A) → count_by p (xs ++ x ∷ []) ≡ count_by p xs + (if p x then 1 else 0)
   count_push p xs x = sum_by_push (λ (y : A). if p y then 1 else 0) xs x
 
   count_cons : (p : A → Bool) (x : A) (xs : List A) → count_by p (x ∷ xs) ≡ (if p x then 1 else 0) + count_by p xs

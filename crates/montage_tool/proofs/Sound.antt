@@ -33,7 +33,7 @@ replies_push : (s : State) (h : List Entry) (e : Entry) → RepliesFollow s h �
 replies_push s [] e all is = (is, tt)
 replies_push s (d ∷ h) e all is = (all.0, replies_push (step s d.op).state h e all.1 is)
 
-one_unit : (s : Shape) → s.maps ≡ 1 → (op : Op) → unit_of_op s op ≡ 0
+pub one_unit : (s : Shape) → s.maps ≡ 1 → (op : Op) → unit_of_op s op ≡ 0
 one_unit s one (Put key value) = ap (λ (m : ℕ). key % m) one ∙ omega arith
 one_unit s one (Get key) = ap (λ (m : ℕ). key % m) one ∙ omega arith
 

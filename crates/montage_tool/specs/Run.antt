@@ -1,13 +1,15 @@
 -- What a run of a job's lines leaves.
-use Rattle.std.specs.Prelude.{◌≡◌, ℕ, ◌+◌, ◌≤◌, ◌<◌, List, [], ◌∷◌, length, All, count_by}
+use Rattle.std.specs.Prelude.{◌≡◌, ℕ, ◌+◌, ◌≤◌, ◌<◌, List, [], ◌∷◌, ◌++◌, length, All, count_by, if◌then◌else◌}
 use Rattle.mont_base.specs.declared.operation.Entry.{Entry}
 use Rattle.mont_base.specs.declared.job.Job.{Job}
 use Rattle.mont_base.specs.declared.job.Line.{Line}
 use Rattle.mont_base.specs.declared.job.Outcome.{Outcome}
 use Rattle.mont_base.specs.declared.job.Outcome.TheVariants.{At, Ticked}
+use Rattle.mont_base.specs.JobText.{is_put}
 use Rattle.mont_base.specs.Layout.{Shape}
 use Rattle.mont_base.specs.State.{State}
 use Rattle.mont_base.specs.Image.{clock_of, IsWellFormed, IsRecovered}
+use Rattle.montage_tool.specs.declared.machine.Machine.{Machine}
 use Rattle.mont_base.specs.Report.{Report, AnswersLines, IsFaithful, empty_states, is_at, names}
 
 -- the report of a run of one caller on a store of one map unit
@@ -34,6 +36,14 @@ pub record Played (s : Shape) (h : List Entry) (clock : ℕ) (lines : List Line)
   pub reached : All (IsReached h clock) os
   pub calls : count_by is_at os ≡ length h
   pub once : (place : ℕ) → place < length h → count_by (names 0 place) os ≡ 1
+
+-- What one line did to the machine, and to the outcomes so far.
+pub record LineDone (old new : Machine) (l : Line) (o : Outcome) : Type 0 where
+  pub layout : new.layout ≡ old.layout
+  pub clock : new.clock ≤ old.clock + 1
+  pub history : length new.history.items ≤ length old.history.items + 1
+  pub records : length new.records.items ≡ length old.records.items + (if is_put l then 1 else 0)
+  pub played : (lines : List Line) (os : List Outcome) → Played old.layout old.history.items old.clock lines os → Played new.layout new.history.items new.clock (lines ++ l ∷ []) (os ++ o ∷ [])
 
 -- A report of a run of the job on a fresh store: it is faithful, and its contents are what recovery rebuilds from
 -- the words that outlive a crash.

@@ -8,7 +8,7 @@ ghost use Rattle.montage_tool.specs.Log.{set_all, latest, next_label};
 
 use mont_base::{Entry, Epoch, FIELDS, Held, Kind, LAST, Label, Layout, Op, Reply};
 use payload::write_words;
-use plain::pair_body;
+use plain::{pair_body, pair_of};
 use std::alloc::{AllocError, Global};
 use std::collections::BTreeMap;
 
@@ -122,7 +122,7 @@ impl Machine {
     {
         match self.newest.get(&key) {
             Some(held) => Reply::Was {
-                value: held.body[1],
+                value: pair_of(&held.body).1,
             },
             None => Reply::Nothing,
         }
