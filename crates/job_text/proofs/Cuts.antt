@@ -1,10 +1,10 @@
 -- Cuts of a text at a byte.
-use Rattle.std.proofs.Common.{◌≡◌, ℕ, ◌+◌, ◌-◌, ◌<◌, ◌≤◌, Bool, true, false, cond, not, ◌==◌, ltb, Option, Some, None, List, [], ◌∷◌, ◌++◌, length, take, drop, get_or, sym, ap, ◌∙◌, refl, subst, arith, eq-eqb, position}
+use Rattle.std.proofs.Common.{◌≡◌, ℕ, ◌+◌, ◌-◌, ◌<◌, ◌≤◌, Bool, true, false, cond, not, ◌&&◌, ◌==◌, ltb, Option, Some, None, List, [], ◌∷◌, ◌++◌, length, take, drop, get_or, sym, ap, ◌∙◌, refl, subst, arith, eq-eqb, position}
 use Rattle.std.specs.List.{position_or_len}
 use Rattle.std.proofs.lemmas.List.{take-append-drop, drop_more, get_or-take, length-take-le, take_rest}
 use Rattle.std.proofs.lemmas.List.Sums.{fails_before_first}
 use Rattle.std.proofs.lemmas.List.Quantifiers.{position-Some}
-use Rattle.std.proofs.lemmas.List.Elements.{All-head, All-tail}
+use Rattle.std.proofs.lemmas.List.Elements.{All-head, All-tail, All-append, All-cons, All-nil}
 use Rattle.std.proofs.lemmas.Bool.{ltb-false}
 use Rattle.std.proofs.lemmas.Bool.Decides.{Decides-eqb}
 use Rattle.job_text.specs.Parts.{Lacks, IsCut}
@@ -60,3 +60,24 @@ pub cut_not_lacking : (byte : ℕ) (bytes before after : List ℕ) → Lacks byt
 cut_not_lacking byte bytes [] after lacks e = Lacks-head_differs byte byte after (subst (λ (xs : List ℕ). Lacks byte xs) e lacks) refl
 cut_not_lacking byte [] (b ∷ bs) after lacks e = cc
 cut_not_lacking byte (x ∷ xs) (b ∷ bs) after lacks e = cut_not_lacking byte xs bs after (Lacks-rest byte x xs lacks) (cc)
+
+pub Lacks-append : (byte : ℕ) (xs ys : List ℕ) → Lacks byte xs → Lacks byte ys → Lacks byte (xs ++ ys)
+Lacks-append byte xs ys l m = All-append (λ b. (b == byte) ≡ false) xs ys l m
+
+pub Lacks-cons : (byte x : ℕ) (xs : List ℕ) → (x == byte) ≡ false → Lacks byte xs → Lacks byte (x ∷ xs)
+Lacks-cons byte x xs h l = All-cons (λ b. (b == byte) ≡ false) x xs h l
+
+-- a test that computes
+abbrev pub lacks : ℕ → List ℕ → Bool
+lacks byte [] = true
+lacks byte (x ∷ xs) = not (x == byte) && lacks byte xs
+
+both_hold : (t u : Bool) → (not t && u) ≡ true → (t ≡ false) × (u ≡ true)
+both_hold true u e = absurd (cc)
+both_hold false u e = (refl, e)
+
+pub Lacks-tested : (byte : ℕ) (xs : List ℕ) → lacks byte xs ≡ true → Lacks byte xs
+Lacks-tested byte [] e = All-nil (λ b. (b == byte) ≡ false)
+Lacks-tested byte (x ∷ xs) e =
+    let parts = both_hold (x == byte) (lacks byte xs) e in
+    Lacks-cons byte x xs parts.0 (Lacks-tested byte xs parts.1)

@@ -1,5 +1,5 @@
 -- How the lines of a job are spelled.
-use Rattle.std.proofs.Common.{◌≡◌, ◌≢◌, ℕ, suc, ◌+◌, ◌^◌, ◌<◌, ◌≤◌, Bool, true, false, ◌==◌, Option, Some, None, MatchOption, Result, Ok, Err, List, [], ◌∷◌, ◌++◌, length, take, get_or, sym, ap, ◌∙◌, refl, subst, arith, lit<, decimal, codes}
+use Rattle.std.proofs.Common.{◌≡◌, ◌≢◌, ℕ, suc, ◌+◌, ◌^◌, ◌<◌, ◌≤◌, Bool, true, false, ◌==◌, Option, Some, None, MatchOption, Result, Ok, Err, List, [], ◌∷◌, ◌++◌, length, take, get_or, sym, ap, ◌∙◌, refl, subst, arith, lit<, lit≤, decimal, codes}
 use Rattle.std.specs.Result.{result_ok, OkIff}
 use Rattle.std.proofs.lemmas.List.{append_cancel_left, append_cancel_right, take_at, take_all, length-append, get_or_append_left, get_or_at}
 use Rattle.std.proofs.lemmas.List.Sums.{position_or_len_is}
@@ -10,10 +10,10 @@ use Rattle.mont_base.specs.declared.job.Deed.{Deed}
 use Rattle.mont_base.specs.declared.job.Deed.TheVariants.{Call, Tick}
 use Rattle.mont_base.specs.Layout.{Shape, shape, IsLayout}
 use Rattle.mont_base.specs.Text.{spaced}
-use Rattle.mont_base.specs.JobText.{header_words, deed_words, line_words, first_word, IsHeader, IsDeed}
+use Rattle.mont_base.specs.JobText.{header_words, deed_words, line_words, first_word, is_put, begins_put, IsHeader, IsDeed}
 use Rattle.job_text.specs.Parts.{Lacks, IsCut, deed_line, header_line}
-use Rattle.job_text.proofs.Cuts.{cut_once, cut_not_lacking}
-use Rattle.job_text.proofs.Digits.{decimal_lacks}
+use Rattle.job_text.proofs.Cuts.{cut_once, cut_not_lacking, Lacks-append, Lacks-cons, Lacks-tested}
+use Rattle.job_text.proofs.Digits.{decimal_lacks, decimal_short}
 
 pub deed_spelled : (d : Deed) → spaced (decimal 0 ∷ deed_words d) ≡ deed_line d
 deed_spelled (Call (Put key value)) = rw (decimal_digit 0 (lit< tt)) refl
@@ -118,6 +118,9 @@ asks_no_value line rest key value e cut none = asks_no_put line rest e (λ k v l
 pub put_line : (line rest key value : List ℕ) (k v : ℕ) → line ≡ codes "0 put " ++ rest → IsCut 32 rest key value → key ≡ decimal k → value ≡ decimal v → line ≡ codes "0 put " ++ (decimal k ++ 32 ∷ decimal v)
 put_line line rest key value k v e cut is_k is_v = e ∙ ap (λ xs. codes "0 put " ++ xs) (cut.joined ∙ ap (λ xs. xs ++ 32 ∷ value) is_k ∙ ap (λ xs. decimal k ++ 32 ∷ xs) is_v)
 
+zero_no_stop : (b : ℕ) → b ≡ 48 → b ≡ 115 → ⊥
+zero_no_stop b is_zero is_s = omega arith
+
 -- a line asks one thing
 pub deed_once : (d e : Deed) → IsDeed d → IsDeed e → deed_line d ≡ deed_line e → d ≡ e
 deed_once (Call (Put k v)) (Call (Put m n)) h i same =
@@ -135,3 +138,44 @@ deed_once (Call (Get k)) Tick h i same = absurd (apart_at_two (deed_line (Call (
 deed_once Tick (Call (Put m n)) h i same = absurd (apart_at_two (deed_line Tick) (deed_line (Call (Put m n))) (λ at. omega arith) same)
 deed_once Tick (Call (Get m)) h i same = absurd (apart_at_two (deed_line Tick) (deed_line (Call (Get m))) (λ at. omega arith) same)
 deed_once Tick Tick h i same = refl
+
+-- no line has a line feed
+pub deed_lacks : (d : Deed) → IsDeed d → Lacks 10 (deed_line d)
+deed_lacks (Call (Put k v)) h =
+    let words = Lacks-append 10 (decimal k) (32 ∷ decimal v) (decimal_lacks 10 k (lit< tt) h.0) (Lacks-cons 10 32 (decimal v) refl (decimal_lacks 10 v (lit< tt) h.1)) in
+    Lacks-append 10 (codes "0 put ") (decimal k ++ 32 ∷ decimal v) (Lacks-tested 10 (codes "0 put ") refl) words
+deed_lacks (Call (Get k)) h = Lacks-append 10 (codes "0 get ") (decimal k) (Lacks-tested 10 (codes "0 get ") refl) (decimal_lacks 10 k (lit< tt) h)
+deed_lacks Tick h = Lacks-tested 10 (codes "0 tick") refl
+
+pub header_lacks : (slots : ℕ) → slots ≤ 4096 → Lacks 10 (header_line slots)
+header_lacks slots few =
+    let words = Lacks-append 10 (decimal slots) header_end (decimal_lacks 10 slots (lit< tt) (omega arith)) (Lacks-tested 10 header_end refl) in
+    Lacks-append 10 header_front (decimal slots ++ header_end) (Lacks-tested 10 header_front refl) words
+
+-- each line is short
+pub deed_short : (d : Deed) → IsDeed d → length (deed_line d) ≤ 80
+deed_short (Call (Put k v)) h = simp length-append (omega (arith, decimal_short k h.0, decimal_short v h.1))
+deed_short (Call (Get k)) h = simp length-append (omega (arith, decimal_short k h))
+deed_short Tick h = lit≤ tt
+
+pub header_short : (slots : ℕ) → slots ≤ 4096 → length (header_line slots) ≤ 80
+header_short slots few = simp length-append (omega (arith, decimal_short slots (omega arith)))
+
+-- no line of the one caller begins with `stop`
+pub deed_no_stop : (d : Deed) → first_word (deed_line d) ≡ codes "stop" → ⊥
+deed_no_stop (Call (Put k v)) e = zero_no_stop (get_or (first_word (deed_line (Call (Put k v)))) 0 0) refl (ap (λ (xs : List ℕ). get_or xs 0 0) e)
+deed_no_stop (Call (Get k)) e = zero_no_stop (get_or (first_word (deed_line (Call (Get k)))) 0 0) refl (ap (λ (xs : List ℕ). get_or xs 0 0) e)
+deed_no_stop Tick e = zero_no_stop (get_or (first_word (deed_line Tick)) 0 0) refl (ap (λ (xs : List ℕ). get_or xs 0 0) e)
+
+-- a line begins as a put does where it is one
+pub deed_begins : (d : Deed) → begins_put (deed_line d) ≡ is_put (record { caller = 0; deed = d })
+deed_begins (Call (Put k v)) = refl
+deed_begins (Call (Get k)) = refl
+deed_begins Tick = refl
+
+pub line_begins : (l : Line) → l.caller ≡ 0 → begins_put (spaced (line_words l)) ≡ is_put l
+line_begins l e = ap begins_put (line_spelled l e) ∙ deed_begins l.deed
+
+-- a header names one number of slots
+pub header_once : (m n : ℕ) → m ≤ 4096 → n ≤ 4096 → header_line m ≡ header_line n → m ≡ n
+header_once m n low high e = decimal_injective m n (omega arith) (omega arith) (append_cancel_right (decimal m) (decimal n) header_end (append_cancel_left header_front (decimal m ++ header_end) (decimal n ++ header_end) e))

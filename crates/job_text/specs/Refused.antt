@@ -1,12 +1,27 @@
 -- What is found where a job's text is read line by line.
-use Rattle.std.specs.Prelude.{◌≡◌, ℕ, ◌+◌, ◌<◌, ◌≤◌, Bool, true, false, List, ◌∷◌, ◌++◌, length, map, All, count_by, codes}
+use Rattle.std.specs.Prelude.{◌≡◌, ℕ, ◌+◌, ◌<◌, ◌≤◌, Bool, true, false, ◌⊎◌, List, [], ◌∷◌, ◌++◌, length, codes}
 use Rattle.mont_base.specs.declared.job.Line.{Line}
 use Rattle.mont_base.specs.declared.job.JobFault.{JobFault}
 use Rattle.mont_base.specs.declared.job.JobFault.TheVariants as faults
-use Rattle.mont_base.specs.Layout.{shape}
-use Rattle.mont_base.specs.Text.{spaced, text_of, line_at}
-use Rattle.mont_base.specs.JobText.{most_lines, most_bytes, header_words, line_words, first_word, is_put, IsHeader, IsLine}
+use Rattle.mont_base.specs.Text.{spaced, line_at}
+use Rattle.mont_base.specs.JobText.{most_lines, most_bytes, line_words, first_word, is_put, IsHeader, IsLine, IsFirstRefused}
+use Rattle.job_text.specs.declared.refusal.JobRefusal.{JobRefusal}
+use Rattle.job_text.specs.declared.refusal.JobRefusal.TheVariants.{Text, Read, Memory}
 use Rattle.job_text.specs.Parts.{Lacks, IsCut}
+
+-- what is read of a text: more bytes than a job's text has
+abbrev pub most_text : ℕ
+most_text = 16200001
+
+-- what may follow the bytes that were read: nothing, unless so many were
+abbrev pub MayFollow : List ℕ → List ℕ → Type 0
+MayFollow text more = (more ≡ []) ⊎ (most_text ≤ length text)
+
+-- why these bytes of a text give no job
+abbrev pub IsRefusal : List ℕ → JobRefusal → Type 0
+IsRefusal text (Text line fault) = (more : List ℕ) → MayFollow text more → IsFirstRefused (text ++ more) line fault
+IsRefusal text Read = ⊥
+IsRefusal text Memory = Unit {0}
 
 -- the text begins with a line that is ended, short and not one too many
 pub record BeginsWith (text : List ℕ) (place : ℕ) (line after : List ℕ) : Type 0 where

@@ -5,6 +5,7 @@
 // mod job_writer;
 mod lines;
 mod numbers;
+mod parser;
 // mod reader;
 mod refusal;
 mod words;
