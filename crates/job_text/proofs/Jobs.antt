@@ -1,5 +1,5 @@
 -- Jobs and their texts.
-use Rattle.std.proofs.Common.{◌≡◌, ℕ, zero, suc, ◌+◌, ◌*◌, ◌^◌, ◌<◌, ◌≤◌, Bool, true, false, List, [], ◌∷◌, ◌++◌, length, map, All, sym, ap, ◌∙◌, refl, subst, arith, decimal}
+use Rattle.std.proofs.Common.{◌≡◌, ℕ, zero, suc, ◌+◌, ◌*◌, ◌^◌, ◌<◌, ◌≤◌, inl, inr, Result, Ok, Err, IfOk, IfErr, MatchResult, Bool, true, false, List, [], ◌∷◌, ◌++◌, length, map, All, sym, ap, ◌∙◌, refl, subst, arith, decimal}
 use Rattle.std.specs.List.{count_by}
 use Rattle.std.proofs.lemmas.List.{append_assoc, append-nil, length-append, length-map, append_cancel_left}
 use Rattle.std.proofs.lemmas.List.Elements.{All-tail}
@@ -11,8 +11,10 @@ use Rattle.mont_base.specs.declared.job.JobFault.{JobFault}
 use Rattle.mont_base.specs.Layout.{Shape, shape}
 use Rattle.mont_base.specs.Text.{spaced, text_of}
 use Rattle.mont_base.specs.JobText.{most_lines, header_words, line_words, stop_words, is_put, job_text, IsLine, IsJob, IsFirstRefused}
+use Rattle.job_text.specs.declared.refusal.JobRefusal.{JobRefusal}
+use Rattle.job_text.specs.declared.refusal.JobRefusal.TheVariants.{Text, Read, Memory}
 use Rattle.job_text.specs.Parts.{Lacks, deed_line, header_line}
-use Rattle.job_text.specs.Refused.{most_text}
+use Rattle.job_text.specs.Refused.{most_text, IsReadOf, IsRefusal, IsOutside}
 use Rattle.job_text.proofs.Cuts.{cut_once}
 use Rattle.job_text.proofs.Spelling.{line_spelled, header_spelled, header_once, header_lacks, deed_once}
 use Rattle.job_text.proofs.Front.{IsFront, first_lines, line_lacks, no_next}
@@ -115,3 +117,16 @@ job_once j k h i e =
     let slots : j.layout.slots ≡ k.layout.slots = header_once j.layout.slots k.layout.slots f.few g.few (sym (header_spelled j.layout.slots) ∙ parts.0 ∙ header_spelled k.layout.slots) in
     let lines : j.lines ≡ k.lines = lines_once j.lines k.lines h.lines i.lines parts.1 in
     job_is j h ∙ ap (λ (n : ℕ). job_of (shape 1 n) j.lines) slots ∙ ap (λ (ls : List Line). job_of (shape 1 k.layout.slots) ls) lines ∙ sym (job_is k i)
+
+-- fewer bytes than are read of a text are the whole of it
+all_read : (text bytes : List ℕ) → IsReadOf text bytes → length bytes < most_text → bytes ≡ text
+all_read text bytes (more, whole, inl none) small = sym (append-nil bytes) ∙ ap (λ (xs : List ℕ). bytes ++ xs) (sym none) ∙ sym whole
+all_read text bytes (more, whole, inr all) small = absurd (omega arith)
+
+-- what is made of the bytes that were read of a job's text
+pub accepted_bytes : (j : Job) (bytes : List ℕ) (r : Result Job JobRefusal) → IsJob j → IsReadOf (job_text j) bytes → IfOk r (λ k. IsJob k × (bytes ≡ job_text k) × (length bytes < most_text)) → IfErr r (IsRefusal bytes) → MatchResult r (λ k. k ≡ j) IsOutside
+accepted_bytes j bytes (Ok k) h read spelled refused = job_once k j spelled.0 h (sym spelled.1 ∙ all_read (job_text j) bytes read spelled.2)
+accepted_bytes j bytes (Err (Text line fault)) h read spelled refused =
+    job_not_refused j line fault h (subst (λ (xs : List ℕ). IsFirstRefused xs line fault) (sym read.1) (refused read.0 read.2))
+accepted_bytes j bytes (Err Read) h read spelled refused = tt
+accepted_bytes j bytes (Err Memory) h read spelled refused = tt

@@ -5,3 +5,4 @@ pub mod Parted
 pub mod Front
 pub mod Verdicts
 pub mod Jobs
+pub mod Reading

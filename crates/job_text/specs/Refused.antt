@@ -17,6 +17,16 @@ most_text = 16200001
 abbrev pub MayFollow : List ℕ → List ℕ → Type 0
 MayFollow text more = (more ≡ []) ⊎ (most_text ≤ length text)
 
+-- the front of a text that was read of it
+abbrev pub IsReadOf : List ℕ → List ℕ → Type 0
+IsReadOf text bytes = (more : List ℕ) × (text ≡ bytes ++ more) × MayFollow bytes more
+
+-- a refusal for what the source or memory did, and not for the text
+abbrev pub IsOutside : JobRefusal → Type 0
+IsOutside (Text line fault) = ⊥
+IsOutside Read = Unit {0}
+IsOutside Memory = Unit {0}
+
 -- why these bytes of a text give no job
 abbrev pub IsRefusal : List ℕ → JobRefusal → Type 0
 IsRefusal text (Text line fault) = (more : List ℕ) → MayFollow text more → IsFirstRefused (text ++ more) line fault

@@ -6,7 +6,7 @@
 mod lines;
 mod numbers;
 mod parser;
-// mod reader;
+mod reader;
 mod refusal;
 mod words;
 
@@ -14,5 +14,5 @@ mod words;
 pub use mont_base::{
     Deed, Failed, Job, JobFault, Layout, Line, MemSource, Op, Sequence, Source, Stop,
 };
-// pub use reader::read_job;
+pub use reader::read_job;
 pub use refusal::JobRefusal;
