@@ -1,25 +1,19 @@
 -- Texts that begin with a header and lines of the one caller.
-use Rattle.std.proofs.Common.{◌≡◌, ◌≢◌, ℕ, zero, suc, ◌+◌, ◌-◌, ◌*◌, ◌^◌, ◌<◌, ◌≤◌, ◌⊎◌, inl, inr, Bool, true, false, cond, ◌==◌, List, [], ◌∷◌, ◌++◌, length, map, take, drop, get_or, All, sym, ap, zero-add, ◌∙◌, refl, subst, arith, lit<, decimal, codes}
-use Rattle.std.specs.List.{count_by, sum_by, flat_map}
-use Rattle.std.proofs.lemmas.List.{append_assoc, append-nil, length-append, length-map, get_or_append_left, get_or-append-add, get_or_at, take_at, take-append-drop, drop_more, length-take-le, map-append, nil_from_length, length-drop}
+use Rattle.std.proofs.Common.{◌≡◌, ℕ, ◌+◌, ◌<◌, ◌≤◌, inl, inr, Bool, true, false, cond, List, [], ◌∷◌, ◌++◌, length, map, take, drop, get_or, All, sym, ap, zero-add, ◌∙◌, refl, subst, arith, lit<}
+use Rattle.std.specs.List.{count_by}
+use Rattle.std.proofs.lemmas.List.{append_assoc, append-nil, length-append, length-map, get_or-append-add, take_at, take-append-drop, drop_more, length-take-le, map-append}
 use Rattle.std.proofs.lemmas.List.Concat.{flat_map-append}
 use Rattle.std.proofs.lemmas.List.Elements.{All-take, All-nil, All-tail, All-cons, All-map, All-push, All-weaker}
 use Rattle.std.proofs.lemmas.List.Sums.{sum_by_push, sum_by-take-le, sum_by-cons}
 use Rattle.std.proofs.lemmas.Bool.{cases_eq}
-use Rattle.mont_base.specs.declared.operation.Op.TheVariants.{Put, Get}
 use Rattle.mont_base.specs.declared.job.Line.{Line}
-use Rattle.mont_base.specs.declared.job.Deed.{Deed}
-use Rattle.mont_base.specs.declared.job.Deed.TheVariants.{Call, Tick}
-use Rattle.mont_base.specs.declared.job.JobFault.{JobFault}
-use Rattle.mont_base.specs.declared.job.JobFault.TheVariants as faults
-use Rattle.mont_base.specs.Layout.{Shape, shape}
-use Rattle.mont_base.specs.Text.{spaced, text_of, line_of, parts_of, line_at, IsEnded, HasLine}
-use Rattle.mont_base.specs.JobText.{most_lines, most_bytes, header_words, line_words, first_word, is_put, begins_put, puts_before, IsHeader, IsLine, IsDeed, MayStand, Holds}
-use Rattle.job_text.specs.Parts.{Lacks, IsCut, deed_line, header_line}
+use Rattle.mont_base.specs.Layout.{shape}
+use Rattle.mont_base.specs.Text.{spaced, text_of, parts_of, line_at, IsEnded, HasLine}
+use Rattle.mont_base.specs.JobText.{most_lines, header_words, line_words, is_put, begins_put, puts_before, IsLine}
+use Rattle.job_text.specs.Parts.{Lacks, IsCut}
 use Rattle.job_text.specs.Refused.{BeginsWithHeader}
-use Rattle.job_text.proofs.Digits.{decimal_lacks, decimal_short}
-use Rattle.job_text.proofs.Spelling.{line_spelled, header_spelled, deed_lacks, header_lacks, deed_short, header_short, deed_no_stop, line_begins}
-use Rattle.job_text.proofs.Parted.{whole_line, parts_front, parts_cut, some_part, length_front}
+use Rattle.job_text.proofs.Spelling.{line_spelled, header_spelled, deed_lacks, header_lacks, deed_short, header_short, line_begins}
+use Rattle.job_text.proofs.Parted.{whole_line, parts_front, parts_cut, some_part}
 
 abbrev pub first_lines : ℕ → List Line → List (List (List ℕ))
 first_lines slots lines = header_words (shape 1 slots) 1 0 0 ∷ map line_words lines
@@ -116,7 +110,7 @@ no_next text slots lines f i (inr (last, inl some)) =
     absurd (omega arith)
 no_next text slots lines f i (inr (last, inr first)) = omega arith
 
-split_text : (h : List (List ℕ)) (pre : List Line) (l : Line) (post : List Line) (rest : List ℕ) → text_of (h ∷ map line_words (pre ++ l ∷ post)) ++ rest ≡ text_of (h ∷ map line_words pre) ++ (spaced (line_words l) ++ 10 ∷ (text_of (map line_words post) ++ rest))
+pub split_text : (h : List (List ℕ)) (pre : List Line) (l : Line) (post : List Line) (rest : List ℕ) → text_of (h ∷ map line_words (pre ++ l ∷ post)) ++ rest ≡ text_of (h ∷ map line_words pre) ++ (spaced (line_words l) ++ 10 ∷ (text_of (map line_words post) ++ rest))
 split_text h pre l post rest = simp (map-append, flat_map-append, append_assoc)
 
 -- more bytes may follow

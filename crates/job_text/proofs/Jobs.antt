@@ -1,7 +1,6 @@
 -- Jobs and their texts.
-use Rattle.std.proofs.Common.{◌≡◌, ℕ, zero, suc, ◌+◌, ◌*◌, ◌^◌, ◌<◌, ◌≤◌, inl, inr, Result, Ok, Err, IfOk, IfErr, MatchResult, Bool, true, false, List, [], ◌∷◌, ◌++◌, length, map, All, sym, ap, ◌∙◌, refl, subst, arith, decimal}
-use Rattle.std.specs.List.{count_by}
-use Rattle.std.proofs.lemmas.List.{append_assoc, append-nil, length-append, length-map, append_cancel_left}
+use Rattle.std.proofs.Common.{◌≡◌, ℕ, ◌<◌, ◌≤◌, inl, inr, Result, Ok, Err, IfOk, IfErr, MatchResult, List, [], ◌∷◌, ◌++◌, length, map, All, sym, ap, ◌∙◌, refl, subst, arith}
+use Rattle.std.proofs.lemmas.List.{append_assoc, append-nil, length-append}
 use Rattle.std.proofs.lemmas.List.Elements.{All-tail}
 use Rattle.mont_base.specs.declared.job.Job.{Job}
 use Rattle.mont_base.specs.declared.job.Line.{Line}
@@ -10,10 +9,10 @@ use Rattle.mont_base.specs.declared.job.Stop.{Stop}
 use Rattle.mont_base.specs.declared.job.JobFault.{JobFault}
 use Rattle.mont_base.specs.Layout.{Shape, shape}
 use Rattle.mont_base.specs.Text.{spaced, text_of}
-use Rattle.mont_base.specs.JobText.{most_lines, header_words, line_words, stop_words, is_put, job_text, IsLine, IsJob, IsFirstRefused}
+use Rattle.mont_base.specs.JobText.{header_words, line_words, stop_words, job_text, IsLine, IsJob, IsFirstRefused}
 use Rattle.job_text.specs.declared.refusal.JobRefusal.{JobRefusal}
 use Rattle.job_text.specs.declared.refusal.JobRefusal.TheVariants.{Text, Read, Memory}
-use Rattle.job_text.specs.Parts.{Lacks, deed_line, header_line}
+use Rattle.job_text.specs.Parts.{Lacks}
 use Rattle.job_text.specs.Refused.{most_text, IsReadOf, IsRefusal, IsOutside}
 use Rattle.job_text.proofs.Cuts.{cut_once}
 use Rattle.job_text.proofs.Spelling.{line_spelled, header_spelled, header_once, header_lacks, deed_once}

@@ -6,3 +6,4 @@ pub mod Front
 pub mod Verdicts
 pub mod Jobs
 pub mod Reading
+pub mod Written

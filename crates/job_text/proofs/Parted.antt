@@ -1,10 +1,10 @@
 -- Texts as lines.
-use Rattle.std.proofs.Common.{◌≡◌, ◌≢◌, ℕ, suc, ◌+◌, ◌*◌, ◌^◌, ◌<◌, ◌≤◌, ◌⊎◌, inl, inr, Bool, true, false, cond, ◌==◌, List, [], ◌∷◌, ◌++◌, length, map, take, drop, get_or, sym, ap, ◌∙◌, refl, subst, arith}
-use Rattle.std.specs.List.{slice_split, onto_first, join_with_byte, count_by}
+use Rattle.std.proofs.Common.{◌≡◌, ℕ, suc, ◌*◌, ◌<◌, ◌≤◌, false, ◌==◌, List, [], ◌∷◌, ◌++◌, length, map, get_or, ap, ◌∙◌, refl, arith}
+use Rattle.std.specs.List.{onto_first, join_with_byte}
 use Rattle.std.proofs.lemmas.List.{append_assoc, length-append}
 use Rattle.std.proofs.lemmas.List.Splits.{slice_split_at, slice_split_none, slice_split-cons_no, length-slice_split, join_with_byte-slice_split}
-use Rattle.std.proofs.lemmas.List.Elements.{All-head, All-tail}
-use Rattle.mont_base.specs.Text.{spaced, text_of, parts_of, line_at, IsEnded, HasLine}
+use Rattle.std.proofs.lemmas.List.Elements.{All-head}
+use Rattle.mont_base.specs.Text.{spaced, text_of, parts_of, line_at}
 use Rattle.job_text.specs.Parts.{Lacks, IsCut}
 use Rattle.job_text.proofs.Cuts.{Lacks-rest}
 

@@ -1,6 +1,6 @@
 -- Bytes that were read of a source.
-use Rattle.std.proofs.Common.{◌≡◌, ℕ, ◌+◌, ◌<◌, ◌≤◌, inl, inr, Option, Some, None, IfSome, List, [], ◌∷◌, ◌++◌, length, take, sym, ap, ◌∙◌, refl, subst, arith}
-use Rattle.std.proofs.lemmas.List.{append_assoc, append-nil, take-append-le}
+use Rattle.std.proofs.Common.{◌≡◌, ℕ, ◌≤◌, inl, inr, Option, Some, None, IfSome, List, [], ◌++◌, length, take, sym, ap, ◌∙◌}
+use Rattle.std.proofs.lemmas.List.{append_assoc, take-append-le}
 use Rattle.std.specs.Io.KnownBytes.{Consumes, IsAtEnd}
 use Rattle.job_text.specs.Refused.{most_text, IsReadOf}
 
@@ -26,3 +26,7 @@ pub read_enough : (old now : Option (List ℕ)) (bytes : List ℕ) → Consumes 
 read_enough None now bytes h all = tt
 read_enough (Some xs) None bytes h all = absurd h
 read_enough (Some xs) (Some ys) bytes h all = (ys, h, inr all)
+
+-- the piece that was read stands in the front of the buffer
+pub appended : (new old xs ys : List ℕ) (count : ℕ) → new ≡ old ++ take count (xs ++ ys) → count ≤ length xs → new ≡ old ++ take count xs
+appended new old xs ys count push bound = push ∙ ap (λ (zs : List ℕ). old ++ zs) (take-append-le count xs ys bound)

@@ -1,5 +1,5 @@
 -- How the lines of a job are spelled.
-use Rattle.std.proofs.Common.{◌≡◌, ◌≢◌, ℕ, suc, ◌+◌, ◌^◌, ◌<◌, ◌≤◌, Bool, true, false, ◌==◌, Option, Some, None, MatchOption, Result, Ok, Err, List, [], ◌∷◌, ◌++◌, length, take, get_or, sym, ap, ◌∙◌, refl, subst, arith, lit<, lit≤, decimal, codes}
+use Rattle.std.proofs.Common.{◌≡◌, ◌≢◌, ℕ, ◌^◌, ◌<◌, ◌≤◌, Bool, ◌==◌, MatchOption, Result, Ok, Err, List, ◌∷◌, ◌++◌, length, take, get_or, sym, ap, ◌∙◌, refl, subst, arith, lit<, lit≤, decimal, codes}
 use Rattle.std.specs.Result.{result_ok, OkIff}
 use Rattle.std.proofs.lemmas.List.{append_cancel_left, append_cancel_right, take_at, take_all, length-append, get_or_append_left, get_or_at}
 use Rattle.std.proofs.lemmas.List.Sums.{position_or_len_is}
@@ -42,10 +42,10 @@ first_word_whole line lacks =
     let at = position_or_len_is p line (length line) 0 (omega arith) (λ k below. lacks k 0 below) (λ within. absurd (omega arith)) in
     ap (λ (n : ℕ). take n line) at ∙ take_all (length line) line (omega arith)
 
-abbrev header_front : List ℕ
+abbrev pub header_front : List ℕ
 header_front = codes "montage-job 1 1 "
 
-abbrev header_end : List ℕ
+abbrev pub header_end : List ℕ
 header_end = codes " 1 0 0000000000000000"
 
 pub no_header_front : (line : List ℕ) → ((rest : List ℕ) → line ≢ header_front ++ rest) → (slots : ℕ) → ¬ IsHeader slots line

@@ -1,21 +1,19 @@
 -- Which line of a text is refused first.
-use Rattle.std.proofs.Common.{◌≡◌, ◌≢◌, ℕ, zero, suc, ◌+◌, ◌-◌, ◌*◌, ◌^◌, ◌<◌, ◌≤◌, ◌⊎◌, inl, inr, Bool, true, false, cond, ltb, List, [], ◌∷◌, ◌++◌, length, map, take, drop, get_or, All, sym, ap, ◌∙◌, refl, subst, arith, lit<, decimal, codes}
+use Rattle.std.proofs.Common.{◌≡◌, ℕ, zero, suc, ◌+◌, ◌*◌, ◌<◌, ◌≤◌, inl, inr, Bool, true, false, cond, ltb, List, [], ◌∷◌, ◌++◌, length, map, take, drop, get_or, sym, ap, ◌∙◌, refl, subst, arith, codes}
 use Rattle.std.specs.List.{count_by}
-use Rattle.std.proofs.lemmas.List.{append_assoc, append-nil, length-append, length-map, append_cancel_left, append_cancel_right, length-take-le}
+use Rattle.std.proofs.lemmas.List.{append_assoc, append-nil, length-append, length-map, length-take-le}
 use Rattle.std.proofs.lemmas.List.Sums.{sum_by_more_le}
 use Rattle.std.proofs.lemmas.Bool.{cases_eq, ltb-false}
-use Rattle.std.proofs.lemmas.Fmt.{decimal_injective}
 use Rattle.mont_base.specs.declared.job.Line.{Line}
 use Rattle.mont_base.specs.declared.job.JobFault.{JobFault}
 use Rattle.mont_base.specs.declared.job.JobFault.TheVariants as faults
-use Rattle.mont_base.specs.Layout.{Shape, shape}
 use Rattle.mont_base.specs.Text.{spaced, text_of, parts_of, line_at, IsEnded, HasLine}
-use Rattle.mont_base.specs.JobText.{most_lines, most_bytes, header_words, line_words, first_word, is_put, puts_before, rank, IsHeader, IsLine, MayStand, Holds, IsFirstRefused}
-use Rattle.job_text.specs.Parts.{Lacks, IsCut, header_line}
-use Rattle.job_text.specs.Refused.{most_text, MayFollow, BeginsWith, HasNoHeader, HasStop, HasNoDeed, IsNoLine, IsNoHeader, IsNoDeed}
+use Rattle.mont_base.specs.JobText.{most_lines, most_bytes, line_words, first_word, is_put, puts_before, rank, IsLine, MayStand, Holds, IsFirstRefused}
+use Rattle.job_text.specs.Parts.{Lacks, IsCut}
+use Rattle.job_text.specs.Refused.{MayFollow, HasNoHeader, HasStop, HasNoDeed, IsNoHeader, IsNoDeed}
 use Rattle.job_text.proofs.Spelling.{line_spelled, header_spelled, header_short, deed_no_stop, header_once}
-use Rattle.job_text.proofs.Parted.{parts_cut, parts_lacking, line_lacking, line_cut, length_front, some_part}
-use Rattle.job_text.proofs.Front.{IsFront, first_lines, line_lacks, line_short, first_short, front_line, front_header, front_count, front_puts, front_ended, has_next, no_next, front_more, front_before}
+use Rattle.job_text.proofs.Parted.{parts_cut, parts_lacking, line_cut, length_front, some_part}
+use Rattle.job_text.proofs.Front.{IsFront, first_lines, line_lacks, line_short, first_short, front_line, front_header, front_count, front_puts, front_ended, has_next, front_more, front_before}
 
 room_left : (b : Bool) (n m slots : ℕ) → b ≡ true → n + cond b 1 0 ≤ m → m ≤ slots → n < slots
 room_left true n m slots put more few = omega arith

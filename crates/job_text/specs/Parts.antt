@@ -1,5 +1,5 @@
 -- The parts of a job's text.
-use Rattle.std.specs.Prelude.{◌≡◌, ◌≢◌, ◌≤◌, ℕ, length, slice_index, ◌==◌, false, List, [], ◌∷◌, ◌++◌, All, codes, decimal}
+use Rattle.std.specs.Prelude.{◌≡◌, ◌≢◌, ◌≤◌, ℕ, length, slice_index, ◌==◌, false, List, ◌∷◌, ◌++◌, All, codes, decimal}
 use Rattle.mont_base.specs.declared.operation.Op.TheVariants.{Put, Get}
 use Rattle.mont_base.specs.declared.job.Deed.{Deed}
 use Rattle.mont_base.specs.declared.job.Deed.TheVariants.{Call, Tick}

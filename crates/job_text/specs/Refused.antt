@@ -1,5 +1,5 @@
 -- What is found where a job's text is read line by line.
-use Rattle.std.specs.Prelude.{◌≡◌, ℕ, ◌+◌, ◌<◌, ◌≤◌, Bool, true, false, ◌⊎◌, List, [], ◌∷◌, ◌++◌, length, codes}
+use Rattle.std.specs.Prelude.{◌≡◌, ℕ, ◌<◌, ◌≤◌, Bool, true, false, ◌⊎◌, List, [], ◌++◌, length, codes}
 use Rattle.mont_base.specs.declared.job.Line.{Line}
 use Rattle.mont_base.specs.declared.job.JobFault.{JobFault}
 use Rattle.mont_base.specs.declared.job.JobFault.TheVariants as faults

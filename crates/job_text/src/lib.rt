@@ -2,7 +2,7 @@
 //! text of each job.
 #![tactic(auto)]
 
-// mod job_writer;
+mod job_writer;
 mod lines;
 mod numbers;
 mod parser;
@@ -10,7 +10,7 @@ mod reader;
 mod refusal;
 mod words;
 
-// pub use job_writer::write_job;
+pub use job_writer::write_job;
 pub use mont_base::{
     Deed, Failed, Job, JobFault, Layout, Line, MemSource, Op, Sequence, Source, Stop,
 };

@@ -1,4 +1,4 @@
-use Rattle.std.proofs.Common.{◌≡◌, ℕ, Bool, true, false, ap, sym, ◌∙◌, refl, rules}
+use Rattle.std.proofs.Common.{◌≡◌, Bool, true, false, ap, sym, ◌∙◌, refl}
 use Rattle.mont_base.specs.declared.job.Line.{Line}
 use Rattle.mont_base.specs.declared.job.Deed.{Deed}
 use Rattle.mont_base.specs.JobText.{is_put}

@@ -1,6 +1,5 @@
-use Rattle.std.proofs.Common.{◌≡◌, List, ℕ, subst, sym, IsTrue, Bool, true, rules}
+use Rattle.std.proofs.Common.{◌≡◌, subst, sym, true, rules}
 use Rattle.std.specs.Str.{IsUtf8}
-use Rattle.std.specs.Str.Parse.{ParsesUnsigned}
 use Rattle.job_text.proofs.Digits.{parsed_plain, decimal_utf8, decimal_plain}
 use Rattle.job_text.specs.Parts.{IsPlain}
 use Rattle.job_text.proofs.numbers.number.Goals as goal

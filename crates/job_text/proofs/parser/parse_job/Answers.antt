@@ -1,14 +1,13 @@
-use Rattle.std.proofs.Common.{◌≡◌, ◌≢◌, ◌<◌, ◌+◌, Bool, ◌==◌, [], ◌∷◌, ◌++◌, cond, true, false, rules, List, ℕ, sym, subst, ap, ◌∙◌, arith, length, refl}
+use Rattle.std.proofs.Common.{◌≡◌, ◌<◌, ◌+◌, Bool, ◌==◌, [], ◌∷◌, ◌++◌, cond, true, false, List, ℕ, sym, subst, ap, ◌∙◌, arith, length, refl}
 use Rattle.std.specs.List.{count_by}
 use Rattle.std.proofs.lemmas.List.{length-append, nil_from_length}
 use Rattle.std.proofs.lemmas.List.Sums.{sum_by_push}
-use Rattle.mont_base.specs.declared.job.Line.{Line}
 use Rattle.mont_base.specs.JobText.{most_lines, line_words, is_put}
 use Rattle.mont_base.specs.Text.{spaced}
 use Rattle.std.proofs.lemmas.Bool.Decides.{nat_tests, Decides-ltb}
 use Rattle.job_text.proofs.Verdicts.{refused_deed, refused_header}
 use Rattle.job_text.proofs.Front.{IsFront, front_start, front_push}
-use Rattle.job_text.proofs.Jobs.{job_from_front, job_once, job_not_refused}
+use Rattle.job_text.proofs.Jobs.{job_from_front}
 use Rattle.job_text.proofs.parser.parse_job.Goals as goal
 use Rattle.job_text.proofs.parser.parse_job.Goals.{then-is_put, else-is_put}
 

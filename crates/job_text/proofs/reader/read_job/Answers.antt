@@ -1,4 +1,4 @@
-use Rattle.std.proofs.Common.{List, ℕ, Some, subst, Option, IfSome, IfOk, IfErr}
+use Rattle.std.proofs.Common.{List, ℕ, subst, Option, IfSome}
 use Rattle.mont_base.specs.JobText.{job_text}
 use Rattle.job_text.specs.Refused.{IsReadOf}
 use Rattle.job_text.proofs.Jobs.{accepted_bytes}

@@ -1,7 +1,7 @@
-use Rattle.std.proofs.Common.{◌≡◌, ◌≤◌, ◌++◌, [], List, ℕ, Some, subst, arith, refl, length, take, drop, ap, sym, ◌∙◌, length-append, length-drop, vec_len}
-use Rattle.std.proofs.lemmas.List.{take-append-le, length-take-le, length-take}
+use Rattle.std.proofs.Common.{◌≡◌, ◌≤◌, ◌++◌, [], List, ℕ, subst, arith, refl, length, take, drop, ap, sym, ◌∙◌, length-append, length-drop}
+use Rattle.std.proofs.lemmas.List.{take-append-le, length-take-le}
 use Rattle.std.specs.Io.KnownBytes.{Consumes}
-use Rattle.job_text.proofs.Reading.{consumes_none, consumes_more, read_all, read_enough}
+use Rattle.job_text.proofs.Reading.{appended, consumes_none, consumes_more, read_all, read_enough}
 use Rattle.job_text.proofs.reader.read_text.Goals as goal
 
 pub loop-chunk-init : goal.loop-chunk-init
@@ -17,7 +17,7 @@ loop-chunk-preserved g c =
     let bound : count ≤ length buf = c.in_ok-count.ensures.bound in
     let long : length buf ≡ c.min-room.result = c.read.auto.buf ∙ length-take-le c.min-room.result c.loop-chunk.chunk (omega (arith, i.3)) in
     let piece : take count (buf ++ tail) ≡ take count buf = take-append-le count buf tail bound in
-    let items : c.extend_from_slice.new.self.items ≡ c.loop-chunk.bytes.items ++ take count buf = c.in_ok-extend_from_slice.ensures.items ∙ ap (λ (xs : List ℕ). c.loop-chunk.bytes.items ++ xs) piece in
+    let items = appended c.extend_from_slice.new.self.items c.loop-chunk.bytes.items buf tail count c.in_ok-extend_from_slice.ensures.items bound in
     let now : Consumes (left c.args.source.now) (left c.read.new.self) (c.loop-chunk.bytes.items ++ take count buf) = consumes_more (left c.args.source.now) (left c.loop-chunk.source) (left c.read.new.self) c.loop-chunk.bytes.items (take count buf) i.0 c.in_ok-count.ensures.bytes.0 in
     (subst (λ (xs : List ℕ). Consumes (left c.args.source.now) (left c.read.new.self) xs) (sym items) now, omega (arith, i.1, c.in_ok-count.ensures.cause.later), omega (arith, c.in_ok-extend_from_slice.ensures.len, ap length piece, length-take-le count buf bound, long), omega (arith, long, length-append buf tail, length-drop c.min-room.result c.loop-chunk.chunk, i.3))
 

@@ -1,7 +1,6 @@
-use Rattle.std.proofs.Common.{◌≡◌, ◌≢◌, ◌++◌, List, ℕ, codes, Some, None, true, sym, ap, ◌∙◌}
+use Rattle.std.proofs.Common.{◌≡◌, ◌≢◌, ◌++◌, codes, Some, None, true, sym, ap, ◌∙◌}
 use Rattle.std.proofs.lemmas.Slice.Eq.{strip_prefix_is, slice_eq-Decides}
 use Rattle.std.proofs.lemmas.Bool.Decides.{Decides-eqb}
-use Rattle.job_text.specs.Parts.{deed_line}
 use Rattle.job_text.proofs.Spelling.{asks_no_get, asks_no_other, asks_no_space, asks_no_key, asks_no_value, put_line}
 use Rattle.job_text.proofs.words.deed.Goals as goal
 
