@@ -16,3 +16,6 @@ pub use mont_base::{
 };
 pub use reader::read_job;
 pub use refusal::JobRefusal;
+
+#[cfg(test)]
+mod tests;
