@@ -1,2 +1,11 @@
 pub mod Written
 pub mod WholeReport
+pub mod Cuts
+pub mod Digits
+pub mod Spelling
+pub mod Parted
+pub mod Front
+pub mod Verdicts
+pub mod Jobs
+pub mod Reading
+pub mod Written
