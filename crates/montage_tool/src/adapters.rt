@@ -110,7 +110,7 @@ impl<F: Read + Drop> Source for FileSource<F> {
 #[derive(Drop)]
 pub struct FileSink<'a, R: Files> {
     rt: &'a R,
-    path: &'a str,
+    pub path: &'a str,
     target: Target<R::File>,
     /// How often it failed.
     pub faults: u64,
@@ -129,7 +129,8 @@ enum Target<F: Drop> {
 impl<'a, R: Files> FileSink<'a, R> {
     /// A sink of the file of this name, which isn't touched yet.
     pub fn new(rt: &'a R, path: &'a str) -> Self
-        ensures { result.faults ≡ 0 }
+        ensures path { result.path ≡ path.entry }
+        ensures fresh { result.faults ≡ 0 }
     {
         FileSink {
             rt,
