@@ -1,0 +1,173 @@
+// The devices of the process. What a standard stream or a file gives and takes is known to no contract.
+ghost use Rattle.std.specs.Prelude.{◌≡◌, ◌≤◌, None, option_and_then};
+ghost use Rattle.mont_base.specs.Faults.{Rose};
+
+#[cfg(test)]
+mod tests;
+
+use mont_base::{Failed, Sink, Source};
+use std::fs;
+use std::io::{Read, Write};
+use std::rt::Files;
+
+/// A standard stream, or another reader, as a source.
+#[derive(Drop)]
+pub struct StdSource<R: Read + Drop> {
+    pub reader: R,
+    /// How often it failed.
+    pub faults: u64,
+}
+
+impl<R: Read + Drop> StdSource<R> {
+    /// A source of what this reader gives.
+    pub fn new(reader: R) -> Self
+        ensures { result ≡ record { reader = reader; faults = 0 } }
+    {
+        StdSource { reader, faults: 0 }
+    }
+}
+
+impl<R: Read + Drop> Source for StdSource<R> {
+    ghost left = { λ s. R.remaining s.reader };
+
+    ghost faults = { λ s. s.faults };
+
+    fn read(&mut self, buf: &mut [u8]) -> Result<usize, Failed> {
+        match self.reader.read(buf) {
+            Ok(count) => Ok(count),
+            Err(_) => Err(failure(&mut self.faults)),
+        }
+    }
+}
+
+/// A standard stream, or another writer, as a sink.
+#[derive(Drop)]
+pub struct StdSink<W: Write + Drop> {
+    pub writer: W,
+    /// How often it failed.
+    pub faults: u64,
+}
+
+impl<W: Write + Drop> StdSink<W> {
+    /// A sink that this writer takes.
+    pub fn new(writer: W) -> Self
+        ensures { result ≡ record { writer = writer; faults = 0 } }
+    {
+        StdSink { writer, faults: 0 }
+    }
+}
+
+impl<W: Write + Drop> Sink for StdSink<W> {
+    ghost taken = { λ s. W.contents s.writer };
+
+    ghost faults = { λ s. s.faults };
+
+    fn write(&mut self, piece: &[u8]) -> Result<usize, Failed> {
+        match self.writer.write(piece) {
+            Ok(0) | Err(_) => Err(failure(&mut self.faults)),
+            Ok(count) => Ok(count),
+        }
+    }
+}
+
+/// A file as a source. Where it can't be opened, each call fails.
+#[derive(Drop)]
+pub struct FileSource<F: Read + Drop> {
+    file: Option<F>,
+    /// How often it failed.
+    pub faults: u64,
+}
+
+impl<F: Read + Drop> FileSource<F> {
+    /// A source of what the file of this name holds.
+    pub fn open<R: Files<File = F>>(rt: &R, path: &str) -> Self
+        ensures { result.faults ≡ 0 }
+    {
+        FileSource {
+            file: fs::open(rt, path).ok(),
+            faults: 0,
+        }
+    }
+}
+
+impl<F: Read + Drop> Source for FileSource<F> {
+    ghost left = { λ s. option_and_then F.remaining s.file };
+
+    ghost faults = { λ s. s.faults };
+
+    fn read(&mut self, buf: &mut [u8]) -> Result<usize, Failed> {
+        let Some(file) = &mut self.file else {
+            return Err(failure(&mut self.faults));
+        };
+        match file.read(buf) {
+            Ok(count) => Ok(count),
+            Err(_) => Err(failure(&mut self.faults)),
+        }
+    }
+}
+
+/// A file as a sink. It is made, or emptied, at the first write. Where it can't be, each call fails.
+#[derive(Drop)]
+pub struct FileSink<'a, R: Files> {
+    rt: &'a R,
+    pub path: &'a str,
+    target: Target<R::File>,
+    /// How often it failed.
+    pub faults: u64,
+}
+
+// The file of a sink.
+#[derive(Drop)]
+enum Target<F: Drop> {
+    // Nothing was written yet.
+    Unmade,
+    Made { file: F },
+    // It can't be made.
+    Lost,
+}
+
+impl<'a, R: Files> FileSink<'a, R> {
+    /// A sink of the file of this name, which isn't touched yet.
+    pub fn new(rt: &'a R, path: &'a str) -> Self
+        ensures path { result.path ≡ path.entry }
+        ensures fresh { result.faults ≡ 0 }
+    {
+        FileSink {
+            rt,
+            path,
+            target: Target::Unmade,
+            faults: 0,
+        }
+    }
+}
+
+impl<R: Files> Sink for FileSink<'_, R> {
+    ghost taken = { λ _. None };
+
+    ghost faults = { λ s. s.faults };
+
+    fn write(&mut self, piece: &[u8]) -> Result<usize, Failed> {
+        if let Target::Unmade = self.target {
+            self.target = match fs::create(self.rt, self.path) {
+                Ok(file) => Target::Made { file },
+                Err(_) => Target::Lost,
+            };
+        }
+        let Target::Made { file } = &mut self.target else {
+            return Err(failure(&mut self.faults));
+        };
+        match file.write(piece) {
+            Ok(0) | Err(_) => Err(failure(&mut self.faults)),
+            Ok(count) => Ok(count),
+        }
+    }
+}
+
+// A failure, which is counted.
+fn failure(faults: &mut u64) -> Failed
+    ensures later { faults.old ≤ faults.new }
+    ensures counted { Rose faults.old faults.new }
+{
+    *faults = faults.saturating_add(1);
+    Failed
+}

@@ -1,0 +1,173 @@
+// How a run of the tool ends.
+ghost use Rattle.std.specs.Prelude.{◌≡◌, IfOk, Some, string_bytes};
+ghost use Rattle.montage_tool.specs.Status.{exit_code_of, status_bytes, fault_word, source_word, sink_word};
+
+use mont_base::JobFault;
+use std::alloc::{AllocError, Global};
+use std::fmt;
+
+/// What a run of the tool came to.
+#[derive(Clone, Copy, Debug, PartialEq, Eq)]
+pub enum Status {
+    /// Its output was written.
+    Done,
+    /// The words of the command line are of no form.
+    BadWords,
+    /// A line of the job is refused. The first line is line 1.
+    BadJob { line: u64, fault: JobFault },
+    /// A source failed.
+    ReadFault { which: SourceName },
+    /// A sink failed.
+    WriteFault { which: SinkName },
+    /// Memory ran out.
+    Memory,
+}
+
+/// What the tool reads.
+#[derive(Clone, Copy, Debug, PartialEq, Eq)]
+pub enum SourceName {
+    Job,
+    Image,
+}
+
+/// What the tool writes.
+#[derive(Clone, Copy, Debug, PartialEq, Eq)]
+pub enum SinkName {
+    Report,
+    Image,
+}
+
+/// The exit code of the process.
+pub fn exit_code(status: &Status) -> u8
+    ensures { result ≡ exit_code_of status.now }
+{
+    match status {
+        Status::Done => 0,
+        Status::BadWords => 2,
+        Status::BadJob { .. } => 3,
+        Status::ReadFault { .. } => 5,
+        Status::WriteFault { .. } => 6,
+        Status::Memory => 7,
+    }
+}
+
+/// The line that tells a status, without its line feed. It is empty where all went well.
+pub fn status_text(alloc: Global, status: &Status) -> Result<String, AllocError>
+    ensures { IfOk result (λ text. string_bytes text ≡ status_bytes status.now) }
+{
+    status.to_string(alloc)
+}
+
+impl fmt::Display for Status {
+    ghost output = { λ s. Some (status_bytes s) };
+
+    fn fmt<W: fmt::Write>(&self, f: &mut fmt::Formatter<W>) -> fmt::Result {
+        match self {
+            Status::Done => Ok(()),
+            Status::BadWords => write!(f, "montage: bad words"),
+            Status::BadJob { line, fault } => {
+                let word = word_of_fault(*fault);
+                write!(f, "montage: job line {line}: {word}")
+            }
+            Status::ReadFault { which } => write!(f, "montage: read fault: {which}"),
+            Status::WriteFault { which } => write!(f, "montage: write fault: {which}"),
+            Status::Memory => write!(f, "montage: out of memory"),
+        }
+    }
+}
+
+impl fmt::Display for SourceName {
+    ghost output = { λ s. Some (source_word s) };
+
+    fn fmt<W: fmt::Write>(&self, f: &mut fmt::Formatter<W>) -> fmt::Result {
+        match self {
+            SourceName::Job => write!(f, "job"),
+            SourceName::Image => write!(f, "image"),
+        }
+    }
+}
+
+impl fmt::Display for SinkName {
+    ghost output = { λ s. Some (sink_word s) };
+
+    fn fmt<W: fmt::Write>(&self, f: &mut fmt::Formatter<W>) -> fmt::Result {
+        match self {
+            SinkName::Report => write!(f, "report"),
+            SinkName::Image => write!(f, "image"),
+        }
+    }
+}
+
+// The word for what is wrong with a line of a job.
+fn word_of_fault(fault: JobFault) -> &'static str
+    ensures { result.now ≡ fault_word fault }
+{
+    match fault {
+        JobFault::Many => "many",
+        JobFault::Long => "long",
+        JobFault::Unended => "unended",
+        JobFault::Header => "header",
+        JobFault::Stop => "stop",
+        JobFault::Operation => "operation",
+    }
+}
+
+#[cfg(test)]
+mod tests {
+    use super::*;
+    use std::test::Fail;
+
+    #[test]
+    fn each_status_has_its_code_and_its_line(rt: HostRuntime) -> Result<(), Fail> {
+        let job = |fault| Status::BadJob { line: 7, fault };
+        let table = [
+            (Status::Done, 0, ""),
+            (Status::BadWords, 2, "montage: bad words"),
+            (job(JobFault::Many), 3, "montage: job line 7: many"),
+            (job(JobFault::Long), 3, "montage: job line 7: long"),
+            (job(JobFault::Unended), 3, "montage: job line 7: unended"),
+            (job(JobFault::Header), 3, "montage: job line 7: header"),
+            (job(JobFault::Stop), 3, "montage: job line 7: stop"),
+            (
+                job(JobFault::Operation),
+                3,
+                "montage: job line 7: operation",
+            ),
+            (
+                Status::ReadFault {
+                    which: SourceName::Job,
+                },
+                5,
+                "montage: read fault: job",
+            ),
+            (
+                Status::ReadFault {
+                    which: SourceName::Image,
+                },
+                5,
+                "montage: read fault: image",
+            ),
+            (
+                Status::WriteFault {
+                    which: SinkName::Report,
+                },
+                6,
+                "montage: write fault: report",
+            ),
+            (
+                Status::WriteFault {
+                    which: SinkName::Image,
+                },
+                6,
+                "montage: write fault: image",
+            ),
+            (Status::Memory, 7, "montage: out of memory"),
+        ];
+        for (status, code, text) in table {
+            assert_eq!(rt; exit_code(&status), code, "{status:?}");
+            let told = status_text(rt.alloc(), &status)?;
+            assert_eq!(rt; told.as_str(), text);
+        }
+        Ok(())
+    }
+}
