@@ -1,2 +1,4 @@
-pub mod Written
+pub mod Entries
+pub mod Places
 pub mod WholeReport
+pub mod Written
