@@ -1,4 +1,5 @@
-pub mod Written
+pub mod Entries
+pub mod Places
 pub mod WholeReport
 pub mod Cuts
 pub mod Digits

@@ -1,3 +1,5 @@
 pub mod Report
 pub mod Parts
 pub mod Refused
+pub mod Places
+pub mod Faithful

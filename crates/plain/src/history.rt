@@ -64,8 +64,8 @@ fn may_follow(layout: &Layout, unit: Unit, newest: Epoch, reply: Reply, entry: &
         && entry.epoch <= LAST
 }
 
-// The unit that an operation belongs to.
-fn unit_of_op(layout: &Layout, op: &Op) -> Unit
+/// The unit that an operation belongs to.
+pub fn unit_of_op(layout: &Layout, op: &Op) -> Unit
     ensures { result ≡ unit_of_op layout.now op.now }
 {
     match *op {

@@ -1,0 +1,133 @@
+// Whether a report is faithful to its job, found out as the definition says it.
+ghost use Rattle.std.specs.Prelude.{◌≡◌, ◌↔◌, ℕ, IsTrue, IfOk, slice_get, Some};
+ghost use Rattle.mont_base.specs.Report.{IsFaithful};
+ghost use Rattle.plain.specs.States.{state_of, states_of};
+ghost use Rattle.job_text.specs.Report.{report_of};
+ghost use Rattle.job_text.specs.Faithful.{HasHeader, HasShape, LegalAt, CutAt};
+
+use crate::report::Report;
+use mont_base::{Entry, Epoch, Job, LAST, Layout, Sequence, Unit};
+use plain::{Contents, UnitState, cut_at, is_legal, same_state, state_after};
+use std::alloc::{AllocError, Global};
+
+fn has_header(job: &Job, clock: Epoch, report: &Report) -> bool
+    ensures { IsTrue result ↔ HasHeader job.now clock (report_of report.now) }
+{
+    report.layout == job.layout
+        && report.callers == job.callers
+        && report.base_clock == clock
+        && clock <= report.image_clock
+        && report.image_clock <= LAST
+}
+
+fn has_shape(job: &Job, report: &Report) -> bool
+    ensures { IsTrue result ↔ HasShape job.now (report_of report.now) }
+{
+    report.histories.len() == job.layout.units()
+        && report.outcomes.len() == job.callers
+        && report.contents.units.len() == job.layout.units()
+}
+
+// Whether both have the same states.
+fn same_contents(a: &Contents, b: &Contents) -> bool
+    ensures { IsTrue result ↔ (states_of a.now ≡ states_of b.now) }
+{
+    let ours = a.units.as_slice();
+    let theirs = b.units.as_slice();
+    if ours.len() != theirs.len() {
+        return false;
+    }
+    for unit in 0..ours.len() {
+        if !same_state(&ours[unit], &theirs[unit]) {
+            return false;
+        }
+    }
+    true
+}
+
+// Whether the history of each unit is legal.
+fn are_legal(
+    layout: &Layout,
+    clock: Epoch,
+    base: &Contents,
+    histories: &Sequence<Sequence<Entry>>,
+) -> Result<bool, AllocError>
+    ensures { IfOk result (λ b. IsTrue b
+        ↔ ((unit : ℕ) → LegalAt layout.now clock (states_of base.now) histories.now unit)) }
+{
+    for unit in 0..histories.len() {
+        if !is_legal_at(layout, clock, base, histories, unit)? {
+            return Ok(false);
+        }
+    }
+    Ok(true)
+}
+
+fn is_legal_at(
+    layout: &Layout,
+    clock: Epoch,
+    base: &Contents,
+    histories: &Sequence<Sequence<Entry>>,
+    unit: Unit,
+) -> Result<bool, AllocError>
+    ensures { IfOk result (λ b. IsTrue b
+        ↔ LegalAt layout.now clock (states_of base.now) histories.now unit) }
+{
+    let Some(state) = base.units.get(unit) else {
+        return Ok(true);
+    };
+    let Some(history) = histories.get(unit) else {
+        return Ok(true);
+    };
+    is_legal(*layout, unit, copied(state)?, clock, history.as_slice())
+}
+
+// Whether the contents of each unit are what its cut history leads to.
+fn are_cut(alloc: Global, base: &Contents, report: &Report) -> Result<bool, AllocError>
+    ensures { IfOk result (λ b. IsTrue b
+        ↔ ((unit : ℕ) → CutAt (report_of report.now) (states_of base.now) unit)) }
+{
+    for unit in 0..report.histories.len() {
+        if !is_cut_at(alloc, base, report, unit)? {
+            return Ok(false);
+        }
+    }
+    Ok(true)
+}
+
+fn is_cut_at(
+    alloc: Global,
+    base: &Contents,
+    report: &Report,
+    unit: Unit,
+) -> Result<bool, AllocError>
+    ensures { IfOk result (λ b. IsTrue b
+        ↔ CutAt (report_of report.now) (states_of base.now) unit) }
+{
+    let Some(state) = base.units.get(unit) else {
+        return Ok(true);
+    };
+    let Some(history) = report.histories.get(unit) else {
+        return Ok(true);
+    };
+    let last = report.image_clock.saturating_sub(2);
+    let kept = cut_at(alloc, last, history.as_slice())?;
+    let after = state_after(copied(state)?, kept.as_slice())?;
+    Ok(holds_state(&report.contents, unit, &after))
+}
+
+// Whether a unit has this state.
+fn holds_state(contents: &Contents, unit: Unit, state: &UnitState) -> bool
+    ensures { IsTrue result ↔ (slice_get (states_of contents.now) unit ≡ Some (state_of state.now)) }
+{
+    match contents.units.get(unit) {
+        Some(found) => same_state(found, state),
+        None => false,
+    }
+}
+
+fn copied(state: &UnitState) -> Result<UnitState, AllocError>
+    ensures { IfOk result (λ copy. state_of copy ≡ state_of state.now) }
+{
+    state.clone()
+}
