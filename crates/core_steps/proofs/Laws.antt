@@ -1,0 +1,304 @@
+-- Each kind of step keeps a core sound.
+use Rattle.std.proofs.Common.{◌≡◌, ℕ, ◌+◌, ◌*◌, ◌/◌, ◌<◌, ◌≤◌, ◌⊎◌, List, length, set, get_or, sym, refl, ap, ◌∙◌, inl, inr, ⊎_elim, arith, length-set, Bool, true, false}
+use Rattle.std.specs.Prelude.{slice_get, Option, Some, None, is_none, nat_le, nat_lt, ◌==◌, ◌&&◌, ◌||◌, if◌then◌else◌}
+use Rattle.std.proofs.lemmas.Bool.Decides.{nat_tests}
+use Rattle.std.proofs.lemmas.Option.{slice_get_within, get_or_from_slice_get}
+use Rattle.mont_base.specs.declared.constants.TheConstants.{LAST}
+use Rattle.mont_base.specs.Layout.{Shape, IsLayout, units_of, total_of, words_of}
+use Rattle.core_steps.specs.declared.parts.Core.{Core}
+use Rattle.core_steps.specs.declared.parts.UnitPart.{UnitPart}
+use Rattle.core_steps.specs.declared.parts.CallerPart.{CallerPart}
+use Rattle.core_steps.specs.declared.parts.UnitStage.{UnitStage}
+use Rattle.core_steps.specs.declared.parts.UnitStage.TheVariants.{Idle, Told, Within, Closing}
+use Rattle.core_steps.specs.declared.parts.AdvPart.{AdvPart}
+use Rattle.core_steps.specs.declared.parts.AdvPart.TheVariants.{Rest, Checking, Labels, Fields, Holding, Ready, Clocked}
+use Rattle.core_steps.specs.Events.{clock, durable_clock, is_idle, is_told, is_unfrozen, can_tell, after_tell, tell, confirmed, after_confirm, confirm, after_withdraw, withdraw, can_freeze, made_odd, after_freeze, caller_after_freeze, freeze, can_check, unit_at_hand, lets_pass, past_unit, after_check, check, is_ready, next_clock, set_clock, is_clocked, persist_clock}
+use Rattle.core_steps.specs.Sound.{IsWithinStore, ClocksStand, announced, announcement, HasPassed, IsRegistered, StageFits, IsSound}
+use Rattle.core_steps.proofs.Rows.{first_set}
+use Rattle.core_steps.proofs.Keeps.{sizes_unit, clocks_unit, announcements_unit, announcements_same, registration_unit, clocks_caller}
+
+-- tests and what they mean
+pub both : (a b : Bool) → (a && b) ≡ true → (a ≡ true) × (b ≡ true)
+both true b e = (refl, e)
+both false b e = absurd (cc)
+
+either_true : (a b : Bool) → (a || b) ≡ true → (a ≡ true) ⊎ (b ≡ true)
+either_true true b e = inl refl
+either_true false b e = inr e
+
+le_true : (a b : ℕ) → nat_le a b ≡ true → a ≤ b
+le_true a b e = grind (arith, nat_tests)
+
+lt_true : (a b : ℕ) → nat_lt a b ≡ true → a < b
+lt_true a b e = grind (arith, nat_tests)
+
+lt_false : (a b : ℕ) → nat_lt a b ≡ false → b ≤ a
+lt_false a b e = grind (arith, nat_tests)
+
+eq_true : (a b : ℕ) → (a == b) ≡ true → a ≡ b
+eq_true a b e = grind (arith, nat_tests)
+
+-- Tell
+announced_unfrozen : (e : ℕ) (o : Option ℕ) → is_none o ≡ true → announced e o ≡ 2 * e
+announced_unfrozen e None n = refl
+announced_unfrozen e (Some k) n = absurd (cc)
+
+pub tell_law : (b : ℕ) (c : Core) (u : ℕ) (p : UnitPart) (e : ℕ) → IsSound b c → slice_get c.units u ≡ Some p → can_tell p e ≡ true → IsSound b (tell c u p e)
+tell_law b c u p e s at may = let q : UnitPart = after_tell p e in record {
+  sizes = sizes_unit c.layout c.cur c.dur c.units c.advancer u q s.sizes;
+  clocks = clocks_unit b (clock c) (durable_clock c) c.advancer c.units c.callers u q (s.clocks.of_units u p at) s.clocks;
+  announcements = announcements_unit c.told c.units u (2 * e) p q at (sym (announced_unfrozen e p.frozen (both (is_unfrozen p) ((is_idle p.stage || is_told p.stage) && (nat_le 2 e && nat_le e LAST)) may).0)) s.announcements;
+  registration = registration_unit b (clock c) c.advancer c.units u q tt s.registration;
+}
+
+-- Confirm
+announcement_confirmed : (now : ℕ) (s : UnitStage) (o : Option ℕ) → announcement s o ≡ announcement (confirmed now s) o
+announcement_confirmed now Idle o = refl
+announcement_confirmed now (Told e) o = elim (now == e) as (λ t. announced e o ≡ announcement (if t then Within e else Told e) o) [ true ↦ refl | false ↦ refl ]
+announcement_confirmed now (Within e) o = refl
+announcement_confirmed now (Closing s) o = refl
+
+-- an epoch that is the clock can be registered
+told_fits : (b now e : ℕ) (passed : Type 0) → b ≤ now → (t : Bool) → (now == e) ≡ t → StageFits b now passed (if t then Within e else Told e)
+told_fits b now e passed begun true is = let same : now ≡ e = eq_true now e is in record { begun = omega arith; reached = omega arith; near = omega arith; same = λ _. sym same }
+told_fits b now e passed begun false is = tt
+
+stage_confirmed : (b now : ℕ) (passed : Type 0) (s : UnitStage) → b ≤ now → StageFits b now passed s → StageFits b now passed (confirmed now s)
+stage_confirmed b now passed Idle begun k = tt
+stage_confirmed b now passed (Told e) begun k = told_fits b now e passed begun (now == e) refl
+stage_confirmed b now passed (Within e) begun k = k
+stage_confirmed b now passed (Closing s) begun k = tt
+
+pub confirm_law : (b : ℕ) (c : Core) (u : ℕ) (p : UnitPart) → IsSound b c → slice_get c.units u ≡ Some p → IsSound b (confirm c u p)
+confirm_law b c u p s at = let q : UnitPart = after_confirm p (clock c) in let begun = s.clocks.begun in let behind = s.clocks.behind in record {
+  sizes = sizes_unit c.layout c.cur c.dur c.units c.advancer u q s.sizes;
+  clocks = clocks_unit b (clock c) (durable_clock c) c.advancer c.units c.callers u q (s.clocks.of_units u p at) s.clocks;
+  announcements = announcements_same c.told c.units u p q at (announcement_confirmed (clock c) p.stage p.frozen) s.announcements;
+  registration = registration_unit b (clock c) c.advancer c.units u q (stage_confirmed b (clock c) (HasPassed c.advancer u) p.stage (omega arith) (s.registration.each u p at)) s.registration;
+}
+
+-- Withdraw
+pub withdraw_law : (b : ℕ) (c : Core) (u : ℕ) (p : UnitPart) → IsSound b c → slice_get c.units u ≡ Some p → IsSound b (withdraw c u p)
+withdraw_law b c u p s at = let q : UnitPart = after_withdraw p in record {
+  sizes = sizes_unit c.layout c.cur c.dur c.units c.advancer u q s.sizes;
+  clocks = clocks_unit b (clock c) (durable_clock c) c.advancer c.units c.callers u q (s.clocks.of_units u p at) s.clocks;
+  announcements = announcements_unit c.told c.units u 0 p q at refl s.announcements;
+  registration = registration_unit b (clock c) c.advancer c.units u q tt s.registration;
+}
+
+-- Freeze
+announcement_odd : (s : UnitStage) (o : Option ℕ) (w k : ℕ) → is_none o ≡ true → w ≡ announcement s o → made_odd s w ≡ announcement s (Some k)
+announcement_odd Idle o w k n e = e
+announcement_odd (Told x) o w k n e = let e' : w ≡ 2 * x = e ∙ announced_unfrozen x o n in omega arith
+announcement_odd (Within x) o w k n e = let e' : w ≡ 2 * x = e ∙ announced_unfrozen x o n in omega arith
+announcement_odd (Closing s) o w k n e = e
+
+pub freeze_law : (b : ℕ) (c : Core) (u : ℕ) (p : UnitPart) (k : ℕ) (q : CallerPart) → IsSound b c → slice_get c.units u ≡ Some p → slice_get c.callers k ≡ Some q → can_freeze p ≡ true → IsSound b (freeze c u p k q)
+freeze_law b c u p k q s at by may = let r : UnitPart = after_freeze p k in let w : ℕ = get_or c.told u 0 in record {
+  sizes = sizes_unit c.layout c.cur c.dur c.units c.advancer u r s.sizes;
+  clocks = clocks_caller b (clock c) (durable_clock c) c.advancer (set c.units u r) c.callers k (caller_after_freeze q u) (s.clocks.of_callers k q by)
+      (clocks_unit b (clock c) (durable_clock c) c.advancer c.units c.callers u r (s.clocks.of_units u p at) s.clocks);
+  announcements = announcements_unit c.told c.units u (made_odd p.stage w) p r at
+      (announcement_odd p.stage p.frozen w k may (get_or_from_slice_get c.told u (announcement p.stage p.frozen) 0 (s.announcements.each u p at))) s.announcements;
+  registration = registration_unit b (clock c) c.advancer c.units u r (s.registration.each u p at) s.registration;
+}
+
+-- Check
+some_slot : (s : Shape) → IsLayout s → 0 < total_of s
+some_slot s k = let slots = k.some_slots in let more : s.maps * s.slots + 2 * s.slots ≡ total_of s = grind arith in omega arith
+
+-- the unit at hand is one of the store's, and the clock can go on
+pub record CanCheck (s : Shape) (now durable : ℕ) (a : AdvPart) : Type 0 where
+  pub unit : unit_at_hand a < units_of s
+  pub same : durable ≡ now
+  pub room : now < LAST
+
+checks : (s : Shape) (now durable : ℕ) (a : AdvPart) → IsLayout s → can_check now a ≡ true → IsWithinStore s a → ClocksStand a now durable → CanCheck s now durable a
+checks s now durable Rest layout may place stand = record { unit = omega arith; same = stand; room = lt_true now LAST may }
+checks s now durable (Checking j) layout may place stand = record { unit = place; same = stand.0; room = stand.1 }
+checks s now durable (Labels t) layout may place stand = absurd (cc)
+checks s now durable (Fields t f) layout may place stand = absurd (cc)
+checks s now durable (Holding t f v) layout may place stand = absurd (cc)
+checks s now durable Ready layout may place stand = absurd (cc)
+checks s now durable Clocked layout may place stand = absurd (cc)
+
+-- a fact of every place where a check may lead
+each_checked : (P : AdvPart → Type 0) (n now w : ℕ) (a : AdvPart) → ((j : ℕ) → j ≡ unit_at_hand a → P (Checking j)) → (unit_at_hand a + 1 < n → P (Checking (unit_at_hand a + 1))) → P (Labels 0) → P (after_check n now w a)
+each_checked P n now w a here next last = goes (lets_pass now w)
+  where
+    on : (t : Bool) → nat_lt (unit_at_hand a + 1) n ≡ t → P (if t then Checking (unit_at_hand a + 1) else Labels 0)
+    on true is = next (lt_true (unit_at_hand a + 1) n is)
+    on false is = last
+
+    goes : (t : Bool) → P (if t then past_unit n (unit_at_hand a) else Checking (unit_at_hand a))
+    goes true = on (nat_lt (unit_at_hand a + 1) n) refl
+    goes false = here (unit_at_hand a) refl
+
+passed_below : (a : AdvPart) (v : ℕ) → v < unit_at_hand a → HasPassed a v
+passed_below Rest v l = absurd (omega arith)
+passed_below (Checking j) v l = l
+passed_below (Labels s) v l = tt
+passed_below (Fields s f) v l = tt
+passed_below (Holding s f v') v l = tt
+passed_below Ready v l = tt
+passed_below Clocked v l = absurd (omega arith)
+
+nat_cases : (v n : ℕ) → v < n + 1 → (v < n) ⊎ (v ≡ n)
+nat_cases v n l = grind arith
+
+-- which units an advancer has passed after a check: those before, and the one at hand if it lets pass
+now_passed : (n now w : ℕ) (a : AdvPart) (v : ℕ) → v < n → HasPassed (after_check n now w a) v → (v < unit_at_hand a) ⊎ ((v ≡ unit_at_hand a) × (lets_pass now w ≡ true))
+now_passed n now w a v inside h = goes (lets_pass now w) refl h
+  where
+    on : (t : Bool) → nat_lt (unit_at_hand a + 1) n ≡ t → HasPassed (if t then Checking (unit_at_hand a + 1) else Labels 0) v → (v < unit_at_hand a) ⊎ (v ≡ unit_at_hand a)
+    on true is h = nat_cases v (unit_at_hand a) h
+    on false is h = let l : n ≤ unit_at_hand a + 1 = lt_false (unit_at_hand a + 1) n is in nat_cases v (unit_at_hand a) (omega arith)
+
+    goes : (t : Bool) → lets_pass now w ≡ t → HasPassed (if t then past_unit n (unit_at_hand a) else Checking (unit_at_hand a)) v → (v < unit_at_hand a) ⊎ ((v ≡ unit_at_hand a) × (lets_pass now w ≡ true))
+    goes true is h = ⊎_elim inl (λ same. inr (same, is)) (on (nat_lt (unit_at_hand a + 1) n) refl h)
+    goes false is h = inl h
+
+-- a registered unit that lets the advancer pass writes with the clock
+registered_passes : (b now e w : ℕ) (o : Option ℕ) → 2 ≤ b → b ≤ e → e ≤ now → w ≡ announced e o → lets_pass now w ≡ true → e ≡ now
+registered_passes b now e w o low begun reached is pass = ⊎_elim
+    (λ (z : (w == 0) ≡ true). let z' : w ≡ 0 = eq_true w 0 z in absurd (some o is z'))
+    (λ (z : nat_le now (w / 2) ≡ true). let z' : now ≤ w / 2 = le_true now (w / 2) z in let h : w / 2 ≡ e = half o is in omega arith)
+    (either_true (w == 0) (nat_le now (w / 2)) pass)
+  where
+    some : (o : Option ℕ) → w ≡ announced e o → w ≡ 0 → ⊥
+    some None is z = omega arith
+    some (Some k) is z = omega arith
+
+    half : (o : Option ℕ) → w ≡ announced e o → w / 2 ≡ e
+    half None is = omega arith
+    half (Some k) is = omega arith
+
+stage_passed : (b now : ℕ) (before behind : Type 0) (s : UnitStage) → ((e : ℕ) → s ≡ Within e → IsRegistered b now before e → behind → e ≡ now) → StageFits b now before s → StageFits b now behind s
+stage_passed b now before behind Idle more k = tt
+stage_passed b now before behind (Told e) more k = tt
+stage_passed b now before behind (Within e) more k = record { begun = k.begun; reached = k.reached; near = k.near; same = more e refl k }
+stage_passed b now before behind (Closing s) more k = tt
+
+pub check_law : (b : ℕ) (c : Core) (w : ℕ) → IsSound b c → w ≡ get_or c.told (unit_at_hand c.advancer) 0 → can_check (clock c) c.advancer ≡ true → IsSound b (check c w)
+check_law b c w s at may = let sizes = s.sizes in let clocks = s.clocks in let n : ℕ = length c.units in let now : ℕ = clock c in let a : AdvPart = c.advancer in
+    let can = checks c.layout now (durable_clock c) a sizes.layout may sizes.place clocks.stand in let unit = can.unit in record {
+      sizes = record {
+        layout = sizes.layout;
+        current = sizes.current;
+        durable = sizes.durable;
+        unit_count = sizes.unit_count;
+        place = each_checked (IsWithinStore c.layout) n now w a (λ j is. omega arith) (λ l. omega (arith, sizes.unit_count)) (some_slot c.layout sizes.layout);
+      };
+      clocks = record {
+        low = clocks.low;
+        begun = clocks.begun;
+        behind = clocks.behind;
+        last = clocks.last;
+        stand = each_checked (λ x. ClocksStand x now (durable_clock c)) n now w a (λ j is. (can.same, can.room)) (λ l. (can.same, can.room)) (can.same, can.room);
+        of_units = clocks.of_units;
+        of_callers = clocks.of_callers;
+      };
+      announcements = s.announcements;
+      registration = record {
+        each = λ v p h. stage_passed b now (HasPassed a v) (HasPassed (after_check n now w a) v) p.stage
+            (λ e is k behind. ⊎_elim
+            (λ l. k.same (passed_below a v l))
+            (λ (t : (v ≡ unit_at_hand a) × (lets_pass now w ≡ true)). registered_passes b now e w p.frozen clocks.low k.begun k.reached
+            (at ∙ (ap (λ (i : ℕ). get_or c.told i 0) (sym t.0) ∙ (get_or_from_slice_get c.told v (announcement p.stage p.frozen) 0 (s.announcements.each v p h) ∙ ap (λ (x : UnitStage). announcement x p.frozen) is))) t.1)
+            (now_passed n now w a v (slice_get_within c.units v p h) behind))
+            (s.registration.each v p h);
+      };
+    }
+
+-- SetClock
+passed_ready : (a : AdvPart) → is_ready a ≡ true → (u : ℕ) → HasPassed a u
+passed_ready Rest e u = absurd (cc)
+passed_ready (Checking j) e u = absurd (cc)
+passed_ready (Labels s) e u = absurd (cc)
+passed_ready (Fields s f) e u = absurd (cc)
+passed_ready (Holding s f v) e u = absurd (cc)
+passed_ready Ready e u = tt
+passed_ready Clocked e u = absurd (cc)
+
+stands_ready : (a : AdvPart) (now durable : ℕ) → is_ready a ≡ true → ClocksStand a now durable → (durable ≡ now) × (now < LAST)
+stands_ready Rest now durable e k = absurd (cc)
+stands_ready (Checking j) now durable e k = absurd (cc)
+stands_ready (Labels s) now durable e k = absurd (cc)
+stands_ready (Fields s f) now durable e k = absurd (cc)
+stands_ready (Holding s f v) now durable e k = absurd (cc)
+stands_ready Ready now durable e k = k
+stands_ready Clocked now durable e k = absurd (cc)
+
+-- the clock moves on where every unit was passed
+stage_later : (b now later : ℕ) (passed : Type 0) (s : UnitStage) → passed → later ≡ now + 1 → StageFits b now passed s → StageFits b later ⊥ s
+stage_later b now later passed Idle x is k = tt
+stage_later b now later passed (Told e) x is k = tt
+stage_later b now later passed (Within e) x is k = let same : e ≡ now = k.same x in let begun = k.begun in record { begun = begun; reached = omega arith; near = omega arith; same = λ z. absurd z }
+stage_later b now later passed (Closing s) x is k = tt
+
+some_words : (s : Shape) (l : List ℕ) → length l ≡ words_of s → 0 < length l
+some_words s l e = omega arith
+
+-- a store of the next clock makes it the clock
+pub clock_set : (b : ℕ) (c : Core) → IsSound b c → is_ready c.advancer ≡ true → clock (set_clock c) ≡ clock c + 1
+clock_set b c s ready = let k = stands_ready c.advancer (clock c) (durable_clock c) ready s.clocks.stand in let room : clock c < LAST = k.1 in let small : next_clock (clock c) ≡ clock c + 1 = omega arith in
+    first_set c.cur (next_clock (clock c)) 0 (some_words c.layout c.cur s.sizes.current) ∙ small
+
+pub set_clock_law : (b : ℕ) (c : Core) → IsSound b c → is_ready c.advancer ≡ true → IsSound b (set_clock c)
+set_clock_law b c s ready = let sizes = s.sizes in let clocks = s.clocks in let behind = clocks.behind in let k = stands_ready c.advancer (clock c) (durable_clock c) ready clocks.stand in
+    let same : durable_clock c ≡ clock c = k.0 in let room : clock c < LAST = k.1 in let later : clock (set_clock c) ≡ clock c + 1 = clock_set b c s ready in record {
+      sizes = record {
+        layout = sizes.layout;
+        current = length-set c.cur 0 (next_clock (clock c)) ∙ sizes.current;
+        durable = sizes.durable;
+        unit_count = sizes.unit_count;
+        place = tt;
+      };
+      clocks = record {
+        low = clocks.low;
+        begun = clocks.begun;
+        behind = omega arith;
+        last = omega arith;
+        stand = omega arith;
+        of_units = clocks.of_units;
+        of_callers = clocks.of_callers;
+      };
+      announcements = s.announcements;
+      registration = record { each = λ u p h. stage_later b (clock c) (clock (set_clock c)) (HasPassed c.advancer u) p.stage (passed_ready c.advancer ready u) later (s.registration.each u p h) };
+    }
+
+-- PersistClock
+stands_clocked : (a : AdvPart) (now durable : ℕ) → is_clocked a ≡ true → ClocksStand a now durable → durable + 1 ≡ now
+stands_clocked Rest now durable e k = absurd (cc)
+stands_clocked (Checking j) now durable e k = absurd (cc)
+stands_clocked (Labels s) now durable e k = absurd (cc)
+stands_clocked (Fields s f) now durable e k = absurd (cc)
+stands_clocked (Holding s f v) now durable e k = absurd (cc)
+stands_clocked Ready now durable e k = absurd (cc)
+stands_clocked Clocked now durable e k = k
+
+pub clock_persisted : (b : ℕ) (c : Core) → IsSound b c → durable_clock (persist_clock c) ≡ clock c
+clock_persisted b c s = first_set c.dur (clock c) 0 (some_words c.layout c.dur s.sizes.durable)
+
+pub persist_clock_law : (b : ℕ) (c : Core) → IsSound b c → is_clocked c.advancer ≡ true → IsSound b (persist_clock c)
+persist_clock_law b c s clocked = let sizes = s.sizes in let clocks = s.clocks in let begun = clocks.begun in let last = clocks.last in let behind = clocks.behind in
+    let durable : durable_clock (persist_clock c) ≡ clock c = clock_persisted b c s in record {
+      sizes = record {
+        layout = sizes.layout;
+        current = sizes.current;
+        durable = length-set c.dur 0 (clock c) ∙ sizes.durable;
+        unit_count = sizes.unit_count;
+        place = tt;
+      };
+      clocks = record {
+        low = clocks.low;
+        begun = omega arith;
+        behind = omega arith;
+        last = last;
+        stand = durable;
+        of_units = λ u p h. let l = clocks.of_units u p h in omega arith;
+        of_callers = λ k q h. let l = clocks.of_callers k q h in omega arith;
+      };
+      announcements = s.announcements;
+      registration = record { each = λ u p h. stage_passed b (clock c) (HasPassed c.advancer u) ⊥ p.stage (λ e is k z. absurd z) (s.registration.each u p h) };
+    }

@@ -1,0 +1,5 @@
+pub mod Places
+pub mod Events
+pub mod Fresh
+pub mod Sound
+pub mod Runs
