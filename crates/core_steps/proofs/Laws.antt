@@ -1,5 +1,5 @@
 -- Each kind of step keeps a core sound.
-use Rattle.std.proofs.Common.{◌≡◌, ℕ, ◌+◌, ◌*◌, ◌/◌, ◌<◌, ◌≤◌, ◌⊎◌, List, length, set, get_or, sym, refl, ap, ◌∙◌, inl, inr, ⊎_elim, arith, length-set, Bool, true, false}
+use Rattle.std.proofs.Common.{◌≡◌, ℕ, ◌+◌, ◌*◌, ◌/◌, ◌<◌, ◌≤◌, ◌⊎◌, List, length, set, get_or, sym, refl, ap, ◌∙◌, subst, inl, inr, ⊎_elim, arith, length-set, Bool, true, false}
 use Rattle.std.specs.Prelude.{slice_get, Option, Some, None, is_none, nat_le, nat_lt, ◌==◌, ◌&&◌, ◌||◌, if◌then◌else◌}
 use Rattle.std.proofs.lemmas.Bool.Decides.{nat_tests}
 use Rattle.std.proofs.lemmas.Option.{slice_get_within, get_or_from_slice_get}
@@ -13,7 +13,7 @@ use Rattle.core_steps.specs.declared.parts.UnitStage.TheVariants.{Idle, Told, Wi
 use Rattle.core_steps.specs.declared.parts.AdvPart.{AdvPart}
 use Rattle.core_steps.specs.declared.parts.AdvPart.TheVariants.{Rest, Checking, Labels, Fields, Holding, Ready, Clocked}
 use Rattle.core_steps.specs.Events.{clock, durable_clock, is_idle, is_told, is_unfrozen, can_tell, after_tell, tell, confirmed, after_confirm, confirm, after_withdraw, withdraw, can_freeze, made_odd, after_freeze, caller_after_freeze, freeze, can_check, unit_at_hand, lets_pass, past_unit, after_check, check, is_ready, next_clock, set_clock, is_clocked, persist_clock}
-use Rattle.core_steps.specs.Sound.{IsWithinStore, ClocksStand, announced, announcement, HasPassed, IsRegistered, StageFits, IsSound}
+use Rattle.core_steps.specs.Sound.{IsUnderWay, IsWithinStore, ClocksStand, announced, announcement, HasPassed, IsRegistered, StageFits, IsSound}
 use Rattle.core_steps.proofs.Rows.{first_set}
 use Rattle.core_steps.proofs.Keeps.{sizes_unit, clocks_unit, announcements_unit, announcements_same, registration_unit, clocks_caller}
 
@@ -107,20 +107,25 @@ freeze_law b c u p k q s at by may = let r : UnitPart = after_freeze p k in let 
 some_slot : (s : Shape) → IsLayout s → 0 < total_of s
 some_slot s k = let slots = k.some_slots in let more : s.maps * s.slots + 2 * s.slots ≡ total_of s = grind arith in omega arith
 
--- the unit at hand is one of the store's, and the clock can go on
-pub record CanCheck (s : Shape) (now durable : ℕ) (a : AdvPart) : Type 0 where
-  pub unit : unit_at_hand a < units_of s
-  pub same : durable ≡ now
-  pub room : now < LAST
+-- where a check is allowed, the unit at hand is one of the store's
+hand_within : (s : Shape) (now : ℕ) (a : AdvPart) → IsLayout s → can_check now a ≡ true → IsWithinStore s a → unit_at_hand a < units_of s
+hand_within s now Rest layout may place = omega arith
+hand_within s now (Checking j) layout may place = place
+hand_within s now (Labels t) layout may place = absurd (cc)
+hand_within s now (Fields t f) layout may place = absurd (cc)
+hand_within s now (Holding t f v) layout may place = absurd (cc)
+hand_within s now Ready layout may place = absurd (cc)
+hand_within s now Clocked layout may place = absurd (cc)
 
-checks : (s : Shape) (now durable : ℕ) (a : AdvPart) → IsLayout s → can_check now a ≡ true → IsWithinStore s a → ClocksStand a now durable → CanCheck s now durable a
-checks s now durable Rest layout may place stand = record { unit = omega arith; same = stand; room = lt_true now LAST may }
-checks s now durable (Checking j) layout may place stand = record { unit = place; same = stand.0; room = stand.1 }
-checks s now durable (Labels t) layout may place stand = absurd (cc)
-checks s now durable (Fields t f) layout may place stand = absurd (cc)
-checks s now durable (Holding t f v) layout may place stand = absurd (cc)
-checks s now durable Ready layout may place stand = absurd (cc)
-checks s now durable Clocked layout may place stand = absurd (cc)
+-- a check begins or goes on with an advance
+checks : (now durable : ℕ) (a : AdvPart) → can_check now a ≡ true → ClocksStand a now durable → IsUnderWay now durable
+checks now durable Rest may stand = record { same = stand; room = lt_true now LAST may }
+checks now durable (Checking j) may stand = stand
+checks now durable (Labels t) may stand = stand
+checks now durable (Fields t f) may stand = stand
+checks now durable (Holding t f v) may stand = stand
+checks now durable Ready may stand = stand
+checks now durable Clocked may stand = absurd (cc)
 
 -- a fact of every place where a check may lead
 each_checked : (P : AdvPart → Type 0) (n now w : ℕ) (a : AdvPart) → ((j : ℕ) → j ≡ unit_at_hand a → P (Checking j)) → (unit_at_hand a + 1 < n → P (Checking (unit_at_hand a + 1))) → P (Labels 0) → P (after_check n now w a)
@@ -181,7 +186,7 @@ stage_passed b now before behind (Closing s) more k = tt
 
 pub check_law : (b : ℕ) (c : Core) (w : ℕ) → IsSound b c → w ≡ get_or c.told (unit_at_hand c.advancer) 0 → can_check (clock c) c.advancer ≡ true → IsSound b (check c w)
 check_law b c w s at may = let sizes = s.sizes in let clocks = s.clocks in let n : ℕ = length c.units in let now : ℕ = clock c in let a : AdvPart = c.advancer in
-    let can = checks c.layout now (durable_clock c) a sizes.layout may sizes.place clocks.stand in let unit = can.unit in record {
+    let way = checks now (durable_clock c) a may clocks.stand in let hand = hand_within c.layout now a sizes.layout may sizes.place in record {
       sizes = record {
         layout = sizes.layout;
         current = sizes.current;
@@ -194,7 +199,7 @@ check_law b c w s at may = let sizes = s.sizes in let clocks = s.clocks in let n
         begun = clocks.begun;
         behind = clocks.behind;
         last = clocks.last;
-        stand = each_checked (λ x. ClocksStand x now (durable_clock c)) n now w a (λ j is. (can.same, can.room)) (λ l. (can.same, can.room)) (can.same, can.room);
+        stand = each_checked (λ x. ClocksStand x now (durable_clock c)) n now w a (λ j is. way) (λ l. way) way;
         of_units = clocks.of_units;
         of_callers = clocks.of_callers;
       };
@@ -211,23 +216,17 @@ check_law b c w s at may = let sizes = s.sizes in let clocks = s.clocks in let n
     }
 
 -- SetClock
-passed_ready : (a : AdvPart) → is_ready a ≡ true → (u : ℕ) → HasPassed a u
-passed_ready Rest e u = absurd (cc)
-passed_ready (Checking j) e u = absurd (cc)
-passed_ready (Labels s) e u = absurd (cc)
-passed_ready (Fields s f) e u = absurd (cc)
-passed_ready (Holding s f v) e u = absurd (cc)
-passed_ready Ready e u = tt
-passed_ready Clocked e u = absurd (cc)
+ready_is : (a : AdvPart) → is_ready a ≡ true → Ready ≡ a
+ready_is Rest e = absurd (cc)
+ready_is (Checking j) e = absurd (cc)
+ready_is (Labels s) e = absurd (cc)
+ready_is (Fields s f) e = absurd (cc)
+ready_is (Holding s f v) e = absurd (cc)
+ready_is Ready e = refl
+ready_is Clocked e = absurd (cc)
 
-stands_ready : (a : AdvPart) (now durable : ℕ) → is_ready a ≡ true → ClocksStand a now durable → (durable ≡ now) × (now < LAST)
-stands_ready Rest now durable e k = absurd (cc)
-stands_ready (Checking j) now durable e k = absurd (cc)
-stands_ready (Labels s) now durable e k = absurd (cc)
-stands_ready (Fields s f) now durable e k = absurd (cc)
-stands_ready (Holding s f v) now durable e k = absurd (cc)
-stands_ready Ready now durable e k = k
-stands_ready Clocked now durable e k = absurd (cc)
+stands_ready : (a : AdvPart) (now durable : ℕ) → is_ready a ≡ true → ClocksStand a now durable → IsUnderWay now durable
+stands_ready a now durable ready k = subst (λ (x : AdvPart). ClocksStand x now durable) (sym (ready_is a ready)) k
 
 -- the clock moves on where every unit was passed
 stage_later : (b now later : ℕ) (passed : Type 0) (s : UnitStage) → passed → later ≡ now + 1 → StageFits b now passed s → StageFits b later ⊥ s
@@ -241,12 +240,12 @@ some_words s l e = omega arith
 
 -- a store of the next clock makes it the clock
 pub clock_set : (b : ℕ) (c : Core) → IsSound b c → is_ready c.advancer ≡ true → clock (set_clock c) ≡ clock c + 1
-clock_set b c s ready = let k = stands_ready c.advancer (clock c) (durable_clock c) ready s.clocks.stand in let room : clock c < LAST = k.1 in let small : next_clock (clock c) ≡ clock c + 1 = omega arith in
+clock_set b c s ready = let way = stands_ready c.advancer (clock c) (durable_clock c) ready s.clocks.stand in let room = way.room in let small : next_clock (clock c) ≡ clock c + 1 = omega arith in
     first_set c.cur (next_clock (clock c)) 0 (some_words c.layout c.cur s.sizes.current) ∙ small
 
 pub set_clock_law : (b : ℕ) (c : Core) → IsSound b c → is_ready c.advancer ≡ true → IsSound b (set_clock c)
-set_clock_law b c s ready = let sizes = s.sizes in let clocks = s.clocks in let behind = clocks.behind in let k = stands_ready c.advancer (clock c) (durable_clock c) ready clocks.stand in
-    let same : durable_clock c ≡ clock c = k.0 in let room : clock c < LAST = k.1 in let later : clock (set_clock c) ≡ clock c + 1 = clock_set b c s ready in record {
+set_clock_law b c s ready = let sizes = s.sizes in let clocks = s.clocks in let behind = clocks.behind in let way = stands_ready c.advancer (clock c) (durable_clock c) ready clocks.stand in
+    let same = way.same in let room = way.room in let later : clock (set_clock c) ≡ clock c + 1 = clock_set b c s ready in record {
       sizes = record {
         layout = sizes.layout;
         current = length-set c.cur 0 (next_clock (clock c)) ∙ sizes.current;
@@ -264,19 +263,10 @@ set_clock_law b c s ready = let sizes = s.sizes in let clocks = s.clocks in let 
         of_callers = clocks.of_callers;
       };
       announcements = s.announcements;
-      registration = record { each = λ u p h. stage_later b (clock c) (clock (set_clock c)) (HasPassed c.advancer u) p.stage (passed_ready c.advancer ready u) later (s.registration.each u p h) };
+      registration = record { each = λ u p h. stage_later b (clock c) (clock (set_clock c)) (HasPassed c.advancer u) p.stage (subst (λ (x : AdvPart). HasPassed x u) (ready_is c.advancer ready) tt) later (s.registration.each u p h) };
     }
 
 -- PersistClock
-stands_clocked : (a : AdvPart) (now durable : ℕ) → is_clocked a ≡ true → ClocksStand a now durable → durable + 1 ≡ now
-stands_clocked Rest now durable e k = absurd (cc)
-stands_clocked (Checking j) now durable e k = absurd (cc)
-stands_clocked (Labels s) now durable e k = absurd (cc)
-stands_clocked (Fields s f) now durable e k = absurd (cc)
-stands_clocked (Holding s f v) now durable e k = absurd (cc)
-stands_clocked Ready now durable e k = absurd (cc)
-stands_clocked Clocked now durable e k = k
-
 pub clock_persisted : (b : ℕ) (c : Core) → IsSound b c → durable_clock (persist_clock c) ≡ clock c
 clock_persisted b c s = first_set c.dur (clock c) 0 (some_words c.layout c.dur s.sizes.durable)
 

@@ -8,9 +8,9 @@ use Rattle.core_steps.specs.declared.parts.Core.{Core}
 use Rattle.core_steps.specs.declared.parts.UnitPart.{UnitPart}
 use Rattle.core_steps.specs.declared.parts.CallerPart.{CallerPart}
 use Rattle.core_steps.specs.declared.parts.UnitStage.{UnitStage}
-use Rattle.core_steps.specs.declared.parts.UnitStage.TheVariants.{Idle, Told, Within, Closing}
+use Rattle.core_steps.specs.declared.parts.UnitStage.TheVariants.{Idle, Told, Within}
 use Rattle.core_steps.specs.declared.parts.AdvPart.{AdvPart}
-use Rattle.core_steps.specs.declared.parts.AdvPart.TheVariants.{Rest, Checking, Labels, Fields, Holding, Ready, Clocked}
+use Rattle.core_steps.specs.declared.parts.AdvPart.TheVariants.{Rest, Checking, Labels, Ready, Clocked}
 use Rattle.core_steps.specs.Places.{row_test, on_row}
 
 -- the clock, and the clock that would outlive a crash
@@ -23,21 +23,15 @@ durable_clock c = clock_of c.dur
 -- the stages of a unit
 abbrev pub is_idle : UnitStage → Bool
 is_idle Idle = true
-is_idle (Told e) = false
-is_idle (Within e) = false
-is_idle (Closing s) = false
+is_idle _ = false
 
 abbrev pub is_told : UnitStage → Bool
-is_told Idle = false
 is_told (Told e) = true
-is_told (Within e) = false
-is_told (Closing s) = false
+is_told _ = false
 
 abbrev pub is_within : UnitStage → Bool
-is_within Idle = false
-is_within (Told e) = false
 is_within (Within e) = true
-is_within (Closing s) = false
+is_within _ = false
 
 -- a unit in which a caller was cut makes no step
 abbrev pub is_unfrozen : UnitPart → Bool
@@ -66,10 +60,8 @@ abbrev pub can_confirm : UnitPart → Bool
 can_confirm p = is_unfrozen p && is_told p.stage
 
 abbrev pub confirmed : ℕ → UnitStage → UnitStage
-confirmed now Idle = Idle
 confirmed now (Told e) = if now == e then Within e else Told e
-confirmed now (Within e) = Within e
-confirmed now (Closing s) = Closing s
+confirmed now stage = stage
 
 abbrev pub after_confirm : UnitPart → ℕ → UnitPart
 after_confirm p now = record p { stage = confirmed now p.stage }
@@ -95,10 +87,9 @@ abbrev pub can_freeze : UnitPart → Bool
 can_freeze p = is_unfrozen p
 
 abbrev pub made_odd : UnitStage → ℕ → ℕ
-made_odd Idle word = word
 made_odd (Told e) word = 2 * (word / 2) + 1
 made_odd (Within e) word = 2 * (word / 2) + 1
-made_odd (Closing s) word = word
+made_odd _ word = word
 
 abbrev pub after_freeze : UnitPart → ℕ → UnitPart
 after_freeze p k = record p { frozen = Some k }
@@ -117,21 +108,12 @@ freeze c u p k q = record c {
 abbrev pub can_check : ℕ → AdvPart → Bool
 can_check now Rest = nat_lt now LAST
 can_check now (Checking j) = true
-can_check now (Labels s) = false
-can_check now (Fields s f) = false
-can_check now (Holding s f v) = false
-can_check now Ready = false
-can_check now Clocked = false
+can_check now _ = false
 
 -- the unit whose announcement is loaded next
 abbrev pub unit_at_hand : AdvPart → ℕ
-unit_at_hand Rest = 0
 unit_at_hand (Checking j) = j
-unit_at_hand (Labels s) = 0
-unit_at_hand (Fields s f) = 0
-unit_at_hand (Holding s f v) = 0
-unit_at_hand Ready = 0
-unit_at_hand Clocked = 0
+unit_at_hand _ = 0
 
 -- nothing is announced, or an epoch that isn't below the clock
 abbrev pub lets_pass : ℕ → ℕ → Bool
@@ -146,31 +128,26 @@ after_check n now word a = if lets_pass now word then past_unit n (unit_at_hand 
 abbrev pub check : Core → ℕ → Core
 check c word = record c { advancer = after_check (length c.units) (clock c) word c.advancer }
 
--- SetClock. A word holds at most 2^64 - 1; the clock of a sound core stays far below.
+-- SetClock
 abbrev pub is_ready : AdvPart → Bool
-is_ready Rest = false
-is_ready (Checking j) = false
-is_ready (Labels s) = false
-is_ready (Fields s f) = false
-is_ready (Holding s f v) = false
 is_ready Ready = true
-is_ready Clocked = false
+is_ready _ = false
 
+-- the greatest number that a word can hold
+abbrev pub greatest_word : ℕ
+greatest_word = 18446744073709551615
+
+-- one more; the clock of a sound core never comes near to where the word is full
 abbrev pub next_clock : ℕ → ℕ
-next_clock now = min (now + 1) 18446744073709551615
+next_clock now = min (now + 1) greatest_word
 
 abbrev pub set_clock : Core → Core
 set_clock c = record c { cur = slice_set c.cur 0 (next_clock (clock c)); advancer = Clocked }
 
 -- PersistClock
 abbrev pub is_clocked : AdvPart → Bool
-is_clocked Rest = false
-is_clocked (Checking j) = false
-is_clocked (Labels s) = false
-is_clocked (Fields s f) = false
-is_clocked (Holding s f v) = false
-is_clocked Ready = false
 is_clocked Clocked = true
+is_clocked _ = false
 
 abbrev pub persist_clock : Core → Core
 persist_clock c = record c { dur = slice_set c.dur 0 (clock c); advancer = Rest }

@@ -6,21 +6,19 @@ use Rattle.core_steps.specs.declared.parts.Core.{Core}
 use Rattle.core_steps.specs.declared.parts.UnitPart.{UnitPart}
 use Rattle.core_steps.specs.declared.parts.CallerPart.{CallerPart}
 use Rattle.core_steps.specs.declared.parts.UnitStage.{UnitStage}
-use Rattle.core_steps.specs.declared.parts.UnitStage.TheVariants.{Idle, Told, Within, Closing}
+use Rattle.core_steps.specs.declared.parts.UnitStage.TheVariants.{Told, Within}
 use Rattle.core_steps.specs.declared.parts.AdvPart.{AdvPart}
-use Rattle.core_steps.specs.declared.parts.AdvPart.TheVariants.{Rest, Checking, Labels, Fields, Holding, Ready, Clocked}
+use Rattle.core_steps.specs.declared.parts.AdvPart.TheVariants.{Rest, Checking, Labels, Fields, Holding, Clocked}
 use Rattle.core_steps.specs.Places.{EachAt}
 use Rattle.core_steps.specs.Events.{clock, durable_clock}
 
 -- the advancer stands at a unit or a slot that the store has
 abbrev pub IsWithinStore : Shape → AdvPart → Type 0
-IsWithinStore s Rest = Unit {0}
 IsWithinStore s (Checking j) = j < units_of s
 IsWithinStore s (Labels slot) = slot < total_of s
 IsWithinStore s (Fields slot field) = (slot < total_of s) × (field < FIELDS)
 IsWithinStore s (Holding slot field value) = (slot < total_of s) × (field < FIELDS)
-IsWithinStore s Ready = Unit {0}
-IsWithinStore s Clocked = Unit {0}
+IsWithinStore s _ = Unit {0}
 
 -- the core has as many words and units as its layout says
 pub record Sizes (s : Shape) (cur dur : List ℕ) (units : List UnitPart) (a : AdvPart) : Type 0 where
@@ -30,16 +28,16 @@ pub record Sizes (s : Shape) (cur dur : List ℕ) (units : List UnitPart) (a : A
   pub unit_count : length units ≡ units_of s
   pub place : IsWithinStore s a
 
--- Where the two clocks stand: the durable one is behind only between the store of the clock and its
--- write-back, and the clock can go on wherever an advance is under way.
+-- while an advance is under way, both clocks are one, and there is a next one
+pub record IsUnderWay (now durable : ℕ) : Type 0 where
+  pub same : durable ≡ now
+  pub room : now < LAST
+
+-- the durable clock is behind only between the store of the clock and its write-back
 abbrev pub ClocksStand : AdvPart → ℕ → ℕ → Type 0
 ClocksStand Rest now durable = durable ≡ now
-ClocksStand (Checking j) now durable = (durable ≡ now) × (now < LAST)
-ClocksStand (Labels s) now durable = (durable ≡ now) × (now < LAST)
-ClocksStand (Fields s f) now durable = (durable ≡ now) × (now < LAST)
-ClocksStand (Holding s f v) now durable = (durable ≡ now) × (now < LAST)
-ClocksStand Ready now durable = (durable ≡ now) × (now < LAST)
 ClocksStand Clocked now durable = durable + 1 ≡ now
+ClocksStand _ now durable = IsUnderWay now durable
 
 -- Of a store that was opened at the clock base. Nobody has loaded a durable clock that wasn't reached.
 pub record Clocks (base now durable : ℕ) (a : AdvPart) (units : List UnitPart) (callers : List CallerPart) : Type 0 where
@@ -57,10 +55,9 @@ announced e None = 2 * e
 announced e (Some k) = 2 * e + 1
 
 abbrev pub announcement : UnitStage → Option ℕ → ℕ
-announcement Idle frozen = 0
 announcement (Told e) frozen = announced e frozen
 announcement (Within e) frozen = announced e frozen
-announcement (Closing s) frozen = 0
+announcement _ frozen = 0
 
 -- each unit's announcement is that of its stage
 pub record Announcements (told : List ℕ) (units : List UnitPart) : Type 0 where
@@ -71,11 +68,8 @@ pub record Announcements (told : List ℕ) (units : List UnitPart) : Type 0 wher
 abbrev pub HasPassed : AdvPart → ℕ → Type 0
 HasPassed Rest u = ⊥
 HasPassed (Checking j) u = u < j
-HasPassed (Labels s) u = Unit {0}
-HasPassed (Fields s f) u = Unit {0}
-HasPassed (Holding s f v) u = Unit {0}
-HasPassed Ready u = Unit {0}
 HasPassed Clocked u = ⊥
+HasPassed _ u = Unit {0}
 
 -- A registered unit writes with the clock as its epoch, or with the one before; once it was passed only with
 -- the clock.
@@ -86,10 +80,8 @@ pub record IsRegistered (base now : ℕ) (passed : Type 0) (e : ℕ) : Type 0 wh
   pub same : passed → e ≡ now
 
 abbrev pub StageFits : ℕ → ℕ → Type 0 → UnitStage → Type 0
-StageFits base now passed Idle = Unit {0}
-StageFits base now passed (Told e) = Unit {0}
 StageFits base now passed (Within e) = IsRegistered base now passed e
-StageFits base now passed (Closing s) = Unit {0}
+StageFits base now passed _ = Unit {0}
 
 pub record Registration (base now : ℕ) (a : AdvPart) (units : List UnitPart) : Type 0 where
   pub each : EachAt (λ u p. StageFits base now (HasPassed a u) p.stage) units

@@ -18,3 +18,6 @@ pub use machine::{StepRefusal, soundness_lasts, step};
 pub use parts::{
     AdvPart, CallerPart, Core, Mark, Note, Part, Retired, UnitPart, UnitStage, Writing,
 };
+
+#[cfg(test)]
+mod tests;
