@@ -9,13 +9,17 @@ use Rattle.core_steps.specs.declared.parts.Core.{Core}
 use Rattle.core_steps.specs.declared.parts.UnitPart.{UnitPart}
 use Rattle.core_steps.specs.declared.parts.CallerPart.{CallerPart}
 use Rattle.core_steps.specs.Places.{row_test, on_row}
-use Rattle.core_steps.specs.Events.{can_tell, can_confirm, can_withdraw, can_freeze, unit_at_hand, tell, confirm, withdraw, freeze, is_allowed, after}
+use Rattle.core_steps.specs.Announcing.{can_tell, can_confirm, can_withdraw, can_freeze, tell, confirm, withdraw, freeze}
+use Rattle.core_steps.specs.Advancing.{can_check, unit_at_hand}
+use Rattle.core_steps.specs.Events.{is_allowed, after}
 use Rattle.core_steps.specs.declared.fresh.TheConstants.{FIRST_CLOCK}
 use Rattle.core_steps.specs.Fresh.{fresh_unit, fresh_caller, fresh}
 use Rattle.core_steps.specs.Sound.{announcement, StageFits, IsSound}
 use Rattle.core_steps.specs.Runs.{are_allowed, SoundnessLasts}
 use Rattle.core_steps.proofs.Rows.{row_copy, copy_row}
-use Rattle.core_steps.proofs.Laws.{both, tell_law, confirm_law, withdraw_law, freeze_law, check_law, set_clock_law, persist_clock_law}
+use Rattle.core_steps.proofs.Tests.{both}
+use Rattle.core_steps.proofs.UnitLaws.{tell_law, confirm_law, withdraw_law, freeze_law}
+use Rattle.core_steps.proofs.ClockLaws.{check_law, set_clock_law, persist_clock_law}
 
 -- what follows from the test of an item that was found
 on_test : {A : Type 0} (P : Core → Type 0) (o : Option A) (c : Core) (f : A → Bool) (g : A → Core) → ((x : A) → o ≡ Some x → f x ≡ true → P (g x)) → row_test o f ≡ true → P (on_row o c g)

@@ -10,7 +10,7 @@ use Rattle.core_steps.specs.declared.parts.UnitStage.TheVariants.{Told, Within}
 use Rattle.core_steps.specs.declared.parts.AdvPart.{AdvPart}
 use Rattle.core_steps.specs.declared.parts.AdvPart.TheVariants.{Rest, Checking, Labels, Fields, Holding, Clocked}
 use Rattle.core_steps.specs.Places.{EachAt}
-use Rattle.core_steps.specs.Events.{clock, durable_clock}
+use Rattle.core_steps.specs.Clock.{clock, durable_clock}
 
 -- the advancer stands at a unit or a slot that the store has
 abbrev pub IsWithinStore : Shape → AdvPart → Type 0

@@ -5,16 +5,17 @@
 //! and what each of them leaves.
 #![tactic(auto)]
 
-mod conditions;
+mod advancing;
+mod announcing;
 mod event;
 mod fresh;
 mod machine;
 mod parts;
+mod words;
 
-pub use conditions::allowed;
 pub use event::Event;
 pub use fresh::FIRST_CLOCK;
-pub use machine::{StepRefusal, soundness_lasts, step};
+pub use machine::{StepRefusal, allowed, soundness_lasts, step};
 pub use parts::{
     AdvPart, CallerPart, Core, Mark, Note, Part, Retired, UnitPart, UnitStage, Writing,
 };

@@ -1,5 +1,5 @@
 // Steps on the core of a small store.
-use crate::conditions::word;
+use crate::words::word;
 use crate::{AdvPart, Core, Event, StepRefusal, UnitStage, step};
 use mont_base::Layout;
 use std::alloc::Global;
