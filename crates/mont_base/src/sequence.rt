@@ -1,5 +1,7 @@
 // A vector that contracts see as the list of its items.
 ghost use Rattle.std.specs.Prelude.{◌≡◌, ◌==◌, ◌<◌, [], ◌∷◌, ◌++◌, length, slice_get, slice_set, Some, None, MatchOption, OnOk, OnErr};
+ghost use Rattle.std.specs.Borrow.{sem, Lends};
+ghost use Rattle.mont_base.specs.contracts.sequence.Sequence.{the_row};
 
 use std::alloc::{AllocError, Global};
 use std::marker::Model;
@@ -74,6 +76,15 @@ impl<T> Sequence<T> {
         } else {
             None
         }
+    }
+
+    /// The item at a place, to be changed there.
+    pub fn item_mut(&mut self, place: u64) -> &mut T
+        requires { place < length self.old }
+        ensures* writes_back { sem 𝓛 (Lends (the_row T.row) T.row self.entry result (slice_set self.old place)) }
+        ensures value { slice_get self.old place ≡ Some result.now }
+    {
+        &mut self.items[place as usize]
     }
 
     /// Adds an item at the end. At `Err` nothing changed.

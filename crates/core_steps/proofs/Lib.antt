@@ -1,0 +1,6 @@
+pub mod Tests
+pub mod Rows
+pub mod Keeps
+pub mod UnitLaws
+pub mod ClockLaws
+pub mod Steps
