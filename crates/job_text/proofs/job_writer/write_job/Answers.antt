@@ -2,7 +2,7 @@ use Rattle.std.proofs.Common.{◌≡◌, ℕ, ap, ◌∙◌, take, Vec, Global}
 use Rattle.std.specs.String.{string_bytes}
 use Rattle.mont_base.specs.Text.{text_of}
 use Rattle.job_text.proofs.Front.{first_lines}
-use Rattle.job_text.proofs.Written.{written_header, written_line, written_job}
+use Rattle.job_text.proofs.JobWritten.{written_header, written_line, written_job}
 use Rattle.job_text.proofs.job_writer.write_job.Goals as goal
 
 pub loop-line-init : goal.loop-line-init
