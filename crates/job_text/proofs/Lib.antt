@@ -10,5 +10,4 @@ pub mod Verdicts
 pub mod Jobs
 pub mod Reading
 pub mod Written
-pub mod FaithfulParts
 pub mod JobWritten

@@ -10,8 +10,8 @@ mod map_state;
 mod objects;
 mod pair;
 mod queue_state;
-mod same;
 mod recovery;
+mod same;
 mod structure;
 #[cfg(test)]
 mod tests;
@@ -19,14 +19,13 @@ mod unit_state;
 
 pub use contents::Contents;
 pub use graph_state::GraphState;
-pub use history::{cut_at, is_legal, state_after};
-pub use image::records;
 pub use history::{cut_at, is_legal, state_after, unit_of_op};
+pub use image::records;
 pub use map_state::MapState;
 pub use objects::live_objects;
 pub use pair::{pair_body, pair_of};
 pub use queue_state::QueueState;
-pub use same::same_state;
 pub use recovery::recover;
+pub use same::same_state;
 pub use structure::{BuildRefusal, build};
 pub use unit_state::UnitState;
