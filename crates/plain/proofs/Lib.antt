@@ -3,3 +3,5 @@ pub mod Legal
 pub mod Lists
 pub mod Maps
 pub mod Recovered
+pub mod Single
+pub mod Sound
