@@ -4,3 +4,5 @@ pub mod Lists
 pub mod Maps
 pub mod SameEntries
 pub mod Recovered
+pub mod Single
+pub mod Sound

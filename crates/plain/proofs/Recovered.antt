@@ -48,12 +48,12 @@ each_unit P units grown unit n long is last before k s e =
     each_more P (map state_of units) (state_of unit) before (subst (λ (m : ℕ). P m (state_of unit)) long_map last) k s
     (ap (λ (xs : List State). slice_get xs k) (sym (ap (map state_of) is ∙ map-append state_of units (unit ∷ []))) ∙ e)
 
-no_objects : (s : Shape) (unit : ℕ) (os : List Object) (state : State) → IsStructure s unit os state → kind_of s unit ≢ unit_kinds.Map → os ≡ []
+pub no_objects : (s : Shape) (unit : ℕ) (os : List Object) (state : State) → IsStructure s unit os state → kind_of s unit ≢ unit_kinds.Map → os ≡ []
 no_objects s unit os (MapOf m) h other = absurd (other h.0)
 no_objects s unit os (QueueOf items) h other = h.1
 no_objects s unit os (GraphOf g) h other = h.1
 
-no_fault : (s : Shape) (unit : ℕ) (os : List Object) (state : State) → IsStructure s unit os state → first_fault (map_fault s unit) [] os ≡ None
+pub no_fault : (s : Shape) (unit : ℕ) (os : List Object) (state : State) → IsStructure s unit os state → first_fault (map_fault s unit) [] os ≡ None
 no_fault s unit os (MapOf m) h = h.1
 no_fault s unit os (QueueOf items) h = ap (first_fault (map_fault s unit) []) h.1
 no_fault s unit os (GraphOf g) h = ap (first_fault (map_fault s unit) []) h.1

@@ -50,7 +50,7 @@ fn record_in(layout: &Layout, image: &[u64], slot: Slot) -> Option<Held>
 }
 
 // Whether a slot's epoch is one that recovery from the image keeps.
-fn is_within(layout: &Layout, image: &[u64], slot: Slot) -> bool
+pub(crate) fn is_within(layout: &Layout, image: &[u64], slot: Slot) -> bool
     requires size { length image.now ≡ words_of layout.now }
     requires slot { slot < total_of layout.now }
     ensures { result ≡ is_within image.now slot }
@@ -60,7 +60,7 @@ fn is_within(layout: &Layout, image: &[u64], slot: Slot) -> bool
 }
 
 // The words of a slot.
-fn words_in(layout: &Layout, image: &[u64], slot: Slot) -> [u64; FIELDS]
+pub(crate) fn words_in(layout: &Layout, image: &[u64], slot: Slot) -> [u64; FIELDS]
     requires size { length image.now ≡ words_of layout.now }
     requires slot { slot < total_of layout.now }
     ensures { result ≡ words_at image.now slot }

@@ -1,5 +1,6 @@
 //! The structures kept plainly in memory, and plain programs of the definitions: the live objects among
-//! records, the structure that objects make, what a history leads to, and what recovery rebuilds.
+//! records, the structure that objects make, what a history leads to, which images recovery accepts, and
+//! what it rebuilds.
 #![tactic(auto)]
 
 mod contents;
@@ -12,6 +13,7 @@ mod pair;
 mod queue_state;
 mod recovery;
 mod same;
+mod soundness;
 mod structure;
 #[cfg(test)]
 mod tests;
@@ -28,4 +30,6 @@ pub use queue_state::QueueState;
 pub use recovery::recover;
 pub use same::same_state;
 pub use structure::{BuildRefusal, build};
+pub use soundness::is_well_formed;
+pub use structure::{BuildRefusal, build, one_structure};
 pub use unit_state::UnitState;

@@ -1,6 +1,10 @@
 // Worked operations, faults of objects, versions and histories.
+ghost use Rattle.std.specs.Prelude.{◌<◌};
+
 use super::*;
-use mont_base::{BODY, Entry, Epoch, Held, Kind, Label, Layout, Object, ObjectFault, Op, Reply};
+use mont_base::{
+    BODY, Entry, Epoch, FIELDS, Held, Kind, LAST, Label, Layout, Object, ObjectFault, Op, Reply,
+};
 use std::alloc::Global;
 use std::test::Fail;
 
@@ -177,5 +181,80 @@ fn histories_are_cut_and_judged(rt: HostRuntime) -> Result<(), Fail> {
         let judged = is_legal(layout, unit, empty_map(rt.alloc()), clock, &entries)?;
         assert_eq!(rt; judged, legal, "at {unit} {clock} {begun:?}");
     }
+    Ok(())
+}
+
+// The words of a store of one map unit with eight slots, where two slots of the store hold these words.
+fn image_of(clock: Epoch, first: [u64; FIELDS], slot: usize, second: [u64; FIELDS]) -> [u64; 193]
+    requires { slot < 24 }
+{
+    let mut image = [0; 193];
+    image[0] = clock;
+    image[1..1 + FIELDS].copy_from_slice(&first);
+    let at = 1 + FIELDS * slot;
+    image[at..at + FIELDS].copy_from_slice(&second);
+    image
+}
+
+// The slot of `put 1 10` at epoch 2, and that of `put 1 11` at epoch 4.
+const WRITTEN: [u64; FIELDS] = [2, 256, 1, 1, 1, 10, 0, 0];
+
+const REPLACED: [u64; FIELDS] = [4, 512, 1, 2, 1, 11, 0, 0];
+
+#[test]
+fn images_are_recovered(rt: HostRuntime) -> Result<(), Fail> {
+    let layout = Layout::new(1, 8)?;
+    for (clock, value) in [(3, None), (4, Some(10)), (5, Some(10)), (6, Some(11))] {
+        let image = image_of(clock, WRITTEN, 3, REPLACED);
+        assert!(rt; is_well_formed(rt.alloc(), layout, &image)?, "at {clock}");
+        let contents = recover(rt.alloc(), layout, &image)?;
+        assert_eq!(rt; contents.units.len(), 3);
+        assert_eq!(rt;
+            value_of_one(&contents.units.as_slice()[0]),
+            value,
+            "at {clock}"
+        );
+    }
+    let image = image_of(6, WRITTEN, 3, REPLACED);
+    assert!(rt; image[0] <= LAST);
+    let held = records(rt.alloc(), layout, &image, 0)?;
+    assert_eq!(rt; held.len(), 2);
+    assert_eq!(rt;
+        (held[1].slot, held[1].label.kind, held[1].body),
+        (3, Kind::Copy, [1, 11, 0, 0])
+    );
+    Ok(())
+}
+
+#[test]
+fn each_fault_of_an_image_is_seen(rt: HostRuntime) -> Result<(), Fail> {
+    let layout = Layout::new(1, 8)?;
+    let closed = [0; FIELDS];
+    let table = [
+        (4, 1, closed, true),
+        // A clock that didn't begin, and one that is past the last.
+        (1, 1, closed, false),
+        (LAST + 1, 1, closed, false),
+        // A word that isn't a label within the cut, and beyond it.
+        (4, 8, [2, 256, 1, 1, 0, 0, 0, 0], false),
+        (4, 8, [3, 256, 1, 1, 0, 0, 0, 0], true),
+        // One version in two slots, and one of another identity.
+        (4, 1, [1, 256, 1, 1, 2, 10, 0, 0], false),
+        (4, 1, [1, 256, 2, 1, 2, 10, 0, 0], true),
+        // A key in two objects, and an object of a queue.
+        (4, 1, [2, 256, 2, 1, 1, 12, 0, 0], false),
+        (4, 8, [2, 257, 1, 1, 1, 10, 0, 0], false),
+    ];
+    for (clock, slot, words, fine) in table {
+        assert!(rt; slot < 24);
+        let image = image_of(clock, WRITTEN, slot, words);
+        assert_eq!(rt;
+            is_well_formed(rt.alloc(), layout, &image)?,
+            fine,
+            "at {clock} {words:?}"
+        );
+    }
+    let short = [4; 192];
+    assert!(rt; !is_well_formed(rt.alloc(), layout, &short)?);
     Ok(())
 }
