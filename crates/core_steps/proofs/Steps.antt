@@ -10,14 +10,14 @@ use Rattle.core_steps.specs.declared.parts.UnitPart.{UnitPart}
 use Rattle.core_steps.specs.declared.parts.CallerPart.{CallerPart}
 use Rattle.core_steps.specs.Places.{row_test, on_row}
 use Rattle.core_steps.specs.Announcing.{can_tell, can_confirm, can_withdraw, can_freeze, tell, confirm, withdraw, freeze}
-use Rattle.core_steps.specs.Advancing.{can_check, unit_at_hand}
+use Rattle.core_steps.specs.Advancing.{unit_at_hand}
 use Rattle.core_steps.specs.Events.{is_allowed, after}
 use Rattle.core_steps.specs.declared.fresh.TheConstants.{FIRST_CLOCK}
 use Rattle.core_steps.specs.Fresh.{fresh_unit, fresh_caller, fresh}
 use Rattle.core_steps.specs.Sound.{announcement, StageFits, IsSound}
 use Rattle.core_steps.specs.Runs.{are_allowed, SoundnessLasts}
 use Rattle.core_steps.proofs.Rows.{row_copy, copy_row}
-use Rattle.core_steps.proofs.Tests.{both}
+use Rattle.core_steps.proofs.Decisions.{both}
 use Rattle.core_steps.proofs.UnitLaws.{tell_law, confirm_law, withdraw_law, freeze_law}
 use Rattle.core_steps.proofs.ClockLaws.{check_law, set_clock_law, persist_clock_law}
 

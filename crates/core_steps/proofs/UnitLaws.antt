@@ -1,22 +1,17 @@
 -- Each step by which a unit announces an epoch or stops doing so keeps a core sound.
-use Rattle.std.proofs.Common.{◌≡◌, ℕ, ◌+◌, ◌*◌, ◌/◌, ◌<◌, ◌≤◌, ◌⊎◌, List, length, set, get_or, sym, refl, ap, ◌∙◌, subst, inl, inr, ⊎_elim, arith, length-set, Bool, true, false}
-use Rattle.std.specs.Prelude.{slice_get, Option, Some, None, is_none, nat_le, nat_lt, ◌==◌, ◌&&◌, ◌||◌, if◌then◌else◌}
-use Rattle.std.proofs.lemmas.Option.{slice_get_within, get_or_from_slice_get}
+use Rattle.std.proofs.Common.{◌≡◌, ℕ, ◌*◌, ◌≤◌, set, get_or, sym, refl, ◌∙◌, arith, Bool, true, false}
+use Rattle.std.specs.Prelude.{slice_get, Option, Some, None, is_none, nat_le, ◌==◌, ◌&&◌, ◌||◌, if◌then◌else◌}
+use Rattle.std.proofs.lemmas.Option.{get_or_from_slice_get}
 use Rattle.mont_base.specs.declared.constants.TheConstants.{LAST}
-use Rattle.mont_base.specs.Layout.{Shape, IsLayout, units_of, total_of, words_of}
 use Rattle.core_steps.specs.declared.parts.Core.{Core}
 use Rattle.core_steps.specs.declared.parts.UnitPart.{UnitPart}
 use Rattle.core_steps.specs.declared.parts.CallerPart.{CallerPart}
 use Rattle.core_steps.specs.declared.parts.UnitStage.{UnitStage}
 use Rattle.core_steps.specs.declared.parts.UnitStage.TheVariants.{Idle, Told, Within, Closing}
-use Rattle.core_steps.specs.declared.parts.AdvPart.{AdvPart}
-use Rattle.core_steps.specs.declared.parts.AdvPart.TheVariants.{Rest, Checking, Labels, Fields, Holding, Ready, Clocked}
-use Rattle.core_steps.specs.Clock.{clock, durable_clock, next_clock}
+use Rattle.core_steps.specs.Clock.{clock, durable_clock}
 use Rattle.core_steps.specs.Announcing.{is_idle, is_told, is_unfrozen, can_tell, after_tell, tell, confirmed, after_confirm, confirm, after_withdraw, withdraw, can_freeze, made_odd, after_freeze, caller_after_freeze, freeze}
-use Rattle.core_steps.specs.Advancing.{can_check, unit_at_hand, lets_pass, past_unit, after_check, check, is_ready, set_clock, is_clocked, persist_clock}
-use Rattle.core_steps.specs.Sound.{IsUnderWay, IsWithinStore, ClocksStand, announced, announcement, HasPassed, IsRegistered, StageFits, IsSound}
-use Rattle.core_steps.proofs.Tests.{both, either_true, le_true, lt_true, lt_false, eq_true}
-use Rattle.core_steps.proofs.Rows.{first_set}
+use Rattle.core_steps.specs.Sound.{announced, announcement, HasPassed, StageFits, IsSound}
+use Rattle.core_steps.proofs.Decisions.{both, eq_true}
 use Rattle.core_steps.proofs.Keeps.{sizes_unit, clocks_unit, announcements_unit, announcements_same, registration_unit, clocks_caller}
 
 -- Tell
