@@ -9,7 +9,8 @@ use std::alloc::{AllocError, Global};
 
 /// Writes a line behind the others.
 fn push_line(text: &mut String, line: &Line) -> Result<(), AllocError>
-    ensures { OnOk result (string_bytes text.new ≡ string_bytes text.old ++ line_of (line_words line.now)) }
+    ensures { OnOk result
+        (string_bytes text.new ≡ string_bytes text.old ++ line_of (line_words line.now)) }
 {
     let caller = line.caller;
     match line.deed {

@@ -11,7 +11,8 @@ use std::alloc::Global;
 /// The job that a text spells. Where the text has more bytes than a job's, what is said of them is said of
 /// each longer text too.
 pub fn parse_job(alloc: Global, text: &[u8]) -> Result<Job, JobRefusal>
-    ensures spelled { IfOk result (λ j. IsJob j × (text.now ≡ job_text j) × (length text.now < most_text)) }
+    ensures spelled { IfOk result
+        (λ j. IsJob j × (text.now ≡ job_text j) × (length text.now < most_text)) }
     ensures refused { IfErr result (λ e. IsRefusal text.now e) }
 {
     let (layout, mut rest) = match next_header(text) {

@@ -11,7 +11,8 @@ use crate::refusal::JobRefusal;
 use mont_base::{Job, Source};
 use std::alloc::Global;
 
-/// No job's text has so many bytes: it has at most 200,000 lines of at most 80 bytes and a line feed.
+/// No job's text has so many bytes: it has at most 200,000 lines, each of at most 80 bytes and a line
+/// feed.
 const LIMIT: usize = 16_200_001;
 
 /// How many bytes are asked of a source at once.
@@ -19,7 +20,8 @@ const CHUNK: usize = 4096;
 
 /// What a source has left, or the first bytes of it where it has more than any job's text.
 fn read_text<S: Source>(alloc: Global, source: &mut S) -> Result<Vec<u8>, JobRefusal>
-    ensures front { IfOk result (λ bytes. IfSome (S.left source.old) (λ text. IsReadOf text bytes.items)) }
+    ensures front { IfOk result
+        (λ bytes. IfSome (S.left source.old) (λ text. IsReadOf text bytes.items)) }
     ensures outside { IfErr result IsOutside }
     ensures read { result ≡ Err JobRefusal.Read → Rose (S.faults source.old) (S.faults source.new) }
     ensures faults { S.faults source.old ≤ S.faults source.new }
@@ -40,7 +42,8 @@ fn read_text<S: Source>(alloc: Global, source: &mut S) -> Result<Vec<u8>, JobRef
 /// Reads a job to the end of the source, or 16,200,001 bytes, and then decides. A fault of reading refuses
 /// before any fault of the text.
 pub fn read_job<S: Source>(alloc: Global, source: &mut S) -> Result<Job, JobRefusal>
-    ensures spelled { IfOk result (λ j. IsJob j × IfSome (S.left source.old) (λ text. text ≡ job_text j)) }
+    ensures spelled { IfOk result
+        (λ j. IsJob j × IfSome (S.left source.old) (λ text. text ≡ job_text j)) }
     ensures refused { (line : ℕ) (fault : JobFault) → result ≡ Err (JobRefusal.Text line fault)
         → IfSome (S.left source.old) (λ text. IsFirstRefused text line fault) }
 

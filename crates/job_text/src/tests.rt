@@ -9,77 +9,29 @@ use std::test::Fail;
 
 const HEADER: &[u8] = b"montage-job 1 1 8 1 0 0000000000000000\n";
 
-// whole texts that are refused
-const WHOLE: [(&[u8], u64, JobFault); 20] = [
+// texts whose first line is no header
+const NO_HEADERS: [&[u8]; 16] = [
+    b"\n",
+    b"0 tick\n",
+    b"stop 0 5\n",
+    b"montage-job 1 1 7 1 0 0000000000000000\n",
+    b"montage-job 1 1 4097 1 0 0000000000000000\n",
+    b"montage-job 1 1 08 1 0 0000000000000000\n",
+    b"montage-job 2 1 8 1 0 0000000000000000\n",
+    b"montage-job 1 2 8 1 0 0000000000000000\n",
+    b"montage-job 1 1 8 2 0 0000000000000000\n",
+    b"montage-job 1 1 8 1 1 0000000000000000\n",
+    b"montage-job 1 1 8 1 0 0000000000000001\n",
+    b"montage-job 1 1 8 1 0 000000000000000\n",
+    b" montage-job 1 1 8 1 0 0000000000000000\n",
+    b"montage-job  1 1 8 1 0 0000000000000000\n",
+    b"montage-job 1 1 8 1 0 0000000000000000 \n",
+    b"montage-job 1 1 8 1 0 0000000000000000\r\n",
+];
+
+// other texts that are refused
+const WHOLE: [(&[u8], u64, JobFault); 4] = [
     (b"", 1, JobFault::Unended),
-    (b"\n", 1, JobFault::Header),
-    (b"0 tick\n", 1, JobFault::Header),
-    (b"stop 0 5\n", 1, JobFault::Header),
-    (
-        b"montage-job 1 1 7 1 0 0000000000000000\n",
-        1,
-        JobFault::Header,
-    ),
-    (
-        b"montage-job 1 1 4097 1 0 0000000000000000\n",
-        1,
-        JobFault::Header,
-    ),
-    (
-        b"montage-job 1 1 08 1 0 0000000000000000\n",
-        1,
-        JobFault::Header,
-    ),
-    (
-        b"montage-job 2 1 8 1 0 0000000000000000\n",
-        1,
-        JobFault::Header,
-    ),
-    (
-        b"montage-job 1 2 8 1 0 0000000000000000\n",
-        1,
-        JobFault::Header,
-    ),
-    (
-        b"montage-job 1 1 8 2 0 0000000000000000\n",
-        1,
-        JobFault::Header,
-    ),
-    (
-        b"montage-job 1 1 8 1 1 0000000000000000\n",
-        1,
-        JobFault::Header,
-    ),
-    (
-        b"montage-job 1 1 8 1 0 0000000000000001\n",
-        1,
-        JobFault::Header,
-    ),
-    (
-        b"montage-job 1 1 8 1 0 000000000000000\n",
-        1,
-        JobFault::Header,
-    ),
-    (
-        b" montage-job 1 1 8 1 0 0000000000000000\n",
-        1,
-        JobFault::Header,
-    ),
-    (
-        b"montage-job  1 1 8 1 0 0000000000000000\n",
-        1,
-        JobFault::Header,
-    ),
-    (
-        b"montage-job 1 1 8 1 0 0000000000000000 \n",
-        1,
-        JobFault::Header,
-    ),
-    (
-        b"montage-job 1 1 8 1 0 0000000000000000\r\n",
-        1,
-        JobFault::Header,
-    ),
     (
         b"montage-job 1 1 8 1 0 0000000000000000",
         1,
@@ -97,46 +49,49 @@ const WHOLE: [(&[u8], u64, JobFault); 20] = [
     ),
 ];
 
-// what is refused behind the header
-const BEHIND: [(&[u8], u64, JobFault); 44] = [
+// lines that are no operation, behind the header
+const NO_OPERATIONS: [&[u8]; 32] = [
+    b" 0 tick\n",
+    b"0 tick \n",
+    b"0  tick\n",
+    b"0 put 01 10\n",
+    b"0 put 1 010\n",
+    b"0 put 1\n",
+    b"0 put 1 \n",
+    b"0 put  1 10\n",
+    b"0 put 1 10 \n",
+    b"0 put 1 10 3\n",
+    b"0 put 18446744073709551616 1\n",
+    b"0 get\n",
+    b"0 get \n",
+    b"0 get 1 1\n",
+    b"0 get 18446744073709551616\n",
+    b"0 get 99999999999999999999999999\n",
+    b"0 get +1\n",
+    b"0 get -1\n",
+    b"0 get 1a\n",
+    b"0 get 00\n",
+    b"1 tick\n",
+    b"00 tick\n",
+    b"tick\n",
+    b"0 Tick\n",
+    b"0 tick\r\n",
+    b"0 tick\0\n",
+    b"0 get \xb2\n",
+    b"0 get 1\xff\n",
+    b"\n",
+    b" stop\n",
+    b"stopp 0 5\n",
+    b"0 get 11111111111111111111111111111111111111111111111111111111111111111111111111\n",
+];
+
+// what else is refused behind the header
+const BEHIND: [(&[u8], u64, JobFault); 12] = [
     (
         b"0 get 1\n0 get 1\n0 get 1\n0 get 1\n0 get 1\n0 got 1\n",
         7,
         JobFault::Operation,
     ),
-    (b" 0 tick\n", 2, JobFault::Operation),
-    (b"0 tick \n", 2, JobFault::Operation),
-    (b"0  tick\n", 2, JobFault::Operation),
-    (b"0 put 01 10\n", 2, JobFault::Operation),
-    (b"0 put 1 010\n", 2, JobFault::Operation),
-    (b"0 put 1\n", 2, JobFault::Operation),
-    (b"0 put 1 \n", 2, JobFault::Operation),
-    (b"0 put  1 10\n", 2, JobFault::Operation),
-    (b"0 put 1 10 \n", 2, JobFault::Operation),
-    (b"0 put 1 10 3\n", 2, JobFault::Operation),
-    (b"0 put 18446744073709551616 1\n", 2, JobFault::Operation),
-    (b"0 get\n", 2, JobFault::Operation),
-    (b"0 get \n", 2, JobFault::Operation),
-    (b"0 get 1 1\n", 2, JobFault::Operation),
-    (b"0 get 18446744073709551616\n", 2, JobFault::Operation),
-    (
-        b"0 get 99999999999999999999999999\n",
-        2,
-        JobFault::Operation,
-    ),
-    (b"0 get +1\n", 2, JobFault::Operation),
-    (b"0 get -1\n", 2, JobFault::Operation),
-    (b"0 get 1a\n", 2, JobFault::Operation),
-    (b"0 get 00\n", 2, JobFault::Operation),
-    (b"1 tick\n", 2, JobFault::Operation),
-    (b"00 tick\n", 2, JobFault::Operation),
-    (b"tick\n", 2, JobFault::Operation),
-    (b"0 Tick\n", 2, JobFault::Operation),
-    (b"0 tick\r\n", 2, JobFault::Operation),
-    (b"0 tick\0\n", 2, JobFault::Operation),
-    (b"0 get \xb2\n", 2, JobFault::Operation),
-    (b"0 get 1\xff\n", 2, JobFault::Operation),
-    (b"\n", 2, JobFault::Operation),
     (b"0 tick\n\n", 3, JobFault::Operation),
     (b"0 tick\n0 put 1 x\n0 tick \n", 3, JobFault::Operation),
     (b"0 tick", 2, JobFault::Unended),
@@ -145,13 +100,6 @@ const BEHIND: [(&[u8], u64, JobFault); 44] = [
     (b"stop\n", 2, JobFault::Stop),
     (b"0 tick\nstop \n", 3, JobFault::Stop),
     (b"stop 0 5", 2, JobFault::Unended),
-    (b" stop\n", 2, JobFault::Operation),
-    (b"stopp 0 5\n", 2, JobFault::Operation),
-    (
-        b"0 get 11111111111111111111111111111111111111111111111111111111111111111111111111\n",
-        2,
-        JobFault::Operation,
-    ),
     (
         b"0 get 111111111111111111111111111111111111111111111111111111111111111111111111111\n",
         2,
@@ -203,8 +151,15 @@ fn refuses(rt: &impl Abort, alloc: Global, text: &[u8], line: u64, fault: JobFau
 
 #[test]
 fn wrong_lines_are_refused(rt: HostRuntime) -> Result<(), Fail> {
+    for text in NO_HEADERS {
+        refuses(&rt, rt.alloc(), text, 1, JobFault::Header);
+    }
     for (text, line, fault) in WHOLE {
         refuses(&rt, rt.alloc(), text, line, fault);
+    }
+    for rest in NO_OPERATIONS {
+        let text = behind_header(rt.alloc(), rest)?;
+        refuses(&rt, rt.alloc(), text.as_slice(), 2, JobFault::Operation);
     }
     for (rest, line, fault) in BEHIND {
         let text = behind_header(rt.alloc(), rest)?;

@@ -16,7 +16,8 @@ fn find(bytes: &[u8], byte: u8) -> Option<usize>
 
 /// The bytes before the first such byte and those behind it.
 pub fn cut(bytes: &[u8], byte: u8) -> Option<(&[u8], &[u8])>
-    ensures { MatchOption result (Lacks byte bytes.now) (λ parts. IsCut byte bytes.now parts.0.now parts.1.now) }
+    ensures { MatchOption result (Lacks byte bytes.now)
+        (λ parts. IsCut byte bytes.now parts.0.now parts.1.now) }
 {
     let at = find(bytes, byte)?;
     Some((&bytes[..at], &bytes[at + 1..]))
