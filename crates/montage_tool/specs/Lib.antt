@@ -4,3 +4,4 @@ pub mod Run
 pub mod Status
 pub mod Words
 pub mod Delivery
+pub mod Montage

@@ -3,6 +3,9 @@
 
 mod adapters;
 mod delivery;
+mod machine;
+mod montage;
+mod run;
 mod status;
 mod words;
 

@@ -29,7 +29,6 @@ pub use pair::{pair_body, pair_of};
 pub use queue_state::QueueState;
 pub use recovery::recover;
 pub use same::same_state;
-pub use structure::{BuildRefusal, build};
 pub use soundness::is_well_formed;
 pub use structure::{BuildRefusal, build, one_structure};
 pub use unit_state::UnitState;

@@ -1,5 +1,0 @@
-//! Private machine.
-#![tactic(auto)]
-
-mod machine;
-mod run;
