@@ -79,6 +79,16 @@ pub struct FileSource<F: Read + Drop> {
 }
 
 impl<F: Read + Drop> FileSource<F> {
+    /// A source of no file, each of whose calls fails.
+    pub fn closed() -> Self
+        ensures { result.faults ≡ 0 }
+    {
+        FileSource {
+            file: None,
+            faults: 0,
+        }
+    }
+
     /// A source of what the file of this name holds.
     pub fn open<R: Files<File = F>>(rt: &R, path: &str) -> Self
         ensures { result.faults ≡ 0 }

@@ -3,10 +3,93 @@
 
 mod adapters;
 mod delivery;
+mod help;
 mod machine;
 mod montage;
 mod run;
 mod status;
+#[cfg(test)]
+mod tests;
 mod words;
 
-fn main() {}
+use adapters::{FileSink, FileSource, StdSink, StdSource};
+use delivery::deliver;
+use help::{HELP, VERSION};
+use mont_base::Failed;
+use montage::montage;
+use status::{SinkName, Status, exit_code, status_text};
+use std::alloc::Global;
+use std::env;
+use std::fs::File;
+use std::io;
+use std::process::ExitCode;
+use words::files_of;
+
+// The words of the command line behind the program's name; `None` where one isn't UTF-8 or memory ran out.
+fn words_of(rt: &HostRuntime) -> Option<Vec<String>> {
+    let mut words = Vec::new(rt.alloc());
+    for word in env::args(rt).ok()?.skip(1) {
+        words.push(word).ok()?;
+    }
+    Some(words)
+}
+
+// What the program says of itself, if it is asked.
+fn asked_of_itself(words: &[String]) -> Option<&'static str> {
+    match words {
+        [word] if word.as_str() == "--help" => Some(HELP),
+        [word] if word.as_str() == "--version" => Some(VERSION),
+        _ => None,
+    }
+}
+
+// Says a text on standard output.
+fn say(rt: &HostRuntime, text: &str) -> Status {
+    let mut out = StdSink::new(io::writer(rt));
+    match deliver(&mut out, text.as_bytes()) {
+        Ok(()) => Status::Done,
+        Err(Failed) => Status::WriteFault {
+            which: SinkName::Report,
+        },
+    }
+}
+
+// The file that a word names, if there is one.
+fn file_word(words: &[String], at: Option<usize>) -> Option<&str> {
+    let word = words.get(at?)?;
+    Some(word.as_str())
+}
+
+// Calls `montage` with the devices of the process.
+fn serve(rt: &HostRuntime, words: &[String]) -> Status {
+    let files = files_of(words);
+    let mut job = StdSource::new(rt.reader());
+    let mut image: FileSource<File> = match file_word(words, files.image) {
+        Some(path) => FileSource::open(rt, path),
+        None => FileSource::closed(),
+    };
+    let mut out = StdSink::new(io::writer(rt));
+    let mut image_out = FileSink::new(rt, file_word(words, files.image_out).unwrap_or(""));
+    montage(rt, words, &mut job, &mut image, &mut out, &mut image_out)
+}
+
+// Tells a status other than `Done` on standard output, and gives the exit code.
+fn end(rt: &HostRuntime, status: &Status) -> ExitCode {
+    if *status != Status::Done {
+        if let Ok(text) = status_text(rt.alloc(), status) {
+            let _ = println!(rt; "{text}");
+        }
+    }
+    ExitCode::from(exit_code(status))
+}
+
+fn main(rt: HostRuntime) -> ExitCode {
+    let Some(words) = words_of(&rt) else {
+        return end(&rt, &Status::BadWords);
+    };
+    let status = match asked_of_itself(words.as_slice()) {
+        Some(text) => say(&rt, text),
+        None => serve(&rt, words.as_slice()),
+    };
+    end(&rt, &status)
+}
