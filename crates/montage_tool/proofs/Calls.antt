@@ -1,5 +1,5 @@
 -- A call keeps what is always true of the machine.
-use Rattle.std.proofs.Common.{◌≡◌, ℕ, ◌+◌, ◌≤◌, List, [], ◌∷◌, ◌++◌, length, sym, refl, ap, ◌∙◌, subst, arith}
+use Rattle.std.proofs.Common.{◌≡◌, ℕ, ◌≤◌, List, [], ◌∷◌, ◌++◌, length, sym, refl, ap, ◌∙◌, subst}
 use Rattle.std.specs.Prelude.{All, map}
 use Rattle.std.specs.FinMap as finite
 use Rattle.std.specs.BTreeMap.{btree_map_len}
@@ -57,8 +57,8 @@ sound_put m p n op key value reply is s found put store entered =
     let r : Held = next_record m.clock (btree_map_len m.newest) m.records.items key value in
     let asked : Asked m op reply = found ∙ ap (λ (o : Op). (step (MapOf (set_all finite.empty m.records.items)) o).reply) (sym is) in
     let same : record { caller = 0; call = length p.history.items; op = op; reply = reply; epoch = p.clock } ≡ e =
-        ap (λ (h : List Entry). record { caller = 0; call = length h; op = op; reply = reply; epoch = p.clock }) put.history
-        ∙ ap (λ (x : ℕ). record { caller = 0; call = length m.history.items; op = op; reply = reply; epoch = x }) put.clock in
+    ap (λ (h : List Entry). record { caller = 0; call = length h; op = op; reply = reply; epoch = p.clock }) put.history
+    ∙ ap (λ (x : ℕ). record { caller = 0; call = length m.history.items; op = op; reply = reply; epoch = x }) put.clock in
     let history : n.history.items ≡ m.history.items ++ e ∷ [] = entered.history ∙ ap (λ (d : Entry). p.history.items ++ d ∷ []) same ∙ ap (λ (h : List Entry). h ++ e ∷ []) put.history in
     let k = kept m n op reply s asked (entered.layout ∙ put.layout) (entered.clock ∙ put.clock) history in
     record {

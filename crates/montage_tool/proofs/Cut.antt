@@ -1,17 +1,17 @@
 -- A cut of the history and the records of its puts.
-use Rattle.std.proofs.Common.{◌≡◌, ℕ, ◌+◌, ◌<◌, ◌≤◌, List, [], ◌∷◌, ◌++◌, sym, refl, ap, ◌∙◌, subst, arith, Bool, true, false}
+use Rattle.std.proofs.Common.{◌≡◌, ℕ, List, [], ◌∷◌, ◌++◌, sym, refl, ap, ◌∙◌, subst, Bool, true, false}
 use Rattle.std.specs.Prelude.{map, filter, nat_le, if◌then◌else◌}
-use Rattle.std.specs.List.{flat_map, AllByRecursion}
+use Rattle.std.specs.List.{AllByRecursion}
 use Rattle.std.specs.FinMap as finite
 use Rattle.mont_base.specs.declared.record.Held.{Held}
 use Rattle.mont_base.specs.declared.operation.Entry.{Entry}
 use Rattle.mont_base.specs.declared.operation.Op.{Op}
 use Rattle.mont_base.specs.declared.operation.Op.TheVariants.{Put, Get}
 use Rattle.mont_base.specs.Layout.{Shape}
-use Rattle.mont_base.specs.State.{MapOf, Pairs, State, step}
+use Rattle.mont_base.specs.State.{MapOf, Pairs, step}
 use Rattle.mont_base.specs.History.{state_after, cut_at}
 use Rattle.mont_base.specs.Objects.{live_objects, key_of, value_of, IsStructure}
-use Rattle.montage_tool.specs.Log.{IsPair, Follows, IsLog, set_all, puts_of, puts_of_op, put_of_record, kept_at}
+use Rattle.montage_tool.specs.Log.{Follows, IsLog, set_all, puts_of, puts_of_op, put_of_record, kept_at}
 use Rattle.montage_tool.proofs.NoFault.{structure_of_log}
 
 abbrev pub Puts : Type 0
@@ -52,6 +52,7 @@ puts_of_cut x (e ∷ h) = inside (nat_le e.epoch x) ∙ by_op (puts_of_cut x h) 
     inside : (b : Bool) → puts_of (if b then e ∷ cut_at x h else cut_at x h) ≡ (if b then puts_of_op e.epoch e.op ++ puts_of (cut_at x h) else puts_of (cut_at x h))
     inside true = refl
     inside false = refl
+
     by_op : puts_of (cut_at x h) ≡ puts_at x (puts_of h) → (b : Bool) → nat_le e.epoch x ≡ b → (op : Op) → (if b then puts_of_op e.epoch op ++ puts_of (cut_at x h) else puts_of (cut_at x h)) ≡ puts_at x (puts_of_op e.epoch op ++ puts_of h)
     by_op behind true is (Put key value) = ap (λ (ps : Puts). (e.epoch, (key, value)) ∷ ps) behind ∙ ap (λ (t : Bool). if t then (e.epoch, (key, value)) ∷ puts_at x (puts_of h) else puts_at x (puts_of h)) (sym is)
     by_op behind false is (Put key value) = behind ∙ ap (λ (t : Bool). if t then (e.epoch, (key, value)) ∷ puts_at x (puts_of h) else puts_at x (puts_of h)) (sym is)
@@ -79,6 +80,6 @@ log_kept x (r ∷ rs) log = by_test (log_kept x rs log.2) (nat_le r.label.epoch 
 pub structure_of_cut : (s : Shape) → s.maps ≡ 1 → (rs : List Held) (h : List Entry) (x : ℕ) → IsLog rs → map put_of_record rs ≡ puts_of h → IsStructure s 0 (live_objects (kept_at x rs)) (state_after (MapOf finite.empty) (cut_at x h))
 structure_of_cut s one rs h x log same =
     subst (IsStructure s 0 (live_objects (kept_at x rs))) (
-      ap MapOf (set_all-puts finite.empty (kept_at x rs) ∙ ap (set_puts finite.empty) (puts_of_kept x rs ∙ ap (puts_at x) same ∙ sym (puts_of_cut x h)))
-      ∙ sym (state_of_puts finite.empty (cut_at x h))
+    ap MapOf (set_all-puts finite.empty (kept_at x rs) ∙ ap (set_puts finite.empty) (puts_of_kept x rs ∙ ap (puts_at x) same ∙ sym (puts_of_cut x h)))
+    ∙ sym (state_of_puts finite.empty (cut_at x h))
     ) (structure_of_log s one (kept_at x rs) (log_kept x rs log))

@@ -1,10 +1,9 @@
 -- The report of a run is faithful.
-use Rattle.std.proofs.Common.{◌≡◌, ℕ, zero, suc, ◌+◌, ◌-◌, ◌<◌, ◌≤◌, List, [], ◌∷◌, length, take, replicate, get_or, sym, refl, ap, ◌∙◌, subst, arith, Bool, true, false}
-use Rattle.std.specs.Prelude.{Some, None, slice_get, All, AllPairs, filter, nat_eq, ◌==◌, sum_by, count_by, if◌then◌else◌}
+use Rattle.std.proofs.Common.{◌≡◌, ℕ, zero, suc, ◌+◌, ◌-◌, List, [], ◌∷◌, take, replicate, get_or, sym, refl, ap, ◌∙◌, subst, arith, Bool, true}
+use Rattle.std.specs.Prelude.{Some, slice_get, All, filter, ◌==◌, sum_by, count_by, if◌then◌else◌}
 use Rattle.std.specs.FinMap as finite
 use Rattle.std.proofs.lemmas.Bool.Decides.{nat_tests}
 use Rattle.std.proofs.lemmas.Option.{same_Some, slice_get_within}
-use Rattle.mont_base.specs.declared.constants.TheConstants.{LAST}
 use Rattle.mont_base.specs.declared.operation.Entry.{Entry}
 use Rattle.mont_base.specs.declared.job.Job.{Job}
 use Rattle.mont_base.specs.declared.job.Line.{Line}
@@ -12,9 +11,8 @@ use Rattle.mont_base.specs.declared.job.Deed.{Deed}
 use Rattle.mont_base.specs.declared.job.Deed.TheVariants.{Call, Tick}
 use Rattle.mont_base.specs.declared.job.Outcome.{Outcome}
 use Rattle.mont_base.specs.declared.job.Outcome.TheVariants.{At, Ticked}
-use Rattle.mont_base.specs.declared.layout.UnitKind.TheVariants as kinds
 use Rattle.mont_base.specs.Layout.{Shape, units_of}
-use Rattle.mont_base.specs.State.{State, MapOf, empty_state}
+use Rattle.mont_base.specs.State.{State, MapOf}
 use Rattle.mont_base.specs.History.{IsLegal, state_after, cut_at}
 use Rattle.mont_base.specs.JobText.{IsJob, IsLine}
 use Rattle.mont_base.specs.Report.{Report, IsEntryAt, Answers, InOrder, AnswersLines, IsFaithful, empty_states, lines_of, names}
@@ -83,7 +81,7 @@ module _ (j : Job) (m : Machine) (os : List Outcome) (is_job : IsJob j) (sound :
   legal : (unit : ℕ) (state : State) (h : List Entry) → slice_get (with_map (MapOf finite.empty)) unit ≡ Some state → slice_get (m.history.items ∷ [] ∷ [] ∷ []) unit ≡ Some h → IsLegal m.layout unit state 2 h
   legal zero state h at there =
       subst (λ (t : State). IsLegal m.layout 0 t 2 h) (same_Some (MapOf finite.empty) state at)
-          (subst (IsLegal m.layout 0 (MapOf finite.empty) 2) (same_Some m.history.items h there) sound.legal)
+      (subst (IsLegal m.layout 0 (MapOf finite.empty) 2) (same_Some m.history.items h there) sound.legal)
   legal (suc unit) state h at there = subst (IsLegal m.layout (suc unit) state 2) (histories_are m.history.items unit h there) (legal_none m.layout (suc unit) state)
 
   cut : (unit : ℕ) (state : State) (h : List Entry) → slice_get (with_map (MapOf finite.empty)) unit ≡ Some state → slice_get (m.history.items ∷ [] ∷ [] ∷ []) unit ≡ Some h
@@ -98,7 +96,7 @@ module _ (j : Job) (m : Machine) (os : List Outcome) (is_job : IsJob j) (sound :
   answers : (caller : ℕ) (qs : List Outcome) → slice_get (os ∷ []) caller ≡ Some qs → AnswersLines report_made caller (lines_of j caller) qs
   answers zero qs at =
       subst (AnswersLines report_made 0 (lines_of j 0)) (same_Some os qs at)
-          (subst (λ (ls : List Line). AnswersLines report_made 0 ls os) (sym (all_lines j.lines is_job.lines)) (answers_in m.layout m.history.items os m.clock (with_map (cut_state m)) j.lines played.answers))
+      (subst (λ (ls : List Line). AnswersLines report_made 0 ls os) (sym (all_lines j.lines is_job.lines)) (answers_in m.layout m.history.items os m.clock (with_map (cut_state m)) j.lines played.answers))
   answers (suc caller) qs at = absurd (cc)
 
   once : (unit place : ℕ) (e : Entry) → IsEntryAt report_made unit place e → sum_by (λ (qs : List Outcome). count_by (names unit place) qs) (os ∷ []) ≡ 1
@@ -148,10 +146,10 @@ module _ (j : Job) (m : Machine) (os : List Outcome) (is_job : IsJob j) (sound :
       let two : units_of j.layout - 1 ≡ 2 = (let e = is_job.one_map in omega arith) in
       let whole : histories ≡ m.history.items ∷ [] ∷ [] ∷ [] = kept ∙ ap (λ (n : ℕ). m.history.items ∷ replicate n []) two in
       subst (IsRun j) (sym (
-        ap (λ (s : Shape). record { layout = s; callers = j.callers; base_clock = 2; base = base; histories = histories; outcomes = outcomes; image_clock = m.clock; contents = contents }) (sym layout)
-        ∙ ap (λ (n : ℕ). record { layout = m.layout; callers = n; base_clock = 2; base = base; histories = histories; outcomes = outcomes; image_clock = m.clock; contents = contents }) is_job.one_caller
-        ∙ ap (λ (ss : List State). record { layout = m.layout; callers = 1; base_clock = 2; base = ss; histories = histories; outcomes = outcomes; image_clock = m.clock; contents = contents }) (based ∙ ap empty_states (sym layout))
-        ∙ ap (λ (hs : List (List Entry)). record { layout = m.layout; callers = 1; base_clock = 2; base = empty_states m.layout; histories = hs; outcomes = outcomes; image_clock = m.clock; contents = contents }) whole
-        ∙ ap (λ (qs : List (List Outcome)). record { layout = m.layout; callers = 1; base_clock = 2; base = empty_states m.layout; histories = m.history.items ∷ [] ∷ [] ∷ []; outcomes = qs; image_clock = m.clock; contents = contents }) answered
-        ∙ ap (λ (ss : List State). record { layout = m.layout; callers = 1; base_clock = 2; base = empty_states m.layout; histories = m.history.items ∷ [] ∷ [] ∷ []; outcomes = os ∷ []; image_clock = m.clock; contents = ss }) same
+      ap (λ (s : Shape). record { layout = s; callers = j.callers; base_clock = 2; base = base; histories = histories; outcomes = outcomes; image_clock = m.clock; contents = contents }) (sym layout)
+      ∙ ap (λ (n : ℕ). record { layout = m.layout; callers = n; base_clock = 2; base = base; histories = histories; outcomes = outcomes; image_clock = m.clock; contents = contents }) is_job.one_caller
+      ∙ ap (λ (ss : List State). record { layout = m.layout; callers = 1; base_clock = 2; base = ss; histories = histories; outcomes = outcomes; image_clock = m.clock; contents = contents }) (based ∙ ap empty_states (sym layout))
+      ∙ ap (λ (hs : List (List Entry)). record { layout = m.layout; callers = 1; base_clock = 2; base = empty_states m.layout; histories = hs; outcomes = outcomes; image_clock = m.clock; contents = contents }) whole
+      ∙ ap (λ (qs : List (List Outcome)). record { layout = m.layout; callers = 1; base_clock = 2; base = empty_states m.layout; histories = m.history.items ∷ [] ∷ [] ∷ []; outcomes = qs; image_clock = m.clock; contents = contents }) answered
+      ∙ ap (λ (ss : List State). record { layout = m.layout; callers = 1; base_clock = 2; base = empty_states m.layout; histories = m.history.items ∷ [] ∷ [] ∷ []; outcomes = os ∷ []; image_clock = m.clock; contents = ss }) same
       )) (is_run states)

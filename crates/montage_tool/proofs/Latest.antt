@@ -1,7 +1,7 @@
 -- The latest record of a key, and the record that comes next.
-use Rattle.std.proofs.Common.{◌≡◌, ℕ, zero, suc, ◌+◌, ◌<◌, ◌≤◌, List, [], ◌∷◌, ◌++◌, length, sym, refl, ap, ◌∙◌, subst, arith, length-append, Bool, true, false}
-use Rattle.std.specs.Prelude.{Option, Some, None, is_some, nat_eq, ◌||◌, ◌==◌, map, if◌then◌else◌}
-use Rattle.std.specs.List.{list_any, AllByRecursion}
+use Rattle.std.proofs.Common.{◌≡◌, ℕ, ◌+◌, ◌≤◌, List, [], ◌∷◌, ◌++◌, length, sym, refl, ap, ◌∙◌, subst, arith, Bool, true, false}
+use Rattle.std.specs.Prelude.{Option, Some, None, is_some, ◌||◌, ◌==◌, if◌then◌else◌}
+use Rattle.std.specs.List.{AllByRecursion}
 use Rattle.std.specs.Ordering.{nat_cmp}
 use Rattle.std.specs.FinMap as finite
 use Rattle.std.specs.FinMap.{get-empty}
@@ -13,7 +13,7 @@ use Rattle.mont_base.specs.declared.record.Label.{Label}
 use Rattle.mont_base.specs.declared.record.Kind.{Kind}
 use Rattle.mont_base.specs.declared.record.Kind.TheVariants as kinds
 use Rattle.mont_base.specs.Record.{IsLabel, IsVersionOf}
-use Rattle.mont_base.specs.Objects.{key_of, value_of, is_delete, pair_body}
+use Rattle.mont_base.specs.Objects.{key_of, is_delete}
 use Rattle.montage_tool.specs.Machine.{Counted}
 use Rattle.montage_tool.specs.Log.{IsPair, Follows, IsLog, StandFrom, or_this, latest, set_all, next_label, next_record}
 use Rattle.montage_tool.proofs.Live.{has_key, has_key-latest, get-set_all, value_in, or_value}
@@ -51,15 +51,19 @@ below_of_follows key r p is f = record {
 
 absent_below : (key : ℕ) (r : Held) (qs : List Held) → key_of r.body ≡ key → has_key key qs ≡ false → AllByRecursion (Follows r) qs → AllByRecursion (Below key r) qs
 absent_below key r [] is none all = tt
-absent_below key r (q ∷ qs) is none all = (record {
-  same_key = λ e. sym (all.0.same_key (sym e)) ∙ is;
-  same_identity = λ e. sym (all.0.same_identity (is ∙ sym e));
-  version = λ e. let there : key_of q.body ≡ key = sym (all.0.same_key (sym e)) ∙ is in absurd (there_not there);
-}, absent_below key r qs is (either_false (key == key_of q.body) (has_key key qs) none).1 all.1)
+absent_below key r (q ∷ qs) is none all = (
+  record {
+    same_key = λ e. sym (all.0.same_key (sym e)) ∙ is;
+    same_identity = λ e. sym (all.0.same_identity (is ∙ sym e));
+    version = λ e. let there : key_of q.body ≡ key = sym (all.0.same_key (sym e)) ∙ is in absurd (there_not there);
+  },
+  absent_below key r qs is (either_false (key == key_of q.body) (has_key key qs) none).1 all.1,
+)
   where
     either_false : (a b : Bool) → (a || b) ≡ false → (a ≡ false) × (b ≡ false)
     either_false true b e = absurd (cc)
     either_false false b e = (refl, e)
+
     there_not : key_of q.body ≡ key → ⊥
     there_not e = let f : (key == key_of q.body) ≡ false = (either_false (key == key_of q.body) (has_key key qs) none).0 in absurd (grind (arith, nat_tests))
 
@@ -84,7 +88,7 @@ all_below_latest key (r ∷ rs) p log at = by_rest (latest key rs) refl (all_bel
         let here : key_of r.body ≡ key = grind (arith, nat_tests) in
         let none : has_key key rs ≡ false = has_key-latest key rs ∙ ap is_some found in
         subst (λ (h : Held). AllByRecursion (Below key h) (r ∷ rs)) same
-            (record { same_key = λ e. here; same_identity = λ e. refl; version = λ e. omega arith }, absent_below key r rs here none log.1)
+        (record { same_key = λ e. here; same_identity = λ e. refl; version = λ e. omega arith }, absent_below key r rs here none log.1)
     by_rest None found behind false is e = absurd (cc)
 
 -- the next record of a key follows the ones that stand
@@ -93,13 +97,15 @@ follow_copy clock keys records key value rs [] p at below counted = tt
 follow_copy clock keys records key value rs (q ∷ qs) p at below counted =
     let label : next_label clock keys (latest key rs) ≡ next_label clock keys (Some p) = ap (next_label clock keys) at in
     let b = below.0 in
-    let past = counted.0.past in
-    (record {
-      same_key = λ e. b.same_key (e ∙ ap (λ (l : Label). l.identity) label);
-      same_identity = λ e. b.same_identity e ∙ sym (ap (λ (l : Label). l.identity) label);
-      version = λ e. let low = b.version (e ∙ ap (λ (l : Label). l.identity) label) in let is = ap (λ (l : Label). l.version) label in omega arith;
-      epoch = let is = ap (λ (l : Label). l.epoch) label in omega arith;
-    }, follow_copy clock keys records key value rs qs p at below.1 counted.1)
+    let past = counted.0.past in (
+      record {
+        same_key = λ e. b.same_key (e ∙ ap (λ (l : Label). l.identity) label);
+        same_identity = λ e. b.same_identity e ∙ sym (ap (λ (l : Label). l.identity) label);
+        version = λ e. let low = b.version (e ∙ ap (λ (l : Label). l.identity) label) in let is = ap (λ (l : Label). l.version) label in omega arith;
+        epoch = let is = ap (λ (l : Label). l.epoch) label in omega arith;
+      },
+      follow_copy clock keys records key value rs qs p at below.1 counted.1,
+    )
 
 follow_new : (clock keys records : ℕ) (key value : ℕ) (rs qs : List Held) → latest key rs ≡ None → has_key key qs ≡ false → AllByRecursion (Counted keys records clock) qs → AllByRecursion (λ (q : Held). Follows q (next_record clock keys rs key value)) qs
 follow_new clock keys records key value rs [] at none counted = tt
@@ -107,17 +113,20 @@ follow_new clock keys records key value rs (q ∷ qs) at none counted =
     let label : next_label clock keys (latest key rs) ≡ next_label clock keys None = ap (next_label clock keys) at in
     let is = ap (λ (l : Label). l.identity) label in
     let low = counted.0.identity in
-    let past = counted.0.past in
-    (record {
-      same_key = λ e. absurd (omega arith);
-      same_identity = λ e. absurd (there_not (sym e));
-      version = λ e. absurd (omega arith);
-      epoch = let at = ap (λ (l : Label). l.epoch) label in omega arith;
-    }, follow_new clock keys records key value rs qs at (either_false (key == key_of q.body) (has_key key qs) none).1 counted.1)
+    let past = counted.0.past in (
+      record {
+        same_key = λ e. absurd (omega arith);
+        same_identity = λ e. absurd (there_not (sym e));
+        version = λ e. absurd (omega arith);
+        epoch = let at = ap (λ (l : Label). l.epoch) label in omega arith;
+      },
+      follow_new clock keys records key value rs qs at (either_false (key == key_of q.body) (has_key key qs) none).1 counted.1,
+    )
   where
     either_false : (a b : Bool) → (a || b) ≡ false → (a ≡ false) × (b ≡ false)
     either_false true b e = absurd (cc)
     either_false false b e = (refl, e)
+
     there_not : key ≡ key_of q.body → ⊥
     there_not e = let f : (key == key_of q.body) ≡ false = (either_false (key == key_of q.body) (has_key key qs) none).0 in absurd (grind (arith, nat_tests))
 
@@ -140,18 +149,37 @@ version_begun kinds.Copy v is = let low = is.0 in omega arith
 version_begun kinds.Delete v is = let low = is.0 in omega arith
 
 label_next : (clock keys records : ℕ) (key : ℕ) (rs : List Held) → 1 ≤ clock → clock ≤ LAST → keys ≤ 4096 → records ≤ 4096 → AllByRecursion IsPair rs → AllByRecursion (Counted keys records clock) rs → (o : Option Held) → latest key rs ≡ o → IsLabel (next_label clock keys o) × (is_delete (next_label clock keys o).kind ≡ false) × ((next_label clock keys o).version ≤ records + 1) × ((next_label clock keys o).identity ≤ keys + 1)
-label_next clock keys records key rs some last few short pairs counted None at = (record {
-  unit = omega arith; some_epoch = some; last_epoch = last; some_identity = omega arith; last_identity = omega arith; version = refl;
-}, refl, omega arith, omega arith)
+label_next clock keys records key rs some last few short pairs counted None at = (
+  record {
+    unit = omega arith;
+    some_epoch = some;
+    last_epoch = last;
+    some_identity = omega arith;
+    last_identity = omega arith;
+    version = refl;
+  },
+  refl,
+  omega arith,
+  omega arith,
+)
 label_next clock keys records key rs some last few short pairs counted (Some p) at =
     let pair : IsPair p = latest_among IsPair key rs p pairs at in
     let count : Counted keys records clock p = latest_among (Counted keys records clock) key rs p counted at in
     let identity = count.identity in
     let version = count.version in
-    let low = version_begun p.label.kind p.label.version pair.label.version in
-    (record {
-      unit = omega arith; some_epoch = some; last_epoch = last; some_identity = pair.label.some_identity; last_identity = pair.label.last_identity; version = (omega arith, omega arith);
-    }, refl, omega arith, omega arith)
+    let low = version_begun p.label.kind p.label.version pair.label.version in (
+      record {
+        unit = omega arith;
+        some_epoch = some;
+        last_epoch = last;
+        some_identity = pair.label.some_identity;
+        last_identity = pair.label.last_identity;
+        version = (omega arith, omega arith);
+      },
+      refl,
+      omega arith,
+      omega arith,
+    )
 
 pub next_is : (clock keys records : ℕ) (key value : ℕ) (rs : List Held) → 1 ≤ clock → clock ≤ LAST → keys ≤ 4096 → records ≤ 4096 → AllByRecursion IsPair rs → AllByRecursion (Counted keys records clock) rs → IsNext keys records (next_record clock keys rs key value)
 next_is clock keys records key value rs some last few short pairs counted =

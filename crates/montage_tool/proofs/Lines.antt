@@ -1,6 +1,6 @@
 -- What one line does, and how many puts stand before one.
-use Rattle.std.proofs.Common.{◌≡◌, ℕ, zero, suc, ◌+◌, ◌<◌, ◌≤◌, List, [], ◌∷◌, ◌++◌, length, take, drop, get_or, sym, refl, ap, ◌∙◌, subst, arith, length-append, add-zero, Bool, true, false}
-use Rattle.std.specs.Prelude.{Some, slice_get, count_by, if◌then◌else◌}
+use Rattle.std.proofs.Common.{◌≡◌, ℕ, ◌+◌, ◌<◌, List, [], ◌∷◌, ◌++◌, length, take, get_or, sym, ap, ◌∙◌, subst, arith, length-append, add-zero, Bool, true}
+use Rattle.std.specs.Prelude.{slice_get, count_by, if◌then◌else◌}
 use Rattle.std.proofs.lemmas.List.{take_more}
 use Rattle.std.proofs.lemmas.List.Sums.{sum_by-take-drop, count_by_more_yes}
 use Rattle.mont_base.specs.declared.operation.Entry.{Entry}
@@ -12,7 +12,7 @@ use Rattle.mont_base.specs.declared.job.Outcome.{Outcome}
 use Rattle.mont_base.specs.declared.job.Outcome.TheVariants.{At, Ticked}
 use Rattle.mont_base.specs.Layout.{Shape}
 use Rattle.mont_base.specs.State.{unit_of_op}
-use Rattle.mont_base.specs.JobText.{is_put, is_put_op}
+use Rattle.mont_base.specs.JobText.{is_put}
 use Rattle.montage_tool.specs.declared.machine.Machine.{Machine}
 use Rattle.montage_tool.specs.Machine.{IsSound, Calls, Ticks}
 use Rattle.montage_tool.specs.Run.{Played, LineDone}
@@ -36,9 +36,9 @@ line_call m n l op unit place old new called deed of_unit at =
       records = called.records ∙ ap (λ (b : Bool). length m.records.items + (if b then 1 else 0)) (ap (λ (d : Deed). is_put (record { caller = l.caller; deed = d })) (sym deed));
       played = λ lines os p.
           subst (λ (k : ℕ). Played n.layout n.history.items n.clock (lines ++ l ∷ []) (os ++ At unit k ∷ [])) (sym at)
-              (played_as m.layout n.layout (m.history.items ++ e ∷ []) n.history.items m.clock n.clock (lines ++ l ∷ []) (os ++ At unit (length m.history.items) ∷ [])
-              (sym called.layout) (sym called.history) (sym called.clock)
-              (played_call m.layout m.history.items m.clock lines os l op unit e p deed called.asked here (here ∙ one_unit m.layout old.store.holds.one op) number.0 number.1 called.epoch old.past));
+          (played_as m.layout n.layout (m.history.items ++ e ∷ []) n.history.items m.clock n.clock (lines ++ l ∷ []) (os ++ At unit (length m.history.items) ∷ [])
+          (sym called.layout) (sym called.history) (sym called.clock)
+          (played_call m.layout m.history.items m.clock lines os l op unit e p deed called.asked here (here ∙ one_unit m.layout old.store.holds.one op) number.0 number.1 called.epoch old.past));
     }
 
 pub line_tick : (m n : Machine) (l : Line) → IsSound m → Ticks m n → l.deed ≡ Tick → LineDone m n l (Ticked n.clock)
@@ -50,9 +50,9 @@ line_tick m n l old ticked deed =
       records = ap length ticked.records ∙ sym (add-zero (length m.records.items)) ∙ ap (λ (b : Bool). length m.records.items + (if b then 1 else 0)) (ap (λ (d : Deed). is_put (record { caller = l.caller; deed = d })) (sym deed));
       played = λ lines os p.
           subst (λ (x : ℕ). Played n.layout n.history.items n.clock (lines ++ l ∷ []) (os ++ Ticked x ∷ [])) (sym ticked.clock)
-              (played_as m.layout n.layout m.history.items n.history.items (m.clock + 1) n.clock (lines ++ l ∷ []) (os ++ Ticked (m.clock + 1) ∷ [])
-              (sym ticked.layout) (sym ticked.history) (sym ticked.clock)
-              (played_tick m.layout m.history.items m.clock lines os l p deed old.store.begun old.past));
+          (played_as m.layout n.layout m.history.items n.history.items (m.clock + 1) n.clock (lines ++ l ∷ []) (os ++ Ticked (m.clock + 1) ∷ [])
+          (sym ticked.layout) (sym ticked.history) (sym ticked.clock)
+          (played_tick m.layout m.history.items m.clock lines os l p deed old.store.begun old.past));
     }
 
 -- the puts before a put are fewer than all

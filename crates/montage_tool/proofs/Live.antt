@@ -1,18 +1,16 @@
 -- The live objects of a log map each key to the value that was set last.
-use Rattle.std.proofs.Common.{◌≡◌, ℕ, zero, suc, ◌+◌, ◌*◌, ◌<◌, ◌≤◌, ◌⊎◌, List, [], ◌∷◌, ◌++◌, length, sym, refl, ap, ◌∙◌, subst, inl, inr, ⊎_elim, arith, Bool, true, false, cond, eqb, ltb}
+use Rattle.std.proofs.Common.{◌≡◌, ℕ, ◌<◌, List, [], ◌∷◌, sym, refl, ap, ◌∙◌, arith, Bool, true, false, cond}
 use Rattle.std.specs.Prelude.{Option, Some, None, is_some, nat_lt, nat_eq, not, ◌&&◌, ◌||◌, ◌==◌, map, filter, if◌then◌else◌}
 use Rattle.std.specs.List.{list_any, AllByRecursion}
-use Rattle.std.specs.Ordering.{nat_cmp, eq_by_cmp}
-use Rattle.std.specs.Option.{option_map}
+use Rattle.std.specs.Ordering.{nat_cmp}
 use Rattle.std.specs.Cmp.{nat_cmp_total, unsigned_tied}
 use Rattle.std.specs.FinMap as finite
-use Rattle.std.specs.FinMap.{get-insert, get-empty, get-from_entries, same_map, nat_cmp-IsAntisymmetric}
+use Rattle.std.specs.FinMap.{get-insert, get-empty, same_map, nat_cmp-IsAntisymmetric}
 use Rattle.std.proofs.lemmas.Bool.Decides.{nat_tests}
 use Rattle.mont_base.specs.declared.record.Held.{Held}
-use Rattle.mont_base.specs.declared.record.Object.{Object}
 use Rattle.mont_base.specs.State.{Pairs}
 use Rattle.mont_base.specs.Objects.{is_delete, is_later, is_live, object_of, live_objects, key_of, value_of, pairs_of}
-use Rattle.montage_tool.specs.Log.{IsPair, Follows, IsLog, or_this, latest, set_all}
+use Rattle.montage_tool.specs.Log.{Follows, IsLog, or_this, latest, set_all}
 
 -- two tests on numbers, of which the first is made in two steps
 same_test : (k l i j v w : ℕ) → (i ≡ j → k ≡ l) → (k ≡ l → i ≡ j) → (i ≡ j → v < w) → (nat_eq j i && nat_lt v w) ≡ nat_eq k l
@@ -68,9 +66,9 @@ live-log [] log = refl
 live-log (r ∷ rs) log =
     let rest : filter (is_live (r ∷ rs)) rs ≡ lasts rs = live_behind r rs rs log.1 ∙ live-log rs log.2 in
     let here : is_live (r ∷ rs) r ≡ not (has_key (key_of r.body) rs) =
-        ap (λ (b : Bool). not b && not (is_later r r || list_any (is_later r) rs)) log.0.live
-        ∙ ap (λ (b : Bool). not (b || list_any (is_later r) rs)) (not_later_self r)
-        ∙ ap not (later_any r rs log.1) in
+    ap (λ (b : Bool). not b && not (is_later r r || list_any (is_later r) rs)) log.0.live
+    ∙ ap (λ (b : Bool). not (b || list_any (is_later r) rs)) (not_later_self r)
+    ∙ ap not (later_any r rs log.1) in
     ap (λ (b : Bool). if b then r ∷ filter (is_live (r ∷ rs)) rs else filter (is_live (r ∷ rs)) rs) here
     ∙ ap (λ (tail : List Held). if not (has_key (key_of r.body) rs) then r ∷ tail else tail) rest
     ∙ turned (has_key (key_of r.body) rs) (r ∷ lasts rs) (lasts rs)
@@ -122,6 +120,7 @@ get-pairs_of_log key (r ∷ rs) = by_key (get-pairs_of_log key rs) (has_key (key
         some : (o : Option Held) → is_some o ≡ true → value_in o ≡ value_in (or_this o true r)
         some None h = absurd (cc)
         some (Some q) h = refl
+
     fresh : (t : Bool) → (key == key_of r.body) ≡ t → has_key (key_of r.body) rs ≡ false → cond t (Some (value_of r.body)) (value_in (latest key rs)) ≡ value_in (or_this (latest key rs) t r)
     fresh false e has = same (latest key rs)
       where
@@ -136,6 +135,7 @@ get-pairs_of_log key (r ∷ rs) = by_key (get-pairs_of_log key rs) (has_key (key
         gone : (o : Option Held) → is_some o ≡ false → Some (value_of r.body) ≡ value_in (or_this o true r)
         gone None h = refl
         gone (Some q) h = absurd (cc)
+
     by_key : finite.get (pairs_of_log rs) key ≡ value_in (latest key rs) → (b : Bool) → has_key (key_of r.body) rs ≡ b → finite.get (pairs_of (map object_of (if b then lasts rs else r ∷ lasts rs))) key ≡ value_in (or_this (latest key rs) (key == key_of r.body) r)
     by_key behind true e = behind ∙ shadowed (key == key_of r.body) refl e
     by_key behind false e =
@@ -161,7 +161,7 @@ get-set_all key m (r ∷ rs) =
 pub set_all-live : (rs : List Held) → IsLog rs → set_all finite.empty rs ≡ pairs_of (live_objects rs)
 set_all-live rs log =
     same_map nat_cmp_total nat_cmp-IsAntisymmetric (set_all finite.empty rs) (pairs_of_log rs) (λ key.
-        get-set_all key finite.empty rs ∙ ap (λ (o : Option ℕ). or_value (value_in (latest key rs)) o) (get-empty nat_cmp key) ∙ or_none (value_in (latest key rs)) ∙ sym (get-pairs_of_log key rs))
+    get-set_all key finite.empty rs ∙ ap (λ (o : Option ℕ). or_value (value_in (latest key rs)) o) (get-empty nat_cmp key) ∙ or_none (value_in (latest key rs)) ∙ sym (get-pairs_of_log key rs))
     ∙ ap (λ (hs : List Held). pairs_of (map object_of hs)) (sym (live-log rs log))
   where
     or_none : (o : Option ℕ) → or_value o None ≡ o

@@ -1,9 +1,9 @@
 -- The words of a store whose first slots hold records.
-use Rattle.std.proofs.Common.{◌≡◌, ℕ, zero, suc, ◌+◌, ◌-◌, ◌*◌, ◌<◌, ◌≤◌, List, [], ◌∷◌, ◌++◌, length, take, drop, replicate, sym, refl, ap, ◌∙◌, subst, arith, length-append, length-drop, append_assoc, get_or}
-use Rattle.std.specs.Prelude.{Option, Some, None, slice_get, slice_index}
+use Rattle.std.proofs.Common.{◌≡◌, ℕ, zero, suc, ◌+◌, ◌-◌, ◌*◌, ◌<◌, ◌≤◌, List, [], ◌∷◌, ◌++◌, length, take, drop, replicate, sym, refl, ap, ◌∙◌, subst, arith, length-append, append_assoc, get_or}
+use Rattle.std.specs.Prelude.{Some, slice_get, slice_index}
 use Rattle.std.specs.List.{flat_map, AllByRecursion}
 use Rattle.std.proofs.lemmas.Grind.{flat_map-append}
-use Rattle.std.proofs.lemmas.List.{drop-replicate, drop-drop, take-append-le, length-replicate, get_or-drop}
+use Rattle.std.proofs.lemmas.List.{drop-replicate, length-replicate, get_or-drop}
 use Rattle.std.proofs.lemmas.Option.{same_Some}
 use Rattle.std.proofs.Math.Seq.{take-append_seam, drop-append_seam, drop-append-add}
 use Rattle.mont_base.specs.declared.record.Held.{Held}
@@ -63,6 +63,7 @@ epoch_at-words image slot = first (word_of slot 0) image
     head_of : (xs : List ℕ) → get_or xs 0 0 ≡ get_or (take 8 xs) 0 0
     head_of [] = refl
     head_of (x ∷ xs) = refl
+
     first : (n : ℕ) (xs : List ℕ) → get_or xs n 0 ≡ get_or (take 8 (drop n xs)) 0 0
     first n xs = sym (ap (λ (k : ℕ). get_or xs k 0) (omega arith)) ∙ sym (get_or-drop n xs 0 0) ∙ head_of (drop n xs)
 
@@ -83,10 +84,10 @@ epoch_at-closed s clock rs i all past =
     let image : List ℕ = memory s clock rs in
     ap (λ (k : ℕ). get_or image k 0) (omega arith) ∙ sym (get_or-drop (word_of i 0) image 0 0)
     ∙ ap (λ (xs : List ℕ). get_or xs 0 0) (
-      drop_slot clock (blocks rs ++ zeros) i
-      ∙ ap (λ (n : ℕ). drop n (blocks rs ++ zeros)) far
-      ∙ drop-append-add (blocks rs) zeros (8 * (i - length rs))
-      ∙ drop-replicate (8 * (i - length rs)) (8 * (total_of s - length rs)) 0
+    drop_slot clock (blocks rs ++ zeros) i
+    ∙ ap (λ (n : ℕ). drop n (blocks rs ++ zeros)) far
+    ∙ drop-append-add (blocks rs) zeros (8 * (i - length rs))
+    ∙ drop-replicate (8 * (i - length rs)) (8 * (total_of s - length rs)) 0
     )
     ∙ zero_at (8 * (total_of s - length rs) - 8 * (i - length rs)) 0
 
@@ -100,9 +101,9 @@ memory_push s clock rs r all here room =
     let step : 1 + 8 * length rs ≡ suc (length (blocks rs)) = omega arith in
     let fewer : n - 8 ≡ 8 * (total_of s - length (rs ++ r ∷ [])) = omega (arith, length-append rs (r ∷ [])) in
     let behind : drop 8 (drop (1 + 8 * length rs) (memory s clock rs)) ≡ replicate (n - 8) 0 =
-        ap (λ (k : ℕ). drop 8 (drop k (memory s clock rs))) step ∙ ap (drop 8) (drop-append_seam (blocks rs) zeros) ∙ drop-replicate 8 n 0 in
+    ap (λ (k : ℕ). drop 8 (drop k (memory s clock rs))) step ∙ ap (drop 8) (drop-append_seam (blocks rs) zeros) ∙ drop-replicate 8 n 0 in
     let front : take (1 + 8 * length rs) (memory s clock rs) ≡ clock ∷ blocks rs =
-        ap (λ (k : ℕ). take k (memory s clock rs)) step ∙ ap (λ (xs : List ℕ). clock ∷ xs) (take-append_seam (blocks rs) zeros) in
+    ap (λ (k : ℕ). take k (memory s clock rs)) step ∙ ap (λ (xs : List ℕ). clock ∷ xs) (take-append_seam (blocks rs) zeros) in
     let joined : blocks (rs ++ r ∷ []) ≡ blocks rs ++ words_of_record r = flat_map-append words_of_record rs (r ∷ []) ∙ ap (λ (xs : List ℕ). blocks rs ++ xs) (nothing_behind (words_of_record r)) in
     ap (λ (xs : List ℕ). xs ++ (words_of_record r ++ drop 8 (drop (1 + 8 * length rs) (memory s clock rs)))) front
     ∙ ap (λ (ys : List ℕ). clock ∷ (blocks rs ++ (words_of_record r ++ ys))) (behind ∙ ap (λ (k : ℕ). replicate k 0) fewer)

@@ -1,18 +1,16 @@
 -- The live objects of a log have no fault, so they make a structure.
-use Rattle.std.proofs.Common.{◌≡◌, ℕ, ◌+◌, ◌%◌, ◌<◌, ◌≤◌, List, [], ◌∷◌, ◌++◌, sym, refl, ap, ◌∙◌, subst, arith, Bool, true, false}
-use Rattle.std.specs.Prelude.{Option, Some, None, nat_eq, not, ◌&&◌, ◌||◌, ◌==◌, map, if◌then◌else◌}
+use Rattle.std.proofs.Common.{◌≡◌, ℕ, ◌%◌, List, [], ◌∷◌, ◌++◌, refl, ap, ◌∙◌, arith, Bool, true, false}
+use Rattle.std.specs.Prelude.{Option, Some, None, not, ◌||◌, ◌==◌, map, if◌then◌else◌}
 use Rattle.std.specs.List.{list_any, AllByRecursion}
 use Rattle.std.specs.FinMap as finite
-use Rattle.std.proofs.lemmas.Bool.Decides.{nat_tests}
 use Rattle.mont_base.specs.declared.record.Held.{Held}
 use Rattle.mont_base.specs.declared.record.Object.{Object}
 use Rattle.mont_base.specs.declared.record.ObjectFault.{ObjectFault}
 use Rattle.mont_base.specs.declared.record.ObjectFault.TheVariants.{Spare, Shard, Key}
-use Rattle.mont_base.specs.declared.layout.UnitKind.TheVariants as kinds
 use Rattle.mont_base.specs.Layout.{Shape, kind_of, unit_of_key}
-use Rattle.mont_base.specs.State.{MapOf, Pairs}
-use Rattle.mont_base.specs.Objects.{object_of, live_objects, key_of, value_of, pair_body, has_spare, map_fault, or_else, at_slot, first_fault, pairs_of, IsStructure}
-use Rattle.montage_tool.specs.Log.{IsPair, Follows, IsLog, set_all}
+use Rattle.mont_base.specs.State.{MapOf}
+use Rattle.mont_base.specs.Objects.{object_of, live_objects, key_of, has_spare, map_fault, or_else, at_slot, first_fault, IsStructure}
+use Rattle.montage_tool.specs.Log.{IsPair, IsLog, set_all}
 use Rattle.montage_tool.proofs.Live.{has_key, lasts, live-log, set_all-live}
 
 pub any_push : {A : Type 0} (f : A → Bool) (xs : List A) (x : A) → list_any f (xs ++ x ∷ []) ≡ (list_any f xs || f x)

@@ -1,8 +1,7 @@
 -- One more line of a run.
 use Rattle.std.proofs.Common.{◌≡◌, ℕ, zero, suc, ◌+◌, ◌<◌, ◌≤◌, ◌⊎◌, List, [], ◌∷◌, ◌++◌, length, take, sym, refl, ap, ◌∙◌, subst, inl, inr, ⊎_elim, arith, length-append, zero-add, get_or, Bool, true, false}
-use Rattle.std.specs.Prelude.{Option, Some, None, All, AllPairs, slice_get, count_by, sum_by, nat_eq, ◌&&◌, ◌==◌, if◌then◌else◌}
+use Rattle.std.specs.Prelude.{Some, All, slice_get, count_by, ◌&&◌, ◌==◌, if◌then◌else◌}
 use Rattle.std.proofs.lemmas.Bool.Decides.{nat_tests}
-use Rattle.std.proofs.lemmas.Grind.{common_steps}
 use Rattle.std.proofs.lemmas.List.{take-append-le}
 use Rattle.std.proofs.Math.Seq.{take-append_seam}
 use Rattle.std.proofs.lemmas.List.Elements.{All-push}
@@ -18,7 +17,7 @@ use Rattle.mont_base.specs.declared.job.Outcome.{Outcome}
 use Rattle.mont_base.specs.declared.job.Outcome.TheVariants.{At, Ticked}
 use Rattle.mont_base.specs.Layout.{Shape}
 use Rattle.mont_base.specs.State.{unit_of_op}
-use Rattle.mont_base.specs.Report.{IsEntryAt, IsAnswer, Answers, InOrder, AnswersLines, is_at, names}
+use Rattle.mont_base.specs.Report.{IsEntryAt, Answers, InOrder, is_at, names}
 use Rattle.montage_tool.specs.Run.{made, IsReached, Played}
 
 -- the entries of the one unit that has any
@@ -76,7 +75,12 @@ entry_on s h x clock clock' unit place e at =
 
 answer_on : (s : Shape) (h : List Entry) (x : Entry) (clock clock' : ℕ) (before : List Outcome) (deed : Deed) (o : Outcome) → clock ≤ clock' → Answers (made s h [] clock []) 0 before deed o → Answers (made s (h ++ x ∷ []) [] clock' []) 0 before deed o
 answer_on s h x clock clock' before (Call op) (At unit place) later a = record {
-  of_unit = a.of_unit; entry = a.entry; there = entry_on s h x clock clock' unit place a.entry a.there; by = a.by; number = a.number; asked = a.asked;
+  of_unit = a.of_unit;
+  entry = a.entry;
+  there = entry_on s h x clock clock' unit place a.entry a.there;
+  by = a.by;
+  number = a.number;
+  asked = a.asked;
 }
 answer_on s h x clock clock' before (Call op) (Ticked epoch) later a = absurd a
 answer_on s h x clock clock' before Tick (At unit place) later a = absurd a
@@ -136,7 +140,12 @@ played_call s h clock lines os l op unit x p deed asked of_unit zeroth by number
     let r = made s (h ++ x ∷ []) [] clock [] in
     let there : IsEntryAt r unit (length h) x = entry_here s (h ++ x ∷ []) clock unit (length h) x zeroth (get_last h x) in
     let answer : Answers r 0 os l.deed new = subst (λ (d : Deed). Answers r 0 os d new) (sym deed) (record {
-      of_unit = of_unit; entry = x; there = there; by = by; number = number ∙ sym p.calls; asked = asked;
+      of_unit = of_unit;
+      entry = x;
+      there = there;
+      by = by;
+      number = number ∙ sym p.calls;
+      asked = asked;
     }) in
     record {
       answers = record {
@@ -144,17 +153,17 @@ played_call s h clock lines os l op unit x p deed asked of_unit zeroth by number
         each = λ i k o line_at out_at.
             ⊎_elim
             (λ (t : (i < length os) × (slice_get os i ≡ Some o)).
-                let low = t.0 in
-                let e = p.answers.one_each in
-                subst (λ (before : List Outcome). Answers r 0 before k.deed o) (sym (take-append-le i os (new ∷ []) (omega arith)))
-                    (answer_on s h x clock clock (take i os) k.deed o (omega arith) (p.answers.each i k o (sym (get_left lines (l ∷ []) i (omega arith)) ∙ line_at) t.1)))
+            let low = t.0 in
+            let e = p.answers.one_each in
+            subst (λ (before : List Outcome). Answers r 0 before k.deed o) (sym (take-append-le i os (new ∷ []) (omega arith)))
+            (answer_on s h x clock clock (take i os) k.deed o (omega arith) (p.answers.each i k o (sym (get_left lines (l ∷ []) i (omega arith)) ∙ line_at) t.1)))
             (λ (t : (i ≡ length os) × (new ≡ o)).
-                let e = p.answers.one_each in
-                let place : i ≡ length lines = t.0 ∙ e in
-                let same : l ≡ k = same_Some l k (sym (get_last lines l) ∙ subst (λ (n : ℕ). slice_get (lines ++ l ∷ []) n ≡ Some k) place line_at) in
-                let before : take i (os ++ new ∷ []) ≡ os = ap (λ (n : ℕ). take n (os ++ new ∷ [])) t.0 ∙ take-append_seam os (new ∷ []) in
-                subst (λ (b : List Outcome). Answers r 0 b k.deed o) (sym before)
-                    (subst (λ (q : Outcome). Answers r 0 os k.deed q) t.1 (subst (λ (m : Line). Answers r 0 os m.deed new) same answer)))
+            let e = p.answers.one_each in
+            let place : i ≡ length lines = t.0 ∙ e in
+            let same : l ≡ k = same_Some l k (sym (get_last lines l) ∙ subst (λ (n : ℕ). slice_get (lines ++ l ∷ []) n ≡ Some k) place line_at) in
+            let before : take i (os ++ new ∷ []) ≡ os = ap (λ (n : ℕ). take n (os ++ new ∷ [])) t.0 ∙ take-append_seam os (new ∷ []) in
+            subst (λ (b : List Outcome). Answers r 0 b k.deed o) (sym before)
+            (subst (λ (q : Outcome). Answers r 0 os k.deed q) t.1 (subst (λ (m : Line). Answers r 0 os m.deed new) same answer)))
             (push_cases os new o i out_at);
         order = all_pairs_push (InOrder r) os new
             (λ i j d low high. order_on s h x clock clock (get_or os i d) (get_or os j d) (p.reached i d (omega arith)) (p.reached j d high) (p.answers.order i j d low high))
@@ -171,10 +180,13 @@ played_call s h clock lines os l op unit x p deed asked of_unit zeroth by number
   where
     new_epoch : (e : Entry) → IsEntryAt (made s (h ++ x ∷ []) [] clock []) unit (length h) e → e.epoch ≡ clock
     new_epoch e at = sym (ap (λ (d : Entry). d.epoch) (same_Some x e (sym (get_last h x) ∙ (entry_of s (h ++ x ∷ []) clock unit (length h) e at).1))) ∙ epoch
+
     past_at : {m : ℕ} {d : Entry} → slice_get (h ++ x ∷ []) m ≡ Some d → m < length h → d.epoch ≤ clock
     past_at {m} {d} at low = let found = sym (get_left h (x ∷ []) m low) ∙ at in subst (λ (e : Entry). e.epoch ≤ clock) (get_or-slice_get h m d found) (past m d low)
+
     lower_or_last : (m n : ℕ) → m < n + 1 → (m < n) ⊎ (m ≡ n)
     lower_or_last m n l = grind arith
+
     once_before : (n : ℕ) → n < length h → count_by (names 0 n) (os ++ At unit (length h) ∷ []) ≡ 1
     once_before n low =
         let other : (length h == n) ≡ false = grind (arith, nat_tests) in
@@ -184,6 +196,7 @@ played_call s h clock lines os l op unit x p deed asked of_unit zeroth by number
         and_false : (a b : Bool) → b ≡ false → (a && b) ≡ false
         and_false true b e = e
         and_false false b e = refl
+
     once_here : count_by (names 0 (length h)) (os ++ At unit (length h) ∷ []) ≡ 1
     once_here =
         let first : (unit == 0) ≡ true = grind (arith, nat_tests) in
@@ -192,11 +205,15 @@ played_call s h clock lines os l op unit x p deed asked of_unit zeroth by number
         ∙ ap (λ (b : Bool). count_by (names 0 (length h)) os + (if b && (length h == length h) then 1 else 0)) first
         ∙ ap (λ (b : Bool). count_by (names 0 (length h)) os + (if b then 1 else 0)) second
         ∙ (let none = unnamed h clock os p.reached in omega arith)
+
     last_order : (o : Outcome) → IsReached h clock o → InOrder (made s (h ++ x ∷ []) [] clock []) o (At unit (length h))
-    last_order (At u m) reach = ((λ d e at there.
-        let low = past_at (entry_of s (h ++ x ∷ []) clock u m d at).1 reach.1 in
-        let high = new_epoch e there in
-        omega arith), λ same. reach.1)
+    last_order (At u m) reach = (
+      (λ d e at there.
+          let low = past_at (entry_of s (h ++ x ∷ []) clock u m d at).1 reach.1 in
+          let high = new_epoch e there in
+          omega arith),
+      λ same. reach.1,
+    )
     last_order (Ticked t) reach = λ e at. let high = new_epoch e at in omega arith
 
 -- the outcomes of one more tick
@@ -213,17 +230,17 @@ played_tick s h clock lines os l p deed begun past =
         each = λ i k o line_at out_at.
             ⊎_elim
             (λ (t : (i < length os) × (slice_get os i ≡ Some o)).
-                let low = t.0 in
-                let e = p.answers.one_each in
-                subst (λ (before : List Outcome). Answers r 0 before k.deed o) (sym (take-append-le i os (new ∷ []) (omega arith)))
-                    (answer_later s h clock (clock + 1) (take i os) k.deed o (omega arith) (p.answers.each i k o (sym (get_left lines (l ∷ []) i (omega arith)) ∙ line_at) t.1)))
+            let low = t.0 in
+            let e = p.answers.one_each in
+            subst (λ (before : List Outcome). Answers r 0 before k.deed o) (sym (take-append-le i os (new ∷ []) (omega arith)))
+            (answer_later s h clock (clock + 1) (take i os) k.deed o (omega arith) (p.answers.each i k o (sym (get_left lines (l ∷ []) i (omega arith)) ∙ line_at) t.1)))
             (λ (t : (i ≡ length os) × (new ≡ o)).
-                let e = p.answers.one_each in
-                let place : i ≡ length lines = t.0 ∙ e in
-                let same : l ≡ k = same_Some l k (sym (get_last lines l) ∙ subst (λ (n : ℕ). slice_get (lines ++ l ∷ []) n ≡ Some k) place line_at) in
-                let before : take i (os ++ new ∷ []) ≡ os = ap (λ (n : ℕ). take n (os ++ new ∷ [])) t.0 ∙ take-append_seam os (new ∷ []) in
-                subst (λ (b : List Outcome). Answers r 0 b k.deed o) (sym before)
-                    (subst (λ (q : Outcome). Answers r 0 os k.deed q) t.1 (subst (λ (m : Line). Answers r 0 os m.deed new) same answer)))
+            let e = p.answers.one_each in
+            let place : i ≡ length lines = t.0 ∙ e in
+            let same : l ≡ k = same_Some l k (sym (get_last lines l) ∙ subst (λ (n : ℕ). slice_get (lines ++ l ∷ []) n ≡ Some k) place line_at) in
+            let before : take i (os ++ new ∷ []) ≡ os = ap (λ (n : ℕ). take n (os ++ new ∷ [])) t.0 ∙ take-append_seam os (new ∷ []) in
+            subst (λ (b : List Outcome). Answers r 0 b k.deed o) (sym before)
+            (subst (λ (q : Outcome). Answers r 0 os k.deed q) t.1 (subst (λ (m : Line). Answers r 0 os m.deed new) same answer)))
             (push_cases os new o i out_at);
         order = all_pairs_push (InOrder r) os new
             (λ i j d low high. order_later s h clock (clock + 1) (get_or os i d) (get_or os j d) (p.answers.order i j d low high))

@@ -1,7 +1,7 @@
 -- What is read of the words of a store whose first slots hold a log.
-use Rattle.std.proofs.Common.{◌≡◌, ℕ, zero, suc, ◌+◌, ◌-◌, ◌*◌, ◌/◌, ◌%◌, ◌<◌, ◌≤◌, ◌⊎◌, List, [], ◌∷◌, ◌++◌, length, take, drop, sym, refl, ap, ◌∙◌, subst, inl, inr, ⊎_elim, arith, length-append, append-nil, get_or, Bool, true, false}
-use Rattle.std.specs.Prelude.{Option, Some, None, Result, Ok, Err, slice_get, slice_index, filter, nat_le, nat_eq, not, ◌&&◌, ◌==◌, if◌then◌else◌}
-use Rattle.std.specs.List.{filter_map, cons_option, range_with_len, AllByRecursion}
+use Rattle.std.proofs.Common.{◌≡◌, ℕ, zero, suc, ◌+◌, ◌-◌, ◌*◌, ◌/◌, ◌%◌, ◌<◌, ◌≤◌, List, [], ◌∷◌, ◌++◌, length, sym, refl, ap, ◌∙◌, subst, arith, append-nil, Bool, true, false}
+use Rattle.std.specs.Prelude.{Option, Some, None, Result, Ok, Err, slice_get, slice_index, nat_le, not, ◌&&◌, ◌==◌, if◌then◌else◌}
+use Rattle.std.specs.List.{filter_map, cons_option, range_with_len}
 use Rattle.std.proofs.lemmas.Bool.Decides.{nat_tests}
 use Rattle.std.proofs.lemmas.List.Elements.{filter_map-append}
 use Rattle.std.proofs.lemmas.Option.{same_Some, slice_get_within}
@@ -13,12 +13,12 @@ use Rattle.mont_base.specs.declared.record.Kind.{Kind}
 use Rattle.mont_base.specs.declared.record.Kind.TheVariants as kinds
 use Rattle.mont_base.specs.declared.record.SlotFault.{SlotFault}
 use Rattle.mont_base.specs.declared.record.SlotFault.TheVariants as faults
-use Rattle.mont_base.specs.Layout.{Shape, IsLayout, total_of, units_of, unit_of_slot}
+use Rattle.mont_base.specs.Layout.{Shape, unit_of_slot}
 use Rattle.mont_base.specs.Record.{IsLabel, IsVersionOf, number_of_kind, kind_of_number, is_version_of, label_at, body_at, slot_words, reading, reading_of_kind}
-use Rattle.mont_base.specs.Image.{words_at, epoch_at, cut_of, is_within, found, record_at, slots_of, records_of}
+use Rattle.mont_base.specs.Image.{words_at, epoch_at, is_within, found, record_at, records_of}
 use Rattle.montage_tool.specs.Machine.{Holds}
-use Rattle.montage_tool.specs.Log.{IsPair, Follows, IsLog, StandFrom, kept_at, words_of_record, memory}
-use Rattle.montage_tool.proofs.Memory.{Eight, eights_of_log, words_at-memory, epoch_at-memory, epoch_at-closed}
+use Rattle.montage_tool.specs.Log.{IsPair, IsLog, StandFrom, kept_at, memory}
+use Rattle.montage_tool.proofs.Memory.{eights_of_log, words_at-memory, epoch_at-memory, epoch_at-closed}
 
 number_parts : (k unit : ℕ) → unit < 256 → ((256 * k + unit) / 256 ≡ k) × ((256 * k + unit) % 256 ≡ unit)
 number_parts k unit small = (omega arith, omega arith)
@@ -45,11 +45,11 @@ reading-slot_words unit l body is same =
     let open_slot : (l.epoch == 0) ≡ false = let some = is.some_epoch in grind (arith, nat_tests) in
     let own : not ((256 * number_of_kind l.kind + l.unit) % 256 == unit) ≡ false = (let e : (256 * number_of_kind l.kind + l.unit) % 256 ≡ unit = parts.1 ∙ same in grind (arith, nat_tests)) in
     let identity : not (nat_le 1 l.identity && nat_le l.identity LAST) ≡ false =
-        ap not (both_true (nat_le 1 l.identity) (nat_le l.identity LAST) (let some = is.some_identity in grind (arith, nat_tests)) (let last = is.last_identity in grind (arith, nat_tests))) in
+    ap not (both_true (nat_le 1 l.identity) (nat_le l.identity LAST) (let some = is.some_identity in grind (arith, nat_tests)) (let last = is.last_identity in grind (arith, nat_tests))) in
     let version : not (is_version_of l.kind l.version) ≡ false = ap not (version_passes l.kind l.version is.version) in
     let words : List ℕ = slot_words l body in
     let rest : Bool → Bool → Bool → Result (Option (Label × List ℕ)) SlotFault = λ a b c.
-        if a then Err (faults.Unit (slice_index words 1)) else (if b then Err (faults.Identity (slice_index words 2)) else (if c then Err (faults.Version (slice_index words 3)) else Ok (Some (label_at l.kind words, body_at words)))) in
+    if a then Err (faults.Unit (slice_index words 1)) else (if b then Err (faults.Identity (slice_index words 2)) else (if c then Err (faults.Version (slice_index words 3)) else Ok (Some (label_at l.kind words, body_at words)))) in
     ap (λ (b : Bool). if b then Ok None else reading_of_kind (kind_of_number (slice_index words 1 / 256)) unit words) open_slot
     ∙ ap (λ (k : ℕ). reading_of_kind (kind_of_number k) unit words) parts.0
     ∙ ap (λ (o : Option Kind). reading_of_kind o unit words) (kind_back l.kind)
@@ -113,11 +113,11 @@ module _ (s : Shape) (clock : ℕ) (rs : List Held) (h : Holds s rs) where
       let epoch : epoch_at image i ≡ r.label.epoch = epoch_at-memory s clock rs i r (eights_of_log rs h.log) at in
       let begun : nat_le 1 r.label.epoch ≡ true = (let some = pair.label.some_epoch in grind (arith, nat_tests)) in
       let within : is_within image i ≡ nat_le r.label.epoch (clock - 2) =
-          ap (λ (e : ℕ). nat_le 1 e && nat_le e (clock - 2)) epoch ∙ ap (λ (b : Bool). b && nat_le r.label.epoch (clock - 2)) begun in
+      ap (λ (e : ℕ). nat_le 1 e && nat_le e (clock - 2)) epoch ∙ ap (λ (b : Bool). b && nat_le r.label.epoch (clock - 2)) begun in
       let read : found i (reading (unit_of_slot s i) (words_at image i)) ≡ Some r =
-          ap (λ (u : ℕ). found i (reading u (words_at image i))) (unit_zero i (omega arith))
-          ∙ ap (found i) (reading_here i r at)
-          ∙ ap (λ (n : ℕ). Some (record { slot = n; label = r.label; body = r.body })) (sym (slot_of 0 rs i r h.stand at ∙ omega arith)) in
+      ap (λ (u : ℕ). found i (reading u (words_at image i))) (unit_zero i (omega arith))
+      ∙ ap (found i) (reading_here i r at)
+      ∙ ap (λ (n : ℕ). Some (record { slot = n; label = r.label; body = r.body })) (sym (slot_of 0 rs i r h.stand at ∙ omega arith)) in
       ap (λ (b : Bool). if b then found i (reading (unit_of_slot s i) (words_at image i)) else None) within
       ∙ ap (λ (o : Option Held). if nat_le r.label.epoch (clock - 2) then o else None) read
 

@@ -1,20 +1,18 @@
 -- What outlives a crash is an image that recovery accepts, and holds the history cut two epochs before the clock.
-use Rattle.std.proofs.Common.{◌≡◌, ℕ, zero, suc, ◌+◌, ◌-◌, ◌<◌, ◌≤◌, List, [], ◌∷◌, ◌++◌, length, take, drop, sym, refl, ap, ◌∙◌, subst, arith, append-nil, Bool, true, false}
-use Rattle.std.specs.Prelude.{Some, slice_get, nat_le, filter, if◌then◌else◌}
+use Rattle.std.proofs.Common.{◌≡◌, ℕ, zero, suc, ◌+◌, ◌-◌, ◌≤◌, List, [], ◌∷◌, ◌++◌, length, take, drop, sym, refl, ap, ◌∙◌, subst, arith, append-nil, Bool, false}
+use Rattle.std.specs.Prelude.{Some, slice_get, nat_le, if◌then◌else◌}
 use Rattle.std.specs.List.{AllByRecursion}
 use Rattle.std.specs.FinMap as finite
 use Rattle.std.proofs.lemmas.Bool.Decides.{nat_tests}
-use Rattle.std.proofs.lemmas.Option.{same_Some}
 use Rattle.std.proofs.lemmas.List.{take-append-drop, length-take}
 use Rattle.std.proofs.lemmas.List.Elements.{filter-append}
-use Rattle.mont_base.specs.declared.constants.TheConstants.{LAST}
 use Rattle.mont_base.specs.declared.record.Held.{Held}
 use Rattle.mont_base.specs.Layout.{Shape}
 use Rattle.mont_base.specs.State.{State, MapOf}
 use Rattle.mont_base.specs.Objects.{live_objects, IsStructure}
 use Rattle.mont_base.specs.Image.{clock_of, records_of, IsWellFormed, IsRecovered}
 use Rattle.mont_base.specs.History.{state_after, cut_at}
-use Rattle.montage_tool.specs.Log.{Follows, IsLog, StandFrom, kept_at, memory}
+use Rattle.montage_tool.specs.Log.{Follows, IsLog, StandFrom, kept_at}
 use Rattle.montage_tool.specs.declared.machine.Machine.{Machine}
 use Rattle.montage_tool.specs.Machine.{Holds, IsSound}
 use Rattle.montage_tool.proofs.Cut.{structure_of_cut}

@@ -1,21 +1,19 @@
 -- One more entry keeps what is always true of the history.
-use Rattle.std.proofs.Common.{◌≡◌, ℕ, zero, suc, ◌+◌, ◌%◌, ◌<◌, ◌≤◌, List, [], ◌∷◌, ◌++◌, length, sym, refl, ap, ◌∙◌, subst, arith, length-append, append-nil, Bool, true, false}
-use Rattle.std.specs.Prelude.{Option, Some, None, Result, Ok, Err, OnOk, All, AllPairs, map, slice_get, slice_index_or}
-use Rattle.std.specs.List.{flat_map}
+use Rattle.std.proofs.Common.{◌≡◌, ℕ, zero, suc, ◌+◌, ◌%◌, ◌≤◌, List, [], ◌∷◌, ◌++◌, length, sym, ap, ◌∙◌, subst, arith, append-nil}
+use Rattle.std.specs.Prelude.{Some, Result, Ok, Err, OnOk, All, map, slice_get}
 use Rattle.std.specs.FinMap as finite
 use Rattle.std.proofs.lemmas.Grind.{flat_map-append}
 use Rattle.std.proofs.lemmas.List.{map-append}
-use Rattle.std.proofs.lemmas.List.Elements.{All-push, All-weaker}
+use Rattle.std.proofs.lemmas.List.Elements.{All-push}
 use Rattle.std.proofs.lemmas.List.Quantifiers.{all_pairs_push}
-use Rattle.std.proofs.lemmas.Option.{same_Some, slice_get_within}
+use Rattle.std.proofs.lemmas.Option.{same_Some}
 use Rattle.mont_base.specs.declared.constants.TheConstants.{LAST}
 use Rattle.mont_base.specs.declared.record.Held.{Held}
 use Rattle.mont_base.specs.declared.operation.Entry.{Entry}
 use Rattle.mont_base.specs.declared.operation.Op.{Op}
 use Rattle.mont_base.specs.declared.operation.Op.TheVariants.{Put, Get}
-use Rattle.mont_base.specs.declared.operation.Reply.{Reply}
-use Rattle.mont_base.specs.Layout.{Shape, unit_of_key}
-use Rattle.mont_base.specs.State.{State, MapOf, Pairs, step, earlier, unit_of_op}
+use Rattle.mont_base.specs.Layout.{Shape}
+use Rattle.mont_base.specs.State.{State, MapOf, step, unit_of_op}
 use Rattle.mont_base.specs.History.{state_after, RepliesFollow, IsLegal}
 use Rattle.montage_tool.specs.Log.{set_all, puts_of, puts_of_op, put_of_record}
 use Rattle.montage_tool.specs.Machine.{AreCalls}

@@ -1,5 +1,5 @@
 -- Each step of the machine keeps what is always true of its words and records.
-use Rattle.std.proofs.Common.{◌≡◌, ℕ, zero, suc, ◌+◌, ◌-◌, ◌*◌, ◌<◌, ◌≤◌, List, [], ◌∷◌, ◌++◌, length, take, drop, set, get_or, replicate, sym, refl, ap, ◌∙◌, subst, arith, length-append, length-drop, append-nil, Bool, true, false}
+use Rattle.std.proofs.Common.{◌≡◌, ℕ, zero, suc, ◌+◌, ◌*◌, ◌<◌, ◌≤◌, List, [], ◌∷◌, ◌++◌, length, take, drop, set, get_or, sym, refl, ap, ◌∙◌, subst, arith, length-append, length-drop, Bool}
 use Rattle.std.specs.Prelude.{Option, Some, None, is_some, slice_get, ◌==◌, if◌then◌else◌}
 use Rattle.std.specs.List.{AllByRecursion}
 use Rattle.std.specs.Ordering.{nat_cmp, is_eq}
@@ -11,11 +11,9 @@ use Rattle.std.proofs.Math.Seq.{take-append_seam}
 use Rattle.std.proofs.lemmas.List.{take-append-le, drop-append-le, length-take, length-take-le}
 use Rattle.mont_base.specs.declared.constants.TheConstants.{LAST}
 use Rattle.mont_base.specs.declared.record.Held.{Held}
-use Rattle.mont_base.specs.declared.record.Label.{Label}
-use Rattle.mont_base.specs.Layout.{Shape, IsLayout, total_of, word_of}
+use Rattle.mont_base.specs.Layout.{Shape, word_of}
 use Rattle.mont_base.specs.Record.{IsLabel}
-use Rattle.mont_base.specs.Objects.{key_of, value_of, pair_body}
-use Rattle.montage_tool.specs.Log.{IsPair, Follows, IsLog, StandFrom, latest, memory, words_of_record, next_label, next_record}
+use Rattle.montage_tool.specs.Log.{Follows, IsLog, latest, memory, words_of_record, next_label, next_record}
 use Rattle.montage_tool.specs.Machine.{Holds, Counted, Store}
 use Rattle.montage_tool.proofs.Memory.{Eight, eight_of_pair, eights_of_log, length-memory, memory_push, words_at-memory}
 use Rattle.montage_tool.proofs.WellFormed.{item_at}
@@ -95,13 +93,14 @@ module _ (s : Shape) (clock : ℕ) (current durable : List ℕ) (rs : List Held)
       let bound = one_more (latest key rs) keys' few in
       let less = st.few in
       let made = store_put key value find' keys' room
-          (λ k. finds k ∙ ap (λ (b : Bool). if b then Some r else find k) (unsigned_tied key k ∙ turned key k) ∙ ap (λ (q : Held). if k == key then Some q else find k) is)
-          bound.0 (let high = bound.1 in omega arith) (identity_within key keys' (latest key rs) refl few) in
+      (λ k. finds k ∙ ap (λ (b : Bool). if b then Some r else find k) (unsigned_tied key k ∙ turned key k) ∙ ap (λ (q : Held). if k == key then Some q else find k) is)
+      bound.0 (let high = bound.1 in omega arith) (identity_within key keys' (latest key rs) refl few) in
       subst (λ (xs : List ℕ). Store s clock xs durable rs' flushed find' keys') (sym (words ∙ ap (λ (q : Held). overwritten (1 + 8 * length rs) current (words_of_record q)) is))
-          (subst (λ (hs : List Held). Store s clock (overwritten (1 + 8 * length rs) current (words_of_record next)) durable hs flushed find' keys') (sym (pushed ∙ ap (λ (q : Held). rs ++ q ∷ []) is)) made)
+      (subst (λ (hs : List Held). Store s clock (overwritten (1 + 8 * length rs) current (words_of_record next)) durable hs flushed find' keys') (sym (pushed ∙ ap (λ (q : Held). rs ++ q ∷ []) is)) made)
     where
       turned : (a b : ℕ) → (a == b) ≡ (b == a)
       turned a b = grind (arith, nat_tests)
+
       one_more : (o : Option Held) (n : ℕ) → n ≡ keys + (if is_some o then 0 else 1) → (keys ≤ n) × (n ≤ keys + 1)
       one_more None n e = (omega arith, omega arith)
       one_more (Some p) n e = (omega arith, omega arith)
@@ -127,9 +126,9 @@ module _ (s : Shape) (clock : ℕ) (current durable : List ℕ) (rs : List Held)
       let front : List Held = take flushed rs in
       let long : length front ≡ flushed = length-take-le flushed rs (omega arith) in
       let block : part ≡ words_of_record r.0 =
-          is ∙ ap (λ (xs : List ℕ). take 8 (drop (1 + 8 * flushed) xs)) st.loads
-          ∙ (let e : 1 + 8 * flushed ≡ word_of flushed 0 = omega arith in ap (λ (n : ℕ). take 8 (drop n (memory s clock rs))) e)
-          ∙ words_at-memory s clock rs flushed r.0 eights r.1 in
+      is ∙ ap (λ (xs : List ℕ). take 8 (drop (1 + 8 * flushed) xs)) st.loads
+      ∙ (let e : 1 + 8 * flushed ≡ word_of flushed 0 = omega arith in ap (λ (n : ℕ). take 8 (drop n (memory s clock rs))) e)
+      ∙ words_at-memory s clock rs flushed r.0 eights r.1 in
       let more : front ++ r.0 ∷ [] ≡ take (flushed + 1) rs = take_one rs flushed r.0 r.1 in
       let eight = each_at Eight rs flushed r.0 eights r.1 in
       record {
@@ -138,12 +137,12 @@ module _ (s : Shape) (clock : ℕ) (current durable : List ℕ) (rs : List Held)
         last = st.last;
         loads = st.loads;
         outlives =
-          written
-          ∙ ap (λ (xs : List ℕ). overwritten (1 + 8 * flushed) xs part) st.outlives
-          ∙ ap (λ (xs : List ℕ). overwritten (1 + 8 * flushed) (memory s clock front) xs) block
-          ∙ ap (λ (n : ℕ). overwritten (1 + 8 * n) (memory s clock front) (words_of_record r.0)) (sym long)
-          ∙ memory_push s clock front r.0 (each_take Eight rs flushed eights) eight (omega arith)
-          ∙ ap (memory s clock) more;
+            written
+            ∙ ap (λ (xs : List ℕ). overwritten (1 + 8 * flushed) xs part) st.outlives
+            ∙ ap (λ (xs : List ℕ). overwritten (1 + 8 * flushed) (memory s clock front) xs) block
+            ∙ ap (λ (n : ℕ). overwritten (1 + 8 * n) (memory s clock front) (words_of_record r.0)) (sym long)
+            ∙ memory_push s clock front r.0 (each_take Eight rs flushed eights) eight (omega arith)
+            ∙ ap (memory s clock) more;
         within = omega arith;
         near = tail_of_drop (λ (q : Held). clock ≤ q.label.epoch + 1) rs flushed low st.near;
         finds = st.finds;
@@ -155,10 +154,12 @@ module _ (s : Shape) (clock : ℕ) (current durable : List ℕ) (rs : List Held)
       take_one [] n q at = absurd (cc)
       take_one (p ∷ qs) zero q at = ap (λ (h : Held). h ∷ []) (sym (same_Some p q at))
       take_one (p ∷ qs) (suc n) q at = let e : suc n + 1 ≡ suc (n + 1) = omega arith in ap (λ (hs : List Held). p ∷ hs) (take_one qs n q at) ∙ ap (λ (k : ℕ). take k (p ∷ qs)) (sym e)
+
       each_at : (P : Held → Type 0) (qs : List Held) (n : ℕ) (q : Held) → AllByRecursion P qs → slice_get qs n ≡ Some q → P q
       each_at P [] n q all at = absurd (cc)
       each_at P (p ∷ qs) zero q all at = subst P (same_Some p q at) all.0
       each_at P (p ∷ qs) (suc n) q all at = each_at P qs n q all.1 at
+
       each_take : (P : Held → Type 0) (qs : List Held) (n : ℕ) → AllByRecursion P qs → AllByRecursion P (take n qs)
       each_take P qs zero all = tt
       each_take P [] (suc n) all = tt
@@ -214,6 +215,7 @@ module _ (s : Shape) (clock : ℕ) (current durable : List ℕ) (rs : List Held)
       follows_take r zero qs all = tt
       follows_take r (suc n) [] all = tt
       follows_take r (suc n) (q ∷ qs) all = (all.0, follows_take r n qs all.1)
+
       log_take : (n : ℕ) (qs : List Held) → IsLog qs → IsLog (take n qs)
       log_take zero qs log = tt
       log_take (suc n) [] log = tt

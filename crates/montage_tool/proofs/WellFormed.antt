@@ -1,30 +1,27 @@
 -- The words of a store whose first slots hold a log are an image that recovery accepts, and what it rebuilds.
-use Rattle.std.proofs.Common.{◌≡◌, ℕ, zero, suc, ◌+◌, ◌-◌, ◌*◌, ◌<◌, ◌≤◌, ◌⊎◌, List, [], ◌∷◌, ◌++◌, length, sym, refl, ap, ◌∙◌, subst, inl, inr, ⊎_elim, arith, Bool, true, false, get_or}
-use Rattle.std.specs.Prelude.{Option, Some, None, Result, Ok, Err, slice_get, All, AllPairs, map, filter, nat_lt, nat_eq, if◌then◌else◌}
+use Rattle.std.proofs.Common.{◌≡◌, ℕ, zero, suc, ◌-◌, ◌<◌, ◌≤◌, List, [], ◌∷◌, length, sym, refl, ap, ◌∙◌, subst, arith, Bool, true, false}
+use Rattle.std.specs.Prelude.{Some, slice_get, AllPairs, nat_lt}
 use Rattle.std.specs.List.{AllByRecursion}
 use Rattle.std.specs.FinMap as finite
 use Rattle.std.proofs.lemmas.Bool.Decides.{nat_tests}
-use Rattle.std.proofs.lemmas.List.Elements.{All-from_recursion, All-nil}
+use Rattle.std.proofs.lemmas.List.Elements.{All-from_recursion}
 use Rattle.std.proofs.lemmas.List.Kept.{AllPairs-cons}
-use Rattle.std.proofs.lemmas.Option.{same_Some, slice_get_within}
+use Rattle.std.proofs.lemmas.Option.{same_Some}
 use Rattle.mont_base.specs.declared.constants.TheConstants.{LAST}
 use Rattle.mont_base.specs.declared.record.Held.{Held}
 use Rattle.mont_base.specs.declared.record.Object.{Object}
-use Rattle.mont_base.specs.declared.operation.Entry.{Entry}
-use Rattle.mont_base.specs.declared.layout.UnitKind.{UnitKind}
 use Rattle.mont_base.specs.declared.layout.UnitKind.TheVariants as kinds
-use Rattle.mont_base.specs.Layout.{Shape, IsLayout, units_of, unit_of_slot, kind_of}
+use Rattle.mont_base.specs.Layout.{Shape, units_of, unit_of_slot, kind_of}
 use Rattle.mont_base.specs.Record.{reading}
 use Rattle.mont_base.specs.State.{State, MapOf, QueueOf, GraphOf, empty_state}
 use Rattle.mont_base.specs.Objects.{live_objects, IsStructure}
 use Rattle.mont_base.specs.Image.{words_at, is_within, records_of, IsRead, DiffersFrom, IsWellFormed, IsRecovered}
-use Rattle.mont_base.specs.History.{state_after, cut_at}
 use Rattle.montage_tool.specs.Machine.{Holds}
-use Rattle.montage_tool.specs.Log.{IsPair, Follows, IsLog, kept_at, memory, puts_of, put_of_record, set_all}
+use Rattle.montage_tool.specs.Log.{Follows, IsLog, kept_at, memory, set_all}
 use Rattle.montage_tool.proofs.Memory.{eights_of_log, length-memory}
 use Rattle.montage_tool.proofs.Reading.{reading_here, unit_zero, closed_beyond, records_of_first, records_of_other}
 use Rattle.montage_tool.proofs.NoFault.{structure_of_log}
-use Rattle.montage_tool.proofs.Cut.{log_kept, structure_of_cut}
+use Rattle.montage_tool.proofs.Cut.{log_kept}
 
 pub item_at : {A : Type 0} (xs : List A) (i : ℕ) → i < length xs → (a : A) × (slice_get xs i ≡ Some a)
 item_at [] i h = absurd (omega arith)
@@ -65,7 +62,7 @@ module _ (s : Shape) (clock : ℕ) (rs : List Held) (h : Holds s rs) where
           let inside : slot < length rs = grind (arith, nat_tests) in
           let r = item_at rs slot inside in
           subst (λ (u : ℕ). IsRead (reading u (words_at (memory s clock rs) slot))) (sym (unit_of_record unit slot is inside))
-              (subst IsRead (sym (reading_here s clock rs h slot r.0 r.1)) tt)
+          (subst IsRead (sym (reading_here s clock rs h slot r.0 r.1)) tt)
       by_place false e =
           let past : length rs ≤ slot = grind (arith, nat_tests) in
           let closed : is_within (memory s clock rs) slot ≡ false = closed_beyond s clock rs h slot past in
@@ -79,13 +76,13 @@ module _ (s : Shape) (clock : ℕ) (rs : List Held) (h : Holds s rs) where
   pub structures : (state : State) → IsStructure s 0 (live_objects (kept_at (clock - 2) rs)) state → (unit : ℕ) (other : State) → slice_get (with_map state) unit ≡ Some other → IsStructure s unit (live_objects (records_of s (memory s clock rs) unit)) other
   structures state is zero other at =
       subst (λ (t : State). IsStructure s 0 (live_objects (records_of s (memory s clock rs) 0)) t) (same_Some state other at)
-          (subst (λ (hs : List Held). IsStructure s 0 (live_objects hs) state) (sym (records_of_first s clock rs h)) is)
+      (subst (λ (hs : List Held). IsStructure s 0 (live_objects hs) state) (sym (records_of_first s clock rs h)) is)
   structures state is (suc zero) other at =
       subst (λ (t : State). IsStructure s 1 (live_objects (records_of s (memory s clock rs) 1)) t) (same_Some (empty_state kinds.Queue) other at)
-          (subst (λ (hs : List Held). IsStructure s 1 (live_objects hs) (empty_state kinds.Queue)) (sym (records_of_other s clock rs h 1 (omega arith))) (second_queue s h.one, refl, refl))
+      (subst (λ (hs : List Held). IsStructure s 1 (live_objects hs) (empty_state kinds.Queue)) (sym (records_of_other s clock rs h 1 (omega arith))) (second_queue s h.one, refl, refl))
   structures state is (suc (suc zero)) other at =
       subst (λ (t : State). IsStructure s 2 (live_objects (records_of s (memory s clock rs) 2)) t) (same_Some (empty_state kinds.Graph) other at)
-          (subst (λ (hs : List Held). IsStructure s 2 (live_objects hs) (empty_state kinds.Graph)) (sym (records_of_other s clock rs h 2 (omega arith))) (third_graph s h.one, refl, refl))
+      (subst (λ (hs : List Held). IsStructure s 2 (live_objects hs) (empty_state kinds.Graph)) (sym (records_of_other s clock rs h 2 (omega arith))) (third_graph s h.one, refl, refl))
   structures state is (suc (suc (suc unit))) other at = absurd (cc)
 
   pub recovered : (state : State) → IsStructure s 0 (live_objects (kept_at (clock - 2) rs)) state → IsRecovered s (memory s clock rs) (with_map state)

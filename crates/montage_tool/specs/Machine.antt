@@ -1,5 +1,5 @@
 -- What is always true of the machine that runs a job's lines.
-use Rattle.std.specs.Prelude.{◌≡◌, ℕ, ◌+◌, ◌≤◌, ◌<◌, List, [], ◌∷◌, ◌++◌, length, take, drop, map, All, slice_get, Option, Some, Bool, true, if◌then◌else◌}
+use Rattle.std.specs.Prelude.{◌≡◌, ℕ, ◌+◌, ◌≤◌, List, [], ◌∷◌, ◌++◌, length, take, drop, map, All, slice_get, Option, Some, if◌then◌else◌}
 use Rattle.std.specs.List.{AllByRecursion}
 use Rattle.std.specs.Ordering.{nat_cmp}
 use Rattle.std.specs.BTreeMap.{get, btree_map_len}
@@ -13,7 +13,7 @@ use Rattle.mont_base.specs.Layout.{Shape, IsLayout}
 use Rattle.mont_base.specs.State.{MapOf}
 use Rattle.mont_base.specs.History.{IsLegal}
 use Rattle.mont_base.specs.JobText.{is_put_op}
-use Rattle.montage_tool.specs.Log.{IsPair, Follows, IsLog, StandFrom, latest, memory, puts_of, put_of_record, next_record}
+use Rattle.montage_tool.specs.Log.{IsLog, StandFrom, latest, memory, puts_of, put_of_record, next_record}
 use Rattle.montage_tool.specs.declared.machine.Machine.{Machine}
 
 -- A log in the first slots of a store of one map unit.

@@ -1,5 +1,5 @@
 -- What the tool answers, and with what cause.
-use Rattle.std.specs.Prelude.{◌≡◌, ℕ, List, Option, Some, IfSome}
+use Rattle.std.specs.Prelude.{◌≡◌, ℕ, List, Option, IfSome}
 use Rattle.mont_base.specs.declared.job.Job.{Job}
 use Rattle.mont_base.specs.JobText.{IsJob, job_text}
 use Rattle.mont_base.specs.Report.{Report}

@@ -19,10 +19,9 @@ use mont_base::Failed;
 use montage::montage;
 use status::{SinkName, Status, exit_code, status_text};
 use std::alloc::Global;
-use std::env;
 use std::fs::File;
-use std::io;
 use std::process::ExitCode;
+use std::{env, io};
 use words::files_of;
 
 // The words of the command line behind the program's name; `None` where one isn't UTF-8 or memory ran out.

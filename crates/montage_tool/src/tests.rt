@@ -92,15 +92,11 @@ graph 2 0 0
 end
 ";
 
-const LINES: &str = "montage-job 1 1 8 1 0 0000000000000000\n0 put 1 10\n0 tick\n0 tick\n0 put 1 11\n";
+const LINES: &str =
+    "montage-job 1 1 8 1 0 0000000000000000\n0 put 1 10\n0 tick\n0 tick\n0 put 1 11\n";
 
 // A source of the text that gives at most `piece` bytes a call.
-fn source(
-    alloc: Global,
-    text: &str,
-    piece: usize,
-    fail_calls: Vec<u64>,
-) -> Result<MemSource, Fail>
+fn source(alloc: Global, text: &str, piece: usize, fail_calls: Vec<u64>) -> Result<MemSource, Fail>
     requires { 0 < piece }
 {
     let bytes = Vec::from_slice(alloc, text.as_bytes())?;
@@ -170,16 +166,29 @@ fn reports_are_written_whole_in_pieces_of_any_size(rt: HostRuntime) -> Result<()
 fn refusals_write_nothing(rt: HostRuntime) -> Result<(), Fail> {
     let alloc = rt.alloc();
     let table = [
-        ("run", "", Status::BadJob { line: 1, fault: JobFault::Unended }),
+        (
+            "run",
+            "",
+            Status::BadJob {
+                line: 1,
+                fault: JobFault::Unended,
+            },
+        ),
         (
             "run",
             "montage-job 1 1 7 1 0 0000000000000000\n",
-            Status::BadJob { line: 1, fault: JobFault::Header },
+            Status::BadJob {
+                line: 1,
+                fault: JobFault::Header,
+            },
         ),
         (
             "run",
             "montage-job 1 1 8 1 0 0000000000000000\n0 get 1\n0 get 1\n0 get 1\n0 get 1\n0 get 1\n0 got 1\n",
-            Status::BadJob { line: 7, fault: JobFault::Operation },
+            Status::BadJob {
+                line: 7,
+                fault: JobFault::Operation,
+            },
         ),
         ("RUN", LINES, Status::BadWords),
         ("run now", LINES, Status::BadWords),
@@ -205,7 +214,9 @@ fn a_source_that_fails_at_any_call_is_a_read_fault(rt: HostRuntime) -> Result<()
     for failing in 0..9u64 {
         let fails = (vec![in alloc; failing]?, Vec::new(alloc));
         let called = call(&rt, run.as_slice(), LINES, (10, 4096), fails)?;
-        let fault = Status::ReadFault { which: SourceName::Job };
+        let fault = Status::ReadFault {
+            which: SourceName::Job,
+        };
         assert_eq!(rt; called.status, fault, "call {failing}");
         assert_eq!(rt; called.taken.taken().len(), 0);
     }
@@ -219,7 +230,9 @@ fn a_source_that_fails_at_any_call_is_a_read_fault(rt: HostRuntime) -> Result<()
 fn a_sink_that_fails_at_any_call_has_taken_a_front(rt: HostRuntime) -> Result<(), Fail> {
     let alloc = rt.alloc();
     let run = one_word(alloc, "run")?;
-    let fault = Status::WriteFault { which: SinkName::Report };
+    let fault = Status::WriteFault {
+        which: SinkName::Report,
+    };
     let fails = (Vec::new(alloc), vec![in alloc; 1]?);
     let header = "montage-job 1 1 8 1 0 0000000000000000\n";
     let called = call(&rt, run.as_slice(), header, (4096, 10), fails)?;

@@ -1,15 +1,11 @@
-use Rattle.std.proofs.Common.{◌≡◌, ◌-◌, List, [], ◌∷◌, ◌++◌, replicate, sym, refl, ap, ◌∙◌, subst, arith, ℕ}
-use Rattle.mont_base.specs.declared.operation.Entry.{Entry}
+use Rattle.std.proofs.Common.{◌≡◌, List, [], ◌∷◌, ◌++◌, sym, ap, ◌∙◌, subst, ℕ}
 use Rattle.mont_base.specs.declared.job.Line.{Line}
 use Rattle.mont_base.specs.declared.job.Outcome.{Outcome}
-use Rattle.mont_base.specs.Layout.{Shape, units_of}
-use Rattle.mont_base.specs.State.{State}
+use Rattle.mont_base.specs.Layout.{Shape}
 use Rattle.mont_base.specs.Image.{IsWellFormed, IsRecovered}
-use Rattle.mont_base.specs.Report.{Report, empty_states}
 use Rattle.plain.specs.States.{states_of}
-use Rattle.montage_tool.specs.Run.{IsRun, Played, made}
-use Rattle.montage_tool.proofs.WellFormed.{with_map}
-use Rattle.montage_tool.proofs.Recovery.{image_accepted, image_states, same_recovered, cut_state}
+use Rattle.montage_tool.specs.Run.{Played}
+use Rattle.montage_tool.proofs.Recovery.{image_accepted}
 use Rattle.montage_tool.proofs.Faithful.{run_as}
 use Rattle.montage_tool.proofs.run.run.Goals as goal
 
@@ -28,7 +24,7 @@ returns c =
     let os = c.in_ok-outcomes.outcomes.items in
     let played = subst (λ (ls : List Line). Played m.layout m.history.items m.clock ls os) c.as_slice.ensures c.in_ok-outcomes.ensures.played in
     run_as j m os c.requires sound layout played (states_of c.in_ok-base.base) c.in_ok-histories_of.field-0 c.push.new.self (states_of c.in_ok-contents.contents)
-        c.in_ok-base.ensures
-        c.in_ok-histories_of.ensures
-        (c.in_ok-push.ensures.ok ∙ ap (λ (qs : List (List Outcome)). qs ++ c.from_vec.result ∷ []) c.new-by_caller.ensures ∙ ap (λ (q : List Outcome). q ∷ []) c.from_vec.ensures)
-        (subst (λ (image : List ℕ). IsRecovered j.layout image (states_of c.in_ok-contents.contents)) c.deref.ensures.value c.in_ok-contents.ensures)
+    c.in_ok-base.ensures
+    c.in_ok-histories_of.ensures
+    (c.in_ok-push.ensures.ok ∙ ap (λ (qs : List (List Outcome)). qs ++ c.from_vec.result ∷ []) c.new-by_caller.ensures ∙ ap (λ (q : List Outcome). q ∷ []) c.from_vec.ensures)
+    (subst (λ (image : List ℕ). IsRecovered j.layout image (states_of c.in_ok-contents.contents)) c.deref.ensures.value c.in_ok-contents.ensures)

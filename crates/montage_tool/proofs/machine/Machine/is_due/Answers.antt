@@ -1,8 +1,8 @@
-use Rattle.std.proofs.Common.{◌≡◌, ◌≤◌, length, ap, sym, ◌∙◌, subst, arith, List}
+use Rattle.std.proofs.Common.{◌≡◌, ◌≤◌, subst, arith, List}
 use Rattle.std.specs.Prelude.{slice_get, Some}
 use Rattle.std.proofs.lemmas.Bool.Decides.{nat_tests}
 use Rattle.mont_base.specs.declared.record.Held.{Held}
-use Rattle.montage_tool.proofs.Steps.{flushed_at, flushed_past, item_found}
+use Rattle.montage_tool.proofs.Steps.{flushed_at, item_found}
 use Rattle.montage_tool.proofs.machine.Machine.is_due.Goals as goal
 
 pub returns-in-Some-clause-flushed : goal.returns-in-Some-clause-flushed
