@@ -1,13 +1,15 @@
-//! Reports of runs, and their one text.
+//! Reports of runs: their one text, and whether they are faithful.
 #![tactic(auto)]
 
-pub mod answered;
+mod answered;
 mod contents_writer;
-pub mod faithful;
+mod faithful;
 mod history_writer;
+mod named;
 mod report;
 mod report_writer;
 
+pub use faithful::is_faithful;
 pub use report::Report;
 pub use report_writer::write_report;
 
