@@ -1,4 +1,5 @@
 pub mod Follows
 pub mod GraphCode
 pub mod Newest
+pub mod Sound
 pub mod States

@@ -1,11 +1,13 @@
 // The structure that the live objects of a unit make.
-ghost use Rattle.std.specs.Prelude.{◌≡◌, ◌≢◌, ◌<◌, ◌⊎◌, ℕ, List, [], Some, None, Err, IfOk};
+ghost use Rattle.std.specs.Prelude.{◌≡◌, ◌≢◌, ◌<◌, ◌⊎◌, ℕ, List, [], Some, None, Err, IfOk, IsTrue, ◌↔◌};
 ghost use Rattle.mont_base.specs.declared.record.Object.{Object};
 ghost use Rattle.mont_base.specs.declared.record.ObjectFault.{ObjectFault};
 ghost use Rattle.mont_base.specs.declared.layout.UnitKind.{UnitKind};
-ghost use Rattle.mont_base.specs.Layout.{units_of, kind_of};
+ghost use Rattle.mont_base.specs.Layout.{Shape, units_of, kind_of};
+ghost use Rattle.mont_base.specs.State.{State};
 ghost use Rattle.mont_base.specs.Objects.{IsStructure, first_fault, map_fault, pairs_of};
 ghost use Rattle.plain.specs.declared.structure.BuildRefusal.TheVariants.{Memory};
+ghost use Rattle.plain.specs.Sound.{MakesStructure};
 ghost use Rattle.plain.specs.States.{state_of};
 
 use crate::map_state::MapState;
@@ -57,6 +59,31 @@ pub fn build(
             Ok(UnitState::Map { state })
         }
         kind => Ok(UnitState::empty(alloc, kind)),
+    }
+}
+
+/// The law that objects make one structure at most.
+pub fn one_structure()
+    ensures { (s : Shape) (unit : ℕ) (objects : List Object) (a b : State) → IsStructure s unit objects a → IsStructure s unit objects b → a ≡ b }
+{}
+
+// Whether the objects make a structure of the unit.
+pub(crate) fn makes_structure(
+    alloc: Global,
+    layout: Layout,
+    unit: Unit,
+    objects: &[Object],
+) -> Result<bool, AllocError>
+    requires { unit < units_of layout }
+    ensures { IfOk result (λ b. IsTrue b ↔ MakesStructure layout unit objects.now) }
+{
+    match layout.kind(unit) {
+        UnitKind::Map => match build_map(alloc, layout, unit, objects) {
+            Ok(_state) => Ok(true),
+            Err(BuildRefusal::Object { .. }) => Ok(false),
+            Err(BuildRefusal::Memory) => Err(AllocError),
+        },
+        UnitKind::Queue | UnitKind::Graph => Ok(objects.is_empty()),
     }
 }
 
