@@ -1,7 +1,8 @@
 -- The entries that outcomes name.
-use Rattle.std.proofs.Common.{◌≡◌, ℕ, ◌+◌, ◌<◌, ◌≤◌, ◌⊎◌, inl, inr, Bool, true, false, leb, List, length, get_or, take, refl, sym, ap, ◌∙◌, subst, arith}
-use Rattle.std.specs.Prelude.{◌↔◌, IsTrue, slice_get, Some}
+use Rattle.std.proofs.Common.{◌≡◌, ℕ, ◌<◌, ◌≤◌, ◌⊎◌, inl, inr, Bool, true, false, leb, List, length, get_or, refl, sym, subst, arith}
+use Rattle.std.specs.Prelude.{◌↔◌, IsTrue, slice_get, Some, None}
 use Rattle.std.proofs.lemmas.Bool.Decides.{leb_tells}
+use Rattle.std.proofs.lemmas.Option.{slice_get_within, slice_get_cases}
 use Rattle.mont_base.specs.declared.operation.Entry.{Entry}
 use Rattle.mont_base.specs.declared.job.Outcome.{Outcome}
 use Rattle.mont_base.specs.Report.{Report, IsEntryAt, InOrder}
@@ -44,3 +45,16 @@ and_known v a says = (λ yes. (a, says.0 yes), λ both. says.1 both.1)
 -- both parts, of which the first fails
 pub and_fails : {A B : Type 0} (v : Bool) → v ≡ false → (IsTrue v ↔ A) → IsTrue v ↔ (A × B)
 and_fails v fails says = (λ yes. absurd cc, λ both. says.1 both.0)
+
+-- a place below a history's length has an entry
+pub entry_there : (r : Report) (unit place : ℕ) (h : List Entry) → slice_get r.histories unit ≡ Some h → place < length h → (e : Entry) × IsEntryAt r unit place e
+entry_there r unit place h known within = found ((slice_get_cases h place).1)
+  where
+    found : ((x : Entry) × (place < length h) × (slice_get h place ≡ Some x) × (get_or h place x ≡ x)) ⊎ ((length h ≤ place) × (slice_get h place ≡ None)) → (e : Entry) × IsEntryAt r unit place e
+    found (inl x) = (x.0, (h, known, x.2))
+    found (inr past) = absurd (omega arith)
+
+pub entry_within : (r : Report) (unit place : ℕ) (h : List Entry) (e : Entry) → slice_get r.histories unit ≡ Some h → IsEntryAt r unit place e → place < length h
+entry_within r unit place h e known there =
+    let same : there.0 ≡ h = cc (known, there.1) in
+    subst (λ (k : List Entry). place < length k) same (slice_get_within there.0 place e there.2)

@@ -1,4 +1,5 @@
 pub mod Entries
+pub mod FaithfulParts
 pub mod Places
 pub mod WholeReport
 pub mod Cuts

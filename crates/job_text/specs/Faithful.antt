@@ -1,5 +1,5 @@
 -- The parts of what makes a report faithful, each for one unit or caller.
-use Rattle.std.specs.Prelude.{◌≡◌, ℕ, ◌-◌, ◌≤◌, ◌<◌, List, length, take, sum_by, count_by, slice_get, Some}
+use Rattle.std.specs.Prelude.{◌≡◌, ℕ, ◌-◌, ◌≤◌, List, length, take, sum_by, count_by, slice_get, Some}
 use Rattle.mont_base.specs.declared.constants.TheConstants.{LAST}
 use Rattle.mont_base.specs.declared.operation.Entry.{Entry}
 use Rattle.mont_base.specs.declared.job.Job.{Job}
@@ -11,16 +11,13 @@ use Rattle.mont_base.specs.History.{IsLegal, cut_at, state_after}
 use Rattle.mont_base.specs.Report.{Report, IsEntryAt, names, lines_of, Answers, AnswersLines}
 use Rattle.job_text.specs.Places.{IfAt, IfBothAt}
 
--- the report is of the job's layout and callers, and its clocks are in order
-pub record HasHeader (j : Job) (clock : ℕ) (r : Report) : Type 0 where
+-- the report is of the job's layout and callers, is whole, and has its clocks in order
+pub record HasFrame (j : Job) (clock : ℕ) (r : Report) : Type 0 where
   pub layout : r.layout ≡ j.layout
   pub callers : r.callers ≡ j.callers
   pub base_clock : r.base_clock ≡ clock
   pub begun : clock ≤ r.image_clock
   pub last : r.image_clock ≤ LAST
-
--- the report has a history and contents for each unit, and outcomes for each caller
-pub record HasShape (j : Job) (r : Report) : Type 0 where
   pub histories : length r.histories ≡ units_of j.layout
   pub outcomes : length r.outcomes ≡ j.callers
   pub contents : length r.contents ≡ units_of j.layout

@@ -3,27 +3,55 @@ ghost use Rattle.std.specs.Prelude.{◌≡◌, ◌↔◌, ℕ, IsTrue, IfOk, sli
 ghost use Rattle.mont_base.specs.Report.{IsFaithful};
 ghost use Rattle.plain.specs.States.{state_of, states_of};
 ghost use Rattle.job_text.specs.Report.{report_of};
-ghost use Rattle.job_text.specs.Faithful.{HasHeader, HasShape, LegalAt, CutAt};
+ghost use Rattle.job_text.specs.Faithful.{HasFrame, LegalAt, CutAt};
 
+use crate::answered::are_answered;
+use crate::named::are_named_once;
 use crate::report::Report;
 use mont_base::{Entry, Epoch, Job, LAST, Layout, Sequence, Unit};
 use plain::{Contents, UnitState, cut_at, is_legal, same_state, state_after};
 use std::alloc::{AllocError, Global};
 
-fn has_header(job: &Job, clock: Epoch, report: &Report) -> bool
-    ensures { IsTrue result ↔ HasHeader job.now clock (report_of report.now) }
+/// Whether a report is faithful to a job that was run from these contents at this clock. Like the definition
+/// that it follows, it looks at each pair of a caller's outcomes, so it is for small reports.
+pub fn is_faithful(
+    alloc: Global,
+    job: &Job,
+    clock: Epoch,
+    base: &Contents,
+    report: &Report,
+) -> Result<bool, AllocError>
+    ensures { IfOk result (λ b. IsTrue b
+        ↔ IsFaithful job.now clock (states_of base.now) (report_of report.now)) }
+{
+    if !has_frame(job, clock, report) {
+        return Ok(false);
+    }
+    if !same_contents(&report.base, base) {
+        return Ok(false);
+    }
+    if !are_named_once(report) {
+        return Ok(false);
+    }
+    if !are_legal(&job.layout, clock, base, &report.histories)? {
+        return Ok(false);
+    }
+    if !are_answered(alloc, job, report)? {
+        return Ok(false);
+    }
+    are_cut(alloc, base, report)
+}
+
+// Whether the report is of the job's layout and callers, is whole, and has its clocks in order.
+fn has_frame(job: &Job, clock: Epoch, report: &Report) -> bool
+    ensures { IsTrue result ↔ HasFrame job.now clock (report_of report.now) }
 {
     report.layout == job.layout
         && report.callers == job.callers
         && report.base_clock == clock
         && clock <= report.image_clock
         && report.image_clock <= LAST
-}
-
-fn has_shape(job: &Job, report: &Report) -> bool
-    ensures { IsTrue result ↔ HasShape job.now (report_of report.now) }
-{
-    report.histories.len() == job.layout.units()
+        && report.histories.len() == job.layout.units()
         && report.outcomes.len() == job.callers
         && report.contents.units.len() == job.layout.units()
 }
@@ -131,3 +159,6 @@ fn copied(state: &UnitState) -> Result<UnitState, AllocError>
 {
     state.clone()
 }
+
+#[cfg(test)]
+mod tests;

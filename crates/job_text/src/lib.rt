@@ -1,10 +1,11 @@
 //! The texts of jobs and of reports: a reader of jobs that refuses a wrong text at its first wrong line, the
 //! writers of the one text of each job and of each report, and a check of whether a report is faithful.
+//! Reports of runs: their one text, and whether they are faithful.
 #![tactic(auto)]
 
-pub mod answered;
+mod answered;
 mod contents_writer;
-pub mod faithful;
+mod faithful;
 mod history_writer;
 mod job_writer;
 mod lines;
@@ -12,6 +13,7 @@ mod numbers;
 mod parser;
 mod reader;
 mod refusal;
+mod named;
 mod report;
 mod report_writer;
 mod words;
@@ -22,6 +24,7 @@ pub use mont_base::{
 };
 pub use reader::read_job;
 pub use refusal::JobRefusal;
+pub use faithful::is_faithful;
 pub use report::Report;
 pub use report_writer::write_report;
 

@@ -1,6 +1,6 @@
 // Reports of runs with one map unit of eight slots and one caller, made by hand.
 use crate::report::Report;
-use mont_base::{Entry, Epoch, Layout, Op, Outcome, Reply, Sequence, UnitKind};
+use mont_base::{Deed, Entry, Epoch, Job, Layout, Line, Op, Outcome, Reply, Sequence, UnitKind};
 use plain::{Contents, MapState, UnitState};
 use std::alloc::{AllocError, Global};
 
@@ -48,9 +48,35 @@ fn copied<T: Copy + Drop>(alloc: Global, items: &[T]) -> Result<Sequence<T>, All
     Ok(sequence)
 }
 
-/// The report of a run that puts 10 under 1, moves the clock twice, and puts 11 under 1.
-pub fn two_puts(alloc: Global, layout: Layout) -> Result<Report, AllocError> {
-    let history = [
+/// The job that puts 10 under 1, moves the clock twice, and puts 11 under 1.
+pub fn two_puts_job(alloc: Global, layout: Layout) -> Result<Job, AllocError> {
+    let deeds = [
+        Deed::Call {
+            op: Op::Put { key: 1, value: 10 },
+        },
+        Deed::Tick,
+        Deed::Tick,
+        Deed::Call {
+            op: Op::Put { key: 1, value: 11 },
+        },
+    ];
+    let mut lines = Sequence::new(alloc);
+    for deed in deeds {
+        lines.push(Line { caller: 0, deed })?;
+    }
+    Ok(Job {
+        layout,
+        callers: 1,
+        attempts: 0,
+        mask: 0,
+        stops: Sequence::new(alloc),
+        lines,
+    })
+}
+
+/// The history of the map unit after that job.
+pub fn two_puts_history() -> [Entry; 2] {
+    [
         Entry {
             caller: 0,
             call: 0,
@@ -65,12 +91,15 @@ pub fn two_puts(alloc: Global, layout: Layout) -> Result<Report, AllocError> {
             reply: Reply::Was { value: 10 },
             epoch: 4,
         },
-    ];
-    let outcomes = [
+    ]
+}
+
+/// What came of the lines of that job.
+pub fn two_puts_outcomes() -> [Outcome; 4] {
+    [
         Outcome::At { unit: 0, place: 0 },
         Outcome::Ticked { epoch: 3 },
         Outcome::Ticked { epoch: 4 },
         Outcome::At { unit: 0, place: 1 },
-    ];
-    report_of_run(alloc, layout, &history, &outcomes, 4, &[(1, 10)])
+    ]
 }

@@ -1,7 +1,6 @@
 -- The keys of a map's objects.
-use Rattle.std.proofs.Common.{◌≡◌, ℕ, Bool, true, false, List, [], ◌∷◌, ◌||◌, ◌==◌, ◌++◌, ◌+◌, ◌<◌, map, length, take, drop, get_or, refl, sym, ap, ◌∙◌, eq-eqb, add-one}
+use Rattle.std.proofs.Common.{◌≡◌, ℕ, Bool, true, false, List, [], ◌∷◌, ◌||◌, ◌==◌, ◌++◌, ◌+◌, ◌<◌, map, length, take, drop, get_or, refl, sym, ap, ◌∙◌, eq-eqb}
 use Rattle.std.specs.Prelude.{Option, Some, None, if◌then◌else◌}
-use Rattle.std.proofs.Math.Seq.{drop-cons}
 use Rattle.std.proofs.lemmas.List.{map-append, take_more}
 use Rattle.std.specs.Cmp.{nat_cmp_total, eq_by_cmp_equiv, unsigned_tied}
 use Rattle.std.specs.FinMap as finite
@@ -15,6 +14,7 @@ use Rattle.mont_base.specs.State.{Pairs}
 use Rattle.mont_base.specs.declared.record.ObjectFault.{ObjectFault}
 use Rattle.mont_base.specs.declared.record.ObjectFault.TheVariants.{Spare, Shard, Key}
 use Rattle.mont_base.specs.Objects.{key_of, value_of, has_spare, pairs_of, map_fault, first_fault, or_else, at_slot}
+use Rattle.plain.proofs.Lists.{opened}
 
 abbrev pub pair_at : Object → ℕ × ℕ
 pair_at o = (key_of o.body, value_of o.body)
@@ -49,9 +49,6 @@ nothing (Some a) e = cc
 
 skip : (fault_of : List Object → Object → Option ObjectFault) (lower os : List Object) (o : Object) → fault_of lower o ≡ None → first_fault fault_of lower (o ∷ os) ≡ first_fault fault_of (lower ++ o ∷ []) os
 skip fault_of lower os o sound = ap (λ (x : Option ObjectFault). or_else (at_slot o.slot x) (first_fault fault_of (lower ++ o ∷ []) os)) sound
-
-opened : {A : Type 0} (xs : List A) (i : ℕ) (d : A) → i < length xs → drop i xs ≡ get_or xs i d ∷ drop (i + 1) xs
-opened xs i d inside = rw add-one (drop-cons xs i d inside)
 
 module _ (s : Shape) (unit : ℕ) where
   -- an object without a fault adds its pair

@@ -1,8 +1,7 @@
 -- A legal history from its first entry on.
-use Rattle.std.proofs.Common.{◌≡◌, ℕ, suc, ◌+◌, ◌≤◌, ◌<◌, List, [], ◌∷◌, length, drop, get_or, sym, subst, ◌∙◌, arith, add-one}
+use Rattle.std.proofs.Common.{◌≡◌, ℕ, suc, ◌+◌, ◌≤◌, ◌<◌, List, [], ◌∷◌, length, drop, get_or, sym, subst, ◌∙◌, arith}
 use Rattle.std.specs.Prelude.{◌↔◌, Bool, false, IsTrue}
 use Rattle.std.specs.List.{All, AllPairs}
-use Rattle.std.proofs.Math.Seq.{drop-cons}
 use Rattle.std.proofs.lemmas.List.Elements.{All-nil, All-cons, All-head, All-tail, All-weaker}
 use Rattle.std.proofs.lemmas.List.{drop_all}
 use Rattle.std.proofs.lemmas.List.Kept.{AllPairs-cons}
@@ -13,6 +12,7 @@ use Rattle.mont_base.specs.Layout.{Shape}
 use Rattle.mont_base.specs.State.{State, step, unit_of_op}
 use Rattle.mont_base.specs.History.{IsLegal}
 use Rattle.plain.specs.Follows.{MayFollow}
+use Rattle.plain.proofs.Lists.{opened}
 
 pairs_head : {X : Type 0} (R : X → X → Type 0) (x : X) (xs : List X) → AllPairs R (x ∷ xs) → All (R x) xs
 pairs_head R x xs h k d lt = h 0 (suc k) d (omega arith) (omega arith)
@@ -52,19 +52,16 @@ legal_whole s unit base clock e es first rest = record {
 }
 
 module _ (s : Shape) (unit : ℕ) (base : State) (clock : ℕ) (es : List Entry) (i : ℕ) (d : Entry) (inside : i < length es) where
-  opened : drop i es ≡ get_or es i d ∷ drop (i + 1) es
-  opened = rw add-one (drop-cons es i d inside)
-
   pub legal_first_at : IsLegal s unit base clock (drop i es) → MayFollow s unit clock (step base (get_or es i d).op).reply (get_or es i d)
-  legal_first_at h = legal_first s unit base clock (get_or es i d) (drop (i + 1) es) (subst (IsLegal s unit base clock) opened h)
+  legal_first_at h = legal_first s unit base clock (get_or es i d) (drop (i + 1) es) (subst (IsLegal s unit base clock) (opened es i d inside) h)
 
   -- what is left is legal where it is behind its first entry
   pub legal_on : (reply : Reply) (state : State) → reply ≡ (step base (get_or es i d).op).reply → state ≡ (step base (get_or es i d).op).state → MayFollow s unit clock reply (get_or es i d) → (Whole : Type 0) → (IsLegal s unit base clock (drop i es) ↔ Whole) → IsLegal s unit state (get_or es i d).epoch (drop (i + 1) es) ↔ Whole
   legal_on reply state gives leads first Whole so_far =
       let follows : MayFollow s unit clock (step base (get_or es i d).op).reply (get_or es i d) = subst (λ (r : Reply). MayFollow s unit clock r (get_or es i d)) gives first in
       let P : State → Type 0 = λ t. IsLegal s unit t (get_or es i d).epoch (drop (i + 1) es) in (
-        λ h. so_far.0 (subst (IsLegal s unit base clock) (sym opened) (legal_whole s unit base clock (get_or es i d) (drop (i + 1) es) follows (subst P leads h))),
-        λ h. subst P (sym leads) (legal_rest s unit base clock (get_or es i d) (drop (i + 1) es) (subst (IsLegal s unit base clock) opened (so_far.1 h))),
+        λ h. so_far.0 (subst (IsLegal s unit base clock) (sym (opened es i d inside)) (legal_whole s unit base clock (get_or es i d) (drop (i + 1) es) follows (subst P leads h))),
+        λ h. subst P (sym leads) (legal_rest s unit base clock (get_or es i d) (drop (i + 1) es) (subst (IsLegal s unit base clock) (opened es i d inside) (so_far.1 h))),
       )
 
   -- where the first entry may not follow, nothing is legal

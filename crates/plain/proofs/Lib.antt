@@ -4,5 +4,6 @@ pub mod Lists
 pub mod Maps
 pub mod SameEntries
 pub mod Recovered
+pub mod SameEntries
 pub mod Single
 pub mod Sound

@@ -1,5 +1,5 @@
 -- The finite map of a sorted map's entries.
-use Rattle.std.proofs.Common.{◌≡◌, List, [], ◌∷◌, Some, cond, length, sym, refl, ap, ◌∙◌, arith}
+use Rattle.std.proofs.Common.{◌≡◌, List, [], ◌∷◌, Some, cond, length, sym, refl, ap, ◌∙◌}
 use Rattle.std.specs.declared.cmp.Ordering.{Ordering}
 use Rattle.std.specs.declared.cmp.Ordering.TheVariants.{Less}
 use Rattle.std.specs.Cmp.{IsTotalOrder, nat_cmp_total, eq_by_cmp_equiv}
@@ -13,10 +13,7 @@ use Rattle.std.specs.FinMap.{find, put}
 use Rattle.std.proofs.lemmas.Cmp.{on_total, then_total}
 use Rattle.std.proofs.lemmas.Map.Keys.{sorted_head, sorted_tail}
 use Rattle.mont_base.specs.State.{edge_cmp}
-
-no_entries : {A : Type 0} (xs : List A) → length xs ≡ 0 → xs ≡ []
-no_entries [] e = refl
-no_entries (x ∷ xs) e = absurd (omega arith)
+use Rattle.plain.proofs.Lists.{empty_of_length}
 
 module _ {K X : Type 0} (R : K → K → Ordering) where
   pub find-lookup : (es : List (K × X)) (q : K) → find R q es ≡ lookup (is_at (R q)) es
@@ -29,7 +26,7 @@ module _ {K X : Type 0} (R : K → K → Ordering) where
   put-below k v (e ∷ es) h = rw h.0 refl
 
   pub entries-empty : map.entries (map.empty {X = X} {R = R}) ≡ []
-  entries-empty = no_entries _ (sym (map.len-entries (map.empty {X = X} {R = R})) ∙ map.len-empty R X)
+  entries-empty = empty_of_length _ (sym (map.len-entries (map.empty {X = X} {R = R})) ∙ map.len-empty R X)
 
 module _ {K X : Type 0} {R : K → K → Ordering} (o : IsTotalOrder R) where
   -- the map of sorted entries has these entries

@@ -1,5 +1,5 @@
 -- When an image is well-formed, unit by unit.
-use Rattle.std.proofs.Common.{◌≡◌, ℕ, ◌+◌, ◌*◌, ◌%◌, ◌≤◌, ◌<◌, ◌==◌, Bool, true, false, ◌/◌, List, [], ◌∷◌, length, map, get_or, refl, sym, ap, subst, ◌∙◌, arith, eq-eqb, ◌⊎◌, inl, inr}
+use Rattle.std.proofs.Common.{◌≡◌, ℕ, ◌+◌, ◌*◌, ◌%◌, ◌≤◌, ◌<◌, ◌==◌, Bool, true, false, ◌/◌, List, [], length, map, get_or, refl, sym, ap, subst, ◌∙◌, arith, eq-eqb, ◌⊎◌, inl, inr}
 use Rattle.std.specs.Prelude.{◌↔◌, ◌≢◌, IsTrue, AllPairs, None}
 use Rattle.std.specs.Bool.{Decides}
 use Rattle.std.specs.Cmp.{eq_by_cmp_equiv}
@@ -23,6 +23,7 @@ use Rattle.mont_base.specs.State.{MapOf, QueueOf, GraphOf, edge_cmp}
 use Rattle.mont_base.specs.Objects.{first_fault, map_fault, pairs_of}
 use Rattle.mont_base.specs.Image.{DiffersFrom, IsWellFormed}
 use Rattle.plain.specs.Sound.{HasClock, IsReadable, IsSoundUnit, MakesStructure, Reads, version_key}
+use Rattle.plain.proofs.Lists.{empty_of_length}
 use Rattle.plain.proofs.Maps.{edges_total}
 use Rattle.plain.proofs.Recovered.{no_objects}
 
@@ -96,10 +97,6 @@ module _ (held : List Held) where
 pub no_map : (k l : UnitKind) → k ≡ l → (k ≡ unit_kinds.Queue) ⊎ (k ≡ unit_kinds.Graph) → l ≢ unit_kinds.Map
 no_map k l same (inl queue) e = cc
 no_map k l same (inr graph) e = cc
-
-empty_of_length : {A : Type 0} (xs : List A) → length xs ≡ 0 → xs ≡ []
-empty_of_length [] e = refl
-empty_of_length (x ∷ xs) e = absurd (omega arith)
 
 module _ (s : Shape) (unit : ℕ) (os : List Object) where
   pub map_structure : kind_of s unit ≡ unit_kinds.Map → first_fault (map_fault s unit) [] os ≡ None → MakesStructure s unit os

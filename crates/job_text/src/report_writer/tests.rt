@@ -1,5 +1,5 @@
 use super::*;
-use crate::samples::{report_of_run, two_puts};
+use crate::samples::{report_of_run, two_puts_history, two_puts_outcomes};
 use mont_base::Layout;
 
 const NOTHING_DONE: &str = "montage-report 1 1 8 1
@@ -48,7 +48,8 @@ fn writes_whole_reports(rt: HostRuntime) -> Result<(), AllocError> {
     let nothing = report_of_run(alloc, layout, &[], &[], 2, &[])?;
     let bytes = write_report(alloc, &nothing)?;
     assert!(rt; bytes.as_slice() == NOTHING_DONE.as_bytes());
-    let puts = two_puts(alloc, layout)?;
+    let (history, outcomes) = (two_puts_history(), two_puts_outcomes());
+    let puts = report_of_run(alloc, layout, &history, &outcomes, 4, &[(1, 10)])?;
     let bytes = write_report(alloc, &puts)?;
     assert!(rt; bytes.as_slice() == TWO_PUTS.as_bytes());
     Ok(())

@@ -1,5 +1,5 @@
 use Rattle.std.proofs.Common.{refl, subst, arith}
-use Rattle.std.specs.Prelude.{IsTrue, AllPairs}
+use Rattle.std.specs.Prelude.{AllPairs}
 use Rattle.std.proofs.lemmas.List.{take_all}
 use Rattle.mont_base.specs.Report.{InOrder}
 use Rattle.job_text.specs.Report.{report_of}

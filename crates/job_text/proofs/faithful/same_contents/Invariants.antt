@@ -1,4 +1,4 @@
-use Rattle.std.proofs.Common.{◌≡◌, take, length, map}
+use Rattle.std.proofs.Common.{◌≡◌, take, map}
 use Rattle.plain.specs.States.{state_of}
 use Rattle.job_text.proofs.faithful.same_contents.Given as goal
 
