@@ -8,7 +8,6 @@ ghost use Rattle.job_text.specs.Faithful.{AnsweredAt, AnswersEach};
 
 use crate::report::Report;
 use mont_base::{Deed, Entry, Epoch, Job, Line, Op, Outcome, Unit};
-use plain::unit_of_op;
 use std::alloc::{AllocError, Global};
 
 /// Whether the outcomes of each caller answer the caller's lines.
@@ -101,7 +100,7 @@ fn is_answer(report: &Report, caller: u64, call: u64, op: &Op, unit: Unit, place
 {
     match entry_at(report, unit, place) {
         Some(entry) => {
-            unit == unit_of_op(&report.layout, op)
+            unit == op.unit(report.layout)
                 && entry.caller == caller
                 && entry.call == call
                 && entry.op == *op

@@ -13,6 +13,8 @@ mod sequence;
 mod sink;
 mod source;
 mod spelling;
+#[cfg(test)]
+mod tests;
 mod words;
 
 pub use constants::{BODY, FIELDS, LAST};

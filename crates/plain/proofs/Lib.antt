@@ -4,6 +4,5 @@ pub mod Lists
 pub mod Maps
 pub mod SameEntries
 pub mod Recovered
-pub mod SameEntries
 pub mod Single
 pub mod Sound

@@ -6,7 +6,7 @@ ghost use Rattle.plain.specs.Follows.{MayFollow};
 ghost use Rattle.plain.specs.States.{state_of};
 
 use crate::unit_state::UnitState;
-use mont_base::{Entry, Epoch, LAST, Layout, Op, Reply, Unit};
+use mont_base::{Entry, Epoch, LAST, Layout, Reply, Unit};
 use std::alloc::{AllocError, Global};
 
 /// The state that the operations of a history lead to from another.
@@ -58,18 +58,8 @@ pub fn is_legal(
 fn may_follow(layout: &Layout, unit: Unit, newest: Epoch, reply: Reply, entry: &Entry) -> bool
     ensures { IsTrue result ↔ MayFollow layout.now unit newest reply entry.now }
 {
-    unit_of_op(layout, &entry.op) == unit
+    entry.op.unit(*layout) == unit
         && entry.reply == reply
         && newest <= entry.epoch
         && entry.epoch <= LAST
-}
-
-/// The unit that an operation belongs to.
-pub fn unit_of_op(layout: &Layout, op: &Op) -> Unit
-    ensures { result ≡ unit_of_op layout.now op.now }
-{
-    match *op {
-        Op::Put { key, .. } => layout.unit_of_key(key),
-        Op::Get { key } => layout.unit_of_key(key),
-    }
 }

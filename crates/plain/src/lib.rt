@@ -21,7 +21,7 @@ mod unit_state;
 
 pub use contents::Contents;
 pub use graph_state::GraphState;
-pub use history::{cut_at, is_legal, state_after, unit_of_op};
+pub use history::{cut_at, is_legal, state_after};
 pub use image::records;
 pub use map_state::MapState;
 pub use objects::live_objects;
