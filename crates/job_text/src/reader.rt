@@ -1,10 +1,11 @@
 // Jobs from sources.
-ghost use Rattle.std.specs.Prelude.{◌≡◌, ◌≤◌, ◌<◌, ℕ, Some, Err, IfOk, IfErr, IfSome, MatchResult, length};
+ghost use Rattle.std.specs.Prelude.{◌≡◌, ◌≤◌, ◌<◌, ℕ, Some, Err, IfOk, IfErr, IfSome, MatchResult, OnOk, length};
+ghost use Rattle.std.specs.Io.KnownBytes.{IsAtEnd};
 ghost use Rattle.mont_base.specs.declared.job.Job.{Job};
 ghost use Rattle.mont_base.specs.declared.job.JobFault.{JobFault};
 ghost use Rattle.mont_base.specs.Faults.{Rose};
 ghost use Rattle.mont_base.specs.JobText.{IsJob, IsFirstRefused, job_text};
-ghost use Rattle.job_text.specs.Refused.{IsReadOf, IsOutside};
+ghost use Rattle.job_text.specs.Refused.{IsReadOf, IsOutside, most_text};
 
 use crate::parser::parse_job;
 use crate::refusal::JobRefusal;
@@ -22,6 +23,7 @@ const CHUNK: usize = 4096;
 fn read_text<S: Source>(alloc: Global, source: &mut S) -> Result<Vec<u8>, JobRefusal>
     ensures front { IfOk result
         (λ bytes. IfSome (S.left source.old) (λ text. IsReadOf text bytes.items)) }
+    ensures ended { IfOk result (λ bytes. length bytes.items < most_text → IsAtEnd (S.left source.new)) }
     ensures outside { IfErr result IsOutside }
     ensures read { result ≡ Err JobRefusal.Read → Rose (S.faults source.old) (S.faults source.new) }
     ensures faults { S.faults source.old ≤ S.faults source.new }
@@ -46,6 +48,9 @@ pub fn read_job<S: Source>(alloc: Global, source: &mut S) -> Result<Job, JobRefu
         (λ j. IsJob j × IfSome (S.left source.old) (λ text. text ≡ job_text j)) }
     ensures refused { (line : ℕ) (fault : JobFault) → result ≡ Err (JobRefusal.Text line fault)
         → IfSome (S.left source.old) (λ text. IsFirstRefused text line fault) }
+
+    // What gives a job was read to its end.
+    ensures whole { OnOk result (IsAtEnd (S.left source.new)) }
 
     // A job's text gives the job, unless the source fails or memory runs out.
     ensures accepted { (j : Job) → IsJob j → S.left source.old ≡ Some (job_text j)

@@ -1,6 +1,6 @@
 // The top call, which does all that the program does.
 ghost use Rattle.std.specs.Prelude.{◌≡◌, ◌≢◌, ◌⊎◌, ◌↔◌, ℕ, List, Some, IfOk, IfSome, map, string_bytes};
-ghost use Rattle.std.specs.Io.KnownBytes.{Appends};
+ghost use Rattle.std.specs.Io.KnownBytes.{Appends, IsAtEnd};
 ghost use Rattle.mont_base.specs.declared.job.Job.{Job};
 ghost use Rattle.mont_base.specs.declared.job.JobFault.{JobFault};
 ghost use Rattle.mont_base.specs.Faults.{Rose};
@@ -38,6 +38,9 @@ pub fn montage<R: AllocGlobal, J: Source, I: Source, O: Sink, K: Sink>(
 ) -> Status
     ensures done { result ≡ Status.Done → (bytes : List ℕ) × Reports (J.left job.old) bytes × Appends (O.taken out.old) (O.taken out.new) bytes }
 
+    // The job was read to its end.
+    ensures whole { result ≡ Status.Done → IsAtEnd (J.left job.new) }
+
     ensures bad_words { (result ≡ Status.BadWords) ↔ ¬ AreRun (map string_bytes words.now) }
 
     // Only a text that is no job's is refused, at its first refused line.
@@ -72,6 +75,7 @@ pub fn montage<R: AllocGlobal, J: Source, I: Source, O: Sink, K: Sink>(
 // Runs the job that a source gives, and reports.
 fn run_job<J: Source, O: Sink>(alloc: Global, job: &mut J, out: &mut O) -> Status
     ensures done { result ≡ Status.Done → (bytes : List ℕ) × Reports (J.left job.old) bytes × Appends (O.taken out.old) (O.taken out.new) bytes }
+    ensures whole { result ≡ Status.Done → IsAtEnd (J.left job.new) }
     ensures words { result ≢ Status.BadWords }
     ensures bad_job { (line : ℕ) (fault : JobFault) → result ≡ Status.BadJob line fault → IfSome (J.left job.old) (λ text. IsFirstRefused text line fault) }
     ensures accepted { (j : Job) (line : ℕ) (fault : JobFault) → IsJob j → J.left job.old ≡ Some (job_text j) → result ≢ Status.BadJob line fault }

@@ -47,3 +47,9 @@ returns-clause-front g c = read_enough (g.S.Source.left c.args.source.now) (g.S.
 
 pub returns-clause-faults : goal.returns-clause-faults
 returns-clause-faults g c = c.loop-chunk.invariant.1
+
+pub returns-then-count-eq0-clause-ended : goal.returns-then-count-eq0-clause-ended
+returns-then-count-eq0-clause-ended g c = λ short.
+    let i = c.loop-chunk.invariant in
+    let long : length c.read.new.buf ≡ c.min-room.result = c.read.auto.buf ∙ length-take-le c.min-room.result c.loop-chunk.chunk (omega (arith, i.3)) in
+    c.in_ok-count.ensures.bytes.1 c.if-count-eq0.true (omega (arith, long))
