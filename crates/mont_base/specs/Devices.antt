@@ -6,7 +6,8 @@ pub record Readable : Type 0 where
   pub left : List ℕ
   pub faults : ℕ
 
--- bytes that were taken, and how often writing failed
+-- bytes that were taken, how many there is room for, and how often writing failed
 pub record Writable : Type 0 where
   pub taken : List ℕ
+  pub reserved : ℕ
   pub faults : ℕ

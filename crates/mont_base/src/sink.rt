@@ -27,7 +27,7 @@ pub trait Sink {
 /// call. A call past its room fails, and so do the calls whose numbers are listed; the first call has
 /// number 0.
 ///
-/// Contracts see the bytes that it took and the count of faults.
+/// Contracts see the bytes that it took, its room and the count of faults.
 #[derive(Debug, Drop)]
 pub struct MemSink {
     taken: Vec<u8>,
@@ -44,7 +44,7 @@ impl Model for MemSink {
 
     ghost Value = { Writable };
 
-    ghost view = { λ s. record { taken = s.taken.items; faults = s.faults } };
+    ghost view = { λ s. record { taken = s.taken.items; reserved = s.reserved; faults = s.faults } };
 
     ghost invariant = { λ s. 0 < s.piece };
 }
@@ -58,7 +58,7 @@ impl MemSink {
         fail_calls: Vec<u64>,
     ) -> Result<MemSink, AllocError>
         requires { 0 < piece }
-        ensures { IfOk result (λ s. s ≡ record { taken = []; faults = 0 }) }
+        ensures { IfOk result (λ s. s ≡ record { taken = []; reserved = reserved; faults = 0 }) }
     {
         Ok(MemSink {
             taken: Vec::with_capacity(alloc, reserved)?,
