@@ -7,7 +7,7 @@ ghost use Rattle.job_text.specs.Faithful.{AllNamedAt, NamedOnce};
 use crate::report::Report;
 use mont_base::{Outcome, Sequence, Unit};
 
-/// Whether each entry of each history is named by exactly one outcome.
+/// Whether the outcomes name every entry, and none of them twice.
 pub fn are_named_once(report: &Report) -> bool
     ensures { IsTrue result ↔ ((unit : ℕ) → AllNamedAt (report_of report.now) unit) }
 {

@@ -18,7 +18,7 @@ pub record IsPermitted (cur dur image : List ℕ) : Type 0 where
 abbrev pub clock_of : List ℕ → ℕ
 clock_of image = slice_index image 0
 
--- what recovery keeps ends two epochs before the clock (Montage: a crash in epoch e recovers the end of e - 2)
+-- recovery keeps what ended two epochs before the clock or earlier (the recovery horizon of Montage)
 abbrev pub cut_of : List ℕ → ℕ
 cut_of image = clock_of image - 2
 

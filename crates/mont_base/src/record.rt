@@ -50,7 +50,7 @@ pub enum Change {
     Remove { identity: u64 },
 }
 
-/// Why an open slot can't be read, with the word at fault. The faults are tried in this order.
+/// Why an open slot can't be read, and which word says so. The order of the variants is that in which they are tried.
 #[derive(Clone, Copy, Debug, PartialEq, Eq)]
 pub enum SlotFault {
     /// The word at field 1, divided by 256, is no kind.
