@@ -24,13 +24,22 @@ use std::process::ExitCode;
 use std::{env, io};
 use words::files_of;
 
-// The words of the command line behind the program's name; `None` where one isn't UTF-8 or memory ran out.
-fn words_of(rt: &HostRuntime) -> Option<Vec<String>> {
+// The words of the command line behind the program's name.
+fn words_of(rt: &HostRuntime) -> Result<Vec<String>, Status> {
     let mut words = Vec::new(rt.alloc());
-    for word in env::args(rt).ok()?.skip(1) {
-        words.push(word).ok()?;
+    let all = env::args(rt).map_err(|fault| status_of_fault(&fault))?;
+    for word in all.skip(1) {
+        words.push(word).map_err(|_| Status::Memory)?;
     }
-    Some(words)
+    Ok(words)
+}
+
+// What a fault of the command line comes to: memory ran out, or a word isn't UTF-8.
+fn status_of_fault(fault: &io::Error) -> Status {
+    match fault.kind() {
+        io::ErrorKind::OutOfMemory => Status::Memory,
+        _ => Status::BadWords,
+    }
 }
 
 // What the program says of itself, if it is asked.
@@ -82,13 +91,18 @@ fn end(rt: &HostRuntime, status: &Status) -> ExitCode {
     ExitCode::from(exit_code(status))
 }
 
+// Answers what the words ask.
+fn answer(rt: &HostRuntime, words: &[String]) -> Status {
+    match asked_of_itself(words) {
+        Some(text) => say(rt, text),
+        None => serve(rt, words),
+    }
+}
+
 fn main(rt: HostRuntime) -> ExitCode {
-    let Some(words) = words_of(&rt) else {
-        return end(&rt, &Status::BadWords);
-    };
-    let status = match asked_of_itself(words.as_slice()) {
-        Some(text) => say(&rt, text),
-        None => serve(&rt, words.as_slice()),
+    let status = match words_of(&rt) {
+        Ok(words) => answer(&rt, words.as_slice()),
+        Err(status) => status,
     };
     end(&rt, &status)
 }
