@@ -1,6 +1,6 @@
 -- The latest record of a key, and the record that comes next.
-use Rattle.std.proofs.Common.{◌≡◌, ℕ, ◌+◌, ◌≤◌, List, [], ◌∷◌, ◌++◌, length, sym, refl, ap, ◌∙◌, subst, arith, Bool, true, false}
-use Rattle.std.specs.Prelude.{Option, Some, None, is_some, ◌||◌, ◌==◌, if◌then◌else◌}
+use Rattle.std.proofs.Common.{◌≡◌, ℕ, zero, suc, ◌+◌, ◌≤◌, List, [], ◌∷◌, ◌++◌, length, take, sym, refl, ap, ◌∙◌, subst, arith, Bool, true, false}
+use Rattle.std.specs.Prelude.{Option, Some, None, is_some, ◌==◌, if◌then◌else◌}
 use Rattle.std.specs.List.{AllByRecursion}
 use Rattle.std.specs.Ordering.{nat_cmp}
 use Rattle.std.specs.FinMap as finite
@@ -16,7 +16,7 @@ use Rattle.mont_base.specs.Record.{IsLabel, IsVersionOf}
 use Rattle.mont_base.specs.Objects.{key_of, is_delete}
 use Rattle.montage_tool.specs.Machine.{Counted}
 use Rattle.montage_tool.specs.Log.{IsPair, Follows, IsLog, StandFrom, or_this, latest, set_all, next_label, next_record}
-use Rattle.montage_tool.proofs.Live.{has_key, has_key-latest, get-set_all, value_in, or_value}
+use Rattle.montage_tool.proofs.Live.{either_false, has_key, has_key-latest, get-set_all, value_in, or_value}
 
 -- what a key has after the records of a log
 pub value_now : (key : ℕ) (rs : List Held) → finite.get (set_all finite.empty rs) key ≡ value_in (latest key rs)
@@ -60,10 +60,6 @@ absent_below key r (q ∷ qs) is none all = (
   absent_below key r qs is (either_false (key == key_of q.body) (has_key key qs) none).1 all.1,
 )
   where
-    either_false : (a b : Bool) → (a || b) ≡ false → (a ≡ false) × (b ≡ false)
-    either_false true b e = absurd (cc)
-    either_false false b e = (refl, e)
-
     there_not : key_of q.body ≡ key → ⊥
     there_not e = let f : (key == key_of q.body) ≡ false = (either_false (key == key_of q.body) (has_key key qs) none).0 in absurd (grind (arith, nat_tests))
 
@@ -123,10 +119,6 @@ follow_new clock keys records key value rs (q ∷ qs) at none counted =
       follow_new clock keys records key value rs qs at (either_false (key == key_of q.body) (has_key key qs) none).1 counted.1,
     )
   where
-    either_false : (a b : Bool) → (a || b) ≡ false → (a ≡ false) × (b ≡ false)
-    either_false true b e = absurd (cc)
-    either_false false b e = (refl, e)
-
     there_not : key ≡ key_of q.body → ⊥
     there_not e = let f : (key == key_of q.body) ≡ false = (either_false (key == key_of q.body) (has_key key qs) none).0 in absurd (grind (arith, nat_tests))
 
@@ -206,6 +198,17 @@ epoch_of_next clock keys (Some p) = refl
 pub each_push : (P : Held → Type 0) (rs : List Held) (r : Held) → AllByRecursion P rs → P r → AllByRecursion P (rs ++ r ∷ [])
 each_push P [] r all here = (here, tt)
 each_push P (q ∷ rs) r all here = (all.0, each_push P rs r all.1 here)
+
+follows_take : (r : Held) (n : ℕ) (qs : List Held) → AllByRecursion (Follows r) qs → AllByRecursion (Follows r) (take n qs)
+follows_take r zero qs all = tt
+follows_take r (suc n) [] all = tt
+follows_take r (suc n) (q ∷ qs) all = (all.0, follows_take r n qs all.1)
+
+-- the first records of a log are a log
+pub log_take : (n : ℕ) (qs : List Held) → IsLog qs → IsLog (take n qs)
+log_take zero qs log = tt
+log_take (suc n) [] log = tt
+log_take (suc n) (q ∷ qs) log = (log.0, follows_take q n qs log.1, log_take n qs log.2)
 
 pub log_push : (rs : List Held) (r : Held) → IsLog rs → IsPair r → AllByRecursion (λ (q : Held). Follows q r) rs → IsLog (rs ++ r ∷ [])
 log_push [] r log pair follows = (pair, tt, tt)

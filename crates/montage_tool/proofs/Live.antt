@@ -88,6 +88,10 @@ has_key-latest key (r ∷ rs) = ap (λ (b : Bool). (key == key_of r.body) || b) 
     found None true = refl
     found None false = refl
 
+pub either_false : (a b : Bool) → (a || b) ≡ false → (a ≡ false) × (b ≡ false)
+either_false true b e = absurd (cc)
+either_false false b e = (refl, e)
+
 -- the value of a record that was found
 abbrev pub value_in : Option Held → Option ℕ
 value_in None = None
@@ -106,12 +110,12 @@ get-pairs_of_log : (key : ℕ) (rs : List Held) → finite.get (pairs_of_log rs)
 get-pairs_of_log key [] = get-empty nat_cmp key
 get-pairs_of_log key (r ∷ rs) = by_key (get-pairs_of_log key rs) (has_key (key_of r.body) rs) refl
   where
+    kept : (o : Option Held) → value_in o ≡ value_in (or_this o false r)
+    kept None = refl
+    kept (Some q) = refl
+
     shadowed : (t : Bool) → (key == key_of r.body) ≡ t → has_key (key_of r.body) rs ≡ true → value_in (latest key rs) ≡ value_in (or_this (latest key rs) t r)
-    shadowed false e has = same (latest key rs)
-      where
-        same : (o : Option Held) → value_in o ≡ value_in (or_this o false r)
-        same None = refl
-        same (Some q) = refl
+    shadowed false e has = kept (latest key rs)
     shadowed true e has =
         let is : key ≡ key_of r.body = grind (arith, nat_tests) in
         let there : is_some (latest key rs) ≡ true = sym (has_key-latest key rs) ∙ ap (λ (k : ℕ). has_key k rs) is ∙ has in
@@ -122,11 +126,7 @@ get-pairs_of_log key (r ∷ rs) = by_key (get-pairs_of_log key rs) (has_key (key
         some (Some q) h = refl
 
     fresh : (t : Bool) → (key == key_of r.body) ≡ t → has_key (key_of r.body) rs ≡ false → cond t (Some (value_of r.body)) (value_in (latest key rs)) ≡ value_in (or_this (latest key rs) t r)
-    fresh false e has = same (latest key rs)
-      where
-        same : (o : Option Held) → value_in o ≡ value_in (or_this o false r)
-        same None = refl
-        same (Some q) = refl
+    fresh false e has = kept (latest key rs)
     fresh true e has =
         let is : key ≡ key_of r.body = grind (arith, nat_tests) in
         let none : is_some (latest key rs) ≡ false = sym (has_key-latest key rs) ∙ ap (λ (k : ℕ). has_key k rs) is ∙ has in

@@ -3,6 +3,8 @@ use Rattle.std.proofs.Common.{◌≡◌, ℕ, ◌%◌, List, [], ◌∷◌, ◌+
 use Rattle.std.specs.Prelude.{Option, Some, None, not, ◌||◌, ◌==◌, map, if◌then◌else◌}
 use Rattle.std.specs.List.{list_any, AllByRecursion}
 use Rattle.std.specs.FinMap as finite
+use Rattle.std.proofs.lemmas.List.Folds.{list_any-append}
+use Rattle.std.proofs.Math.Bool.{or-false}
 use Rattle.mont_base.specs.declared.record.Held.{Held}
 use Rattle.mont_base.specs.declared.record.Object.{Object}
 use Rattle.mont_base.specs.declared.record.ObjectFault.{ObjectFault}
@@ -11,28 +13,15 @@ use Rattle.mont_base.specs.Layout.{Shape, kind_of, unit_of_key}
 use Rattle.mont_base.specs.State.{MapOf}
 use Rattle.mont_base.specs.Objects.{object_of, live_objects, key_of, has_spare, map_fault, or_else, at_slot, first_fault, IsStructure}
 use Rattle.montage_tool.specs.Log.{IsPair, IsLog, set_all}
-use Rattle.montage_tool.proofs.Live.{has_key, lasts, live-log, set_all-live}
+use Rattle.montage_tool.proofs.Live.{either_false, has_key, lasts, live-log, set_all-live}
 
 pub any_push : {A : Type 0} (f : A → Bool) (xs : List A) (x : A) → list_any f (xs ++ x ∷ []) ≡ (list_any f xs || f x)
-any_push f [] x = or_false (f x)
-  where
-    or_false : (b : Bool) → (b || false) ≡ b
-    or_false true = refl
-    or_false false = refl
-any_push f (y ∷ xs) x = ap (λ (b : Bool). f y || b) (any_push f xs x) ∙ again (f y) (list_any f xs) (f x)
-  where
-    again : (a b c : Bool) → (a || (b || c)) ≡ ((a || b) || c)
-    again true b c = refl
-    again false b c = refl
+any_push f xs x = list_any-append f xs (x ∷ []) ∙ ap (λ (b : Bool). list_any f xs || b) (or-false (f x))
 
 -- no two of these records have one key
 abbrev Distinct : List Held → Type 0
 Distinct [] = Unit {0}
 Distinct (r ∷ rs) = (has_key (key_of r.body) rs ≡ false) × Distinct rs
-
-either_false : (a b : Bool) → (a || b) ≡ false → (a ≡ false) × (b ≡ false)
-either_false true b e = absurd (cc)
-either_false false b e = (refl, e)
 
 absent_of_lasts : (key : ℕ) (rs : List Held) → has_key key rs ≡ false → has_key key (lasts rs) ≡ false
 absent_of_lasts key [] e = refl

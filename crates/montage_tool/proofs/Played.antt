@@ -1,6 +1,7 @@
 -- One more line of a run.
 use Rattle.std.proofs.Common.{◌≡◌, ℕ, zero, suc, ◌+◌, ◌<◌, ◌≤◌, ◌⊎◌, List, [], ◌∷◌, ◌++◌, length, take, sym, refl, ap, ◌∙◌, subst, inl, inr, ⊎_elim, arith, length-append, zero-add, get_or, Bool, true, false}
 use Rattle.std.specs.Prelude.{Some, All, slice_get, count_by, ◌&&◌, ◌==◌, if◌then◌else◌}
+use Rattle.std.proofs.lemmas.Bool.{and_right}
 use Rattle.std.proofs.lemmas.Bool.Decides.{nat_tests}
 use Rattle.std.proofs.lemmas.List.{take-append-le}
 use Rattle.std.proofs.Math.Seq.{take-append_seam}
@@ -17,7 +18,7 @@ use Rattle.mont_base.specs.declared.job.Outcome.{Outcome}
 use Rattle.mont_base.specs.declared.job.Outcome.TheVariants.{At, Ticked}
 use Rattle.mont_base.specs.Layout.{Shape}
 use Rattle.mont_base.specs.State.{unit_of_op}
-use Rattle.mont_base.specs.Report.{IsEntryAt, Answers, InOrder, is_at, names}
+use Rattle.mont_base.specs.Report.{Report, IsEntryAt, Answers, InOrder, is_at, names}
 use Rattle.montage_tool.specs.Run.{made, IsReached, Played}
 
 -- the entries of the one unit that has any
@@ -122,13 +123,28 @@ unnamed h clock (o ∷ os) all = count_cons (names 0 (length h)) o os ∙ by_kin
     by_kind (At u n) r rest =
         let low = r.1 in
         let other : (n == length h) ≡ false = grind (arith, nat_tests) in
-        let both : ((u == 0) && (n == length h)) ≡ false = and_false (u == 0) (n == length h) other in
+        let both : ((u == 0) && (n == length h)) ≡ false = and_right (u == 0) (n == length h) other in
         ap (λ (b : Bool). (if b then 1 else 0) + count_by (names 0 (length h)) os) both ∙ omega arith
-      where
-        and_false : (a b : Bool) → b ≡ false → (a && b) ≡ false
-        and_false true b e = e
-        and_false false b e = refl
     by_kind (Ticked e) r rest = omega arith
+
+-- where each outcome answers its line, so it is with one more of both
+answers_push : (r : Report) (lines : List Line) (os : List Outcome) (l : Line) (new : Outcome) → length os ≡ length lines
+    → ((i : ℕ) (k : Line) (o : Outcome) → slice_get lines i ≡ Some k → slice_get os i ≡ Some o → Answers r 0 (take i os) k.deed o)
+    → Answers r 0 os l.deed new
+    → (i : ℕ) (k : Line) (o : Outcome) → slice_get (lines ++ l ∷ []) i ≡ Some k → slice_get (os ++ new ∷ []) i ≡ Some o → Answers r 0 (take i (os ++ new ∷ [])) k.deed o
+answers_push r lines os l new one_each each answer i k o line_at out_at =
+    ⊎_elim
+    (λ (t : (i < length os) × (slice_get os i ≡ Some o)).
+    let low = t.0 in
+    subst (λ (before : List Outcome). Answers r 0 before k.deed o) (sym (take-append-le i os (new ∷ []) (omega arith)))
+    (each i k o (sym (get_left lines (l ∷ []) i (omega arith)) ∙ line_at) t.1))
+    (λ (t : (i ≡ length os) × (new ≡ o)).
+    let place : i ≡ length lines = t.0 ∙ one_each in
+    let same : l ≡ k = same_Some l k (sym (get_last lines l) ∙ subst (λ (n : ℕ). slice_get (lines ++ l ∷ []) n ≡ Some k) place line_at) in
+    let before : take i (os ++ new ∷ []) ≡ os = ap (λ (n : ℕ). take n (os ++ new ∷ [])) t.0 ∙ take-append_seam os (new ∷ []) in
+    subst (λ (b : List Outcome). Answers r 0 b k.deed o) (sym before)
+    (subst (λ (q : Outcome). Answers r 0 os k.deed q) t.1 (subst (λ (m : Line). Answers r 0 os m.deed new) same answer)))
+    (push_cases os new o i out_at)
 
 -- the outcomes of one more call
 pub played_call : (s : Shape) (h : List Entry) (clock : ℕ) (lines : List Line) (os : List Outcome) (l : Line) (op : Op) (unit : ℕ) (x : Entry)
@@ -150,21 +166,8 @@ played_call s h clock lines os l op unit x p deed asked of_unit zeroth by number
     record {
       answers = record {
         one_each = let e = p.answers.one_each in omega (arith, length-append os (new ∷ []), length-append lines (l ∷ []));
-        each = λ i k o line_at out_at.
-            ⊎_elim
-            (λ (t : (i < length os) × (slice_get os i ≡ Some o)).
-            let low = t.0 in
-            let e = p.answers.one_each in
-            subst (λ (before : List Outcome). Answers r 0 before k.deed o) (sym (take-append-le i os (new ∷ []) (omega arith)))
-            (answer_on s h x clock clock (take i os) k.deed o (omega arith) (p.answers.each i k o (sym (get_left lines (l ∷ []) i (omega arith)) ∙ line_at) t.1)))
-            (λ (t : (i ≡ length os) × (new ≡ o)).
-            let e = p.answers.one_each in
-            let place : i ≡ length lines = t.0 ∙ e in
-            let same : l ≡ k = same_Some l k (sym (get_last lines l) ∙ subst (λ (n : ℕ). slice_get (lines ++ l ∷ []) n ≡ Some k) place line_at) in
-            let before : take i (os ++ new ∷ []) ≡ os = ap (λ (n : ℕ). take n (os ++ new ∷ [])) t.0 ∙ take-append_seam os (new ∷ []) in
-            subst (λ (b : List Outcome). Answers r 0 b k.deed o) (sym before)
-            (subst (λ (q : Outcome). Answers r 0 os k.deed q) t.1 (subst (λ (m : Line). Answers r 0 os m.deed new) same answer)))
-            (push_cases os new o i out_at);
+        each = answers_push r lines os l new p.answers.one_each
+            (λ i k o line_at out_at. answer_on s h x clock clock (take i os) k.deed o (omega arith) (p.answers.each i k o line_at out_at)) answer;
         order = all_pairs_push (InOrder r) os new
             (λ i j d low high. order_on s h x clock clock (get_or os i d) (get_or os j d) (p.reached i d (omega arith)) (p.reached j d high) (p.answers.order i j d low high))
             (λ k d low. last_order (get_or os k d) (p.reached k d low));
@@ -190,12 +193,8 @@ played_call s h clock lines os l op unit x p deed asked of_unit zeroth by number
     once_before : (n : ℕ) → n < length h → count_by (names 0 n) (os ++ At unit (length h) ∷ []) ≡ 1
     once_before n low =
         let other : (length h == n) ≡ false = grind (arith, nat_tests) in
-        let none : ((unit == 0) && (length h == n)) ≡ false = and_false (unit == 0) (length h == n) other in
+        let none : ((unit == 0) && (length h == n)) ≡ false = and_right (unit == 0) (length h == n) other in
         count_push (names 0 n) os (At unit (length h)) ∙ ap (λ (b : Bool). count_by (names 0 n) os + (if b then 1 else 0)) none ∙ (let e = p.once n low in omega arith)
-      where
-        and_false : (a b : Bool) → b ≡ false → (a && b) ≡ false
-        and_false true b e = e
-        and_false false b e = refl
 
     once_here : count_by (names 0 (length h)) (os ++ At unit (length h) ∷ []) ≡ 1
     once_here =
@@ -227,21 +226,8 @@ played_tick s h clock lines os l p deed begun past =
     record {
       answers = record {
         one_each = let e = p.answers.one_each in omega (arith, length-append os (new ∷ []), length-append lines (l ∷ []));
-        each = λ i k o line_at out_at.
-            ⊎_elim
-            (λ (t : (i < length os) × (slice_get os i ≡ Some o)).
-            let low = t.0 in
-            let e = p.answers.one_each in
-            subst (λ (before : List Outcome). Answers r 0 before k.deed o) (sym (take-append-le i os (new ∷ []) (omega arith)))
-            (answer_later s h clock (clock + 1) (take i os) k.deed o (omega arith) (p.answers.each i k o (sym (get_left lines (l ∷ []) i (omega arith)) ∙ line_at) t.1)))
-            (λ (t : (i ≡ length os) × (new ≡ o)).
-            let e = p.answers.one_each in
-            let place : i ≡ length lines = t.0 ∙ e in
-            let same : l ≡ k = same_Some l k (sym (get_last lines l) ∙ subst (λ (n : ℕ). slice_get (lines ++ l ∷ []) n ≡ Some k) place line_at) in
-            let before : take i (os ++ new ∷ []) ≡ os = ap (λ (n : ℕ). take n (os ++ new ∷ [])) t.0 ∙ take-append_seam os (new ∷ []) in
-            subst (λ (b : List Outcome). Answers r 0 b k.deed o) (sym before)
-            (subst (λ (q : Outcome). Answers r 0 os k.deed q) t.1 (subst (λ (m : Line). Answers r 0 os m.deed new) same answer)))
-            (push_cases os new o i out_at);
+        each = answers_push r lines os l new p.answers.one_each
+            (λ i k o line_at out_at. answer_later s h clock (clock + 1) (take i os) k.deed o (omega arith) (p.answers.each i k o line_at out_at)) answer;
         order = all_pairs_push (InOrder r) os new
             (λ i j d low high. order_later s h clock (clock + 1) (get_or os i d) (get_or os j d) (p.answers.order i j d low high))
             (λ k d low. last_order (get_or os k d) (p.reached k d low));

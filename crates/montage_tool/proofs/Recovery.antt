@@ -12,21 +12,12 @@ use Rattle.mont_base.specs.State.{State, MapOf}
 use Rattle.mont_base.specs.Objects.{live_objects, IsStructure}
 use Rattle.mont_base.specs.Image.{clock_of, records_of, IsWellFormed, IsRecovered}
 use Rattle.mont_base.specs.History.{state_after, cut_at}
-use Rattle.montage_tool.specs.Log.{Follows, IsLog, StandFrom, kept_at}
+use Rattle.montage_tool.specs.Log.{StandFrom, kept_at}
 use Rattle.montage_tool.specs.declared.machine.Machine.{Machine}
 use Rattle.montage_tool.specs.Machine.{Holds, IsSound}
 use Rattle.montage_tool.proofs.Cut.{structure_of_cut}
+use Rattle.montage_tool.proofs.Latest.{log_take}
 use Rattle.montage_tool.proofs.WellFormed.{with_map, well_formed, recovered, same_structure}
-
-follows_take : (r : Held) (n : ℕ) (qs : List Held) → AllByRecursion (Follows r) qs → AllByRecursion (Follows r) (take n qs)
-follows_take r zero qs all = tt
-follows_take r (suc n) [] all = tt
-follows_take r (suc n) (q ∷ qs) all = (all.0, follows_take r n qs all.1)
-
-pub log_take : (n : ℕ) (qs : List Held) → IsLog qs → IsLog (take n qs)
-log_take zero qs log = tt
-log_take (suc n) [] log = tt
-log_take (suc n) (q ∷ qs) log = (log.0, follows_take q n qs log.1, log_take n qs log.2)
 
 stand_take : (m n : ℕ) (qs : List Held) → StandFrom m qs → StandFrom m (take n qs)
 stand_take m zero qs all = tt

@@ -17,7 +17,7 @@ use Rattle.montage_tool.specs.Log.{Follows, IsLog, latest, memory, words_of_reco
 use Rattle.montage_tool.specs.Machine.{Holds, Counted, Store}
 use Rattle.montage_tool.proofs.Memory.{Eight, eight_of_pair, eights_of_log, length-memory, memory_push, words_at-memory}
 use Rattle.montage_tool.proofs.WellFormed.{item_at}
-use Rattle.montage_tool.proofs.Latest.{IsNext, latest_among, next_is, follow_next, pairs_in_log, epoch_of_next, each_push, log_push, stand_push, latest_push, raise_count}
+use Rattle.montage_tool.proofs.Latest.{IsNext, latest_among, next_is, follow_next, pairs_in_log, epoch_of_next, each_push, log_push, log_take, stand_push, latest_push, raise_count}
 
 abbrev pub Find : Type 0
 Find = ℕ → Option Held
@@ -210,16 +210,6 @@ module _ (s : Shape) (clock : ℕ) (current durable : List ℕ) (rs : List Held)
       let front : List Held = take flushed rs in
       let shorter : length front ≤ length rs = omega (arith, length-take flushed rs) in
       omega (arith, ap length st.outlives, length-memory s clock front (eights_of_log front (log_take flushed rs h.log)) (omega arith))
-    where
-      follows_take : (r : Held) (n : ℕ) (qs : List Held) → AllByRecursion (Follows r) qs → AllByRecursion (Follows r) (take n qs)
-      follows_take r zero qs all = tt
-      follows_take r (suc n) [] all = tt
-      follows_take r (suc n) (q ∷ qs) all = (all.0, follows_take r n qs all.1)
-
-      log_take : (n : ℕ) (qs : List Held) → IsLog qs → IsLog (take n qs)
-      log_take zero qs log = tt
-      log_take (suc n) [] log = tt
-      log_take (suc n) (q ∷ qs) log = (log.0, follows_take q n qs log.1, log_take n qs log.2)
 
 log_drop : (n : ℕ) (rs : List Held) → IsLog rs → IsLog (drop n rs)
 log_drop zero rs log = log
