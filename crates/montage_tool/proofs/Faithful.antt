@@ -18,7 +18,7 @@ use Rattle.mont_base.specs.JobText.{IsJob, IsLine}
 use Rattle.mont_base.specs.Report.{Report, IsEntryAt, Answers, InOrder, AnswersLines, IsFaithful, empty_states, lines_of, names}
 use Rattle.montage_tool.specs.declared.machine.Machine.{Machine}
 use Rattle.montage_tool.specs.Machine.{IsSound}
-use Rattle.montage_tool.specs.Run.{made, Played, IsRun}
+use Rattle.montage_tool.specs.Run.{made, Played, AreDurable, IsRun}
 use Rattle.montage_tool.proofs.WellFormed.{with_map}
 use Rattle.montage_tool.proofs.Played.{entry_of}
 use Rattle.montage_tool.proofs.Recovery.{image_accepted, image_clock, image_states, same_recovered, cut_state}
@@ -123,10 +123,24 @@ module _ (j : Job) (m : Machine) (os : List Outcome) (is_job : IsJob j) (sound :
     cut = λ unit state h at there. cut unit state h (ap (λ (ss : List State). slice_get ss unit) (sym (empty_with_map m.layout one)) ∙ at) there;
   })
 
+  durable : (h : List Entry) → slice_get (m.history.items ∷ [] ∷ [] ∷ []) 0 ≡ Some h → AreDurable j.layout m.clock h m.durable.items
+  durable h there =
+      let st = sound.store in
+      subst (λ (s : Shape). AreDurable s m.clock h m.durable.items) layout
+      (subst (λ (g : List Entry). AreDurable m.layout m.clock g m.durable.items) (same_Some m.history.items h there) (record {
+        records = m.records.items;
+        holds = st.holds;
+        puts = sound.puts;
+        flushed = m.flushed;
+        words_are = st.outlives;
+        recent = st.near;
+      }))
+
   pub is_run : IsRecovered m.layout m.durable.items (with_map (cut_state m)) → IsRun j report_made
   is_run states = record {
     faithful = faithful;
     words = m.durable.items;
+    durable = durable;
     accepted = subst (λ (s : Shape). IsWellFormed s m.durable.items) layout (image_accepted m sound);
     clock = image_clock m sound;
     contents = subst (λ (s : Shape). IsRecovered s m.durable.items (with_map (cut_state m))) layout states;

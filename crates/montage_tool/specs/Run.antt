@@ -1,6 +1,8 @@
 -- What a run of a job's lines leaves.
-use Rattle.std.specs.Prelude.{◌≡◌, ℕ, ◌+◌, ◌≤◌, ◌<◌, List, [], ◌∷◌, ◌++◌, length, All, count_by, if◌then◌else◌}
+use Rattle.std.specs.Prelude.{◌≡◌, ℕ, ◌+◌, ◌≤◌, ◌<◌, List, [], ◌∷◌, ◌++◌, length, take, drop, map, All, count_by, slice_get, Some, if◌then◌else◌}
+use Rattle.std.specs.List.{AllByRecursion}
 use Rattle.mont_base.specs.declared.operation.Entry.{Entry}
+use Rattle.mont_base.specs.declared.record.Held.{Held}
 use Rattle.mont_base.specs.declared.job.Job.{Job}
 use Rattle.mont_base.specs.declared.job.Line.{Line}
 use Rattle.mont_base.specs.declared.job.Outcome.{Outcome}
@@ -10,6 +12,8 @@ use Rattle.mont_base.specs.Layout.{Shape}
 use Rattle.mont_base.specs.State.{State}
 use Rattle.mont_base.specs.Image.{clock_of, IsWellFormed, IsRecovered}
 use Rattle.montage_tool.specs.declared.machine.Machine.{Machine}
+use Rattle.montage_tool.specs.Log.{memory, puts_of, put_of_record}
+use Rattle.montage_tool.specs.Machine.{Holds}
 use Rattle.mont_base.specs.Report.{Report, AnswersLines, IsFaithful, empty_states, is_at, names}
 
 -- the report of a run of one caller on a store of one map unit
@@ -45,11 +49,22 @@ pub record LineDone (old new : Machine) (l : Line) (o : Outcome) : Type 0 where
   pub records : length new.records.items ≡ length old.records.items + (if is_put l then 1 else 0)
   pub played : (lines : List Line) (os : List Outcome) → Played old.layout old.history.items old.clock lines os → Played new.layout new.history.items new.clock (lines ++ l ∷ []) (os ++ o ∷ [])
 
+-- The durable words after the operations of the map: the clock, and a slot for each put in turn, with a record of
+-- its epoch, key and value. The records that aren't durable yet are the last ones, of the last two epochs.
+pub record AreDurable (s : Shape) (clock : ℕ) (h : List Entry) (words : List ℕ) : Type 0 where
+  pub records : List Held
+  pub holds : Holds s records
+  pub puts : map put_of_record records ≡ puts_of h
+  pub flushed : ℕ
+  pub words_are : words ≡ memory s clock (take flushed records)
+  pub recent : AllByRecursion (λ (r : Held). clock ≤ r.label.epoch + 1) (drop flushed records)
+
 -- A report of a run of the job on a fresh store: it is faithful, and its contents are what recovery rebuilds from
--- the words that outlive a crash.
+-- the durable words.
 pub record IsRun (j : Job) (r : Report) : Type 0 where
   pub faithful : IsFaithful j 2 (empty_states j.layout) r
   pub words : List ℕ
+  pub durable : (h : List Entry) → slice_get r.histories 0 ≡ Some h → AreDurable j.layout r.image_clock h words
   pub accepted : IsWellFormed j.layout words
   pub clock : clock_of words ≡ r.image_clock
   pub contents : IsRecovered j.layout words r.contents
