@@ -1,6 +1,8 @@
 -- A call keeps what is always true of the machine.
-use Rattle.std.proofs.Common.{◌≡◌, ℕ, ◌≤◌, List, [], ◌∷◌, ◌++◌, length, sym, refl, ap, ◌∙◌, subst}
+use Rattle.std.proofs.Common.{◌≡◌, ℕ, ◌+◌, ◌≤◌, List, [], ◌∷◌, ◌++◌, length, take, sym, refl, ap, ◌∙◌, subst}
 use Rattle.std.specs.Prelude.{All, map}
+use Rattle.std.specs.List.{AllByRecursion}
+use Rattle.std.proofs.lemmas.List.{take-append-le}
 use Rattle.std.specs.FinMap as finite
 use Rattle.std.specs.BTreeMap.{btree_map_len}
 use Rattle.mont_base.specs.declared.record.Held.{Held}
@@ -19,6 +21,9 @@ use Rattle.montage_tool.proofs.Sound.{state_of_log, legal_push, past_push, calls
 
 abbrev Asked : Machine → Op → Reply → Type 0
 Asked m op reply = reply ≡ (step (MapOf (set_all finite.empty m.records.items)) op).reply
+
+abbrev Settled : ℕ → List Held → Type 0
+Settled clock rs = AllByRecursion (λ (r : Held). r.label.epoch + 2 ≤ clock) rs
 
 -- the parts that a call of either kind keeps
 record Kept (m n : Machine) (e : Entry) : Type 0 where
@@ -45,6 +50,8 @@ sound_get m n op key reply is s found store entered =
     let k = kept m n op reply s asked entered.layout entered.clock entered.history in
     record {
       store = store;
+      settled = subst (λ (x : ℕ). Settled x (take n.flushed n.records.items)) (sym entered.clock)
+          (subst (Settled m.clock) (sym (ap (λ (k : ℕ). take k n.records.items) entered.flushed ∙ ap (take m.flushed) entered.records)) s.settled);
       puts = ap (map put_of_record) entered.records ∙ puts_push_get m.records.items m.history.items e key s.puts is ∙ ap puts_of (sym entered.history);
       legal = k.legal;
       past = k.past;
@@ -63,6 +70,8 @@ sound_put m p n op key value reply is s found put store entered =
     let k = kept m n op reply s asked (entered.layout ∙ put.layout) (entered.clock ∙ put.clock) history in
     record {
       store = store;
+      settled = subst (λ (x : ℕ). Settled x (take n.flushed n.records.items)) (sym (entered.clock ∙ put.clock))
+          (subst (Settled m.clock) (sym (ap (λ (k : ℕ). take k n.records.items) (entered.flushed ∙ put.flushed) ∙ ap (take m.flushed) (entered.records ∙ put.records) ∙ take-append-le m.flushed m.records.items (r ∷ []) s.store.within)) s.settled);
       puts = ap (map put_of_record) (entered.records ∙ put.records)
           ∙ puts_push_put m.records.items m.history.items r e key value s.puts is (ap (λ (x : ℕ). (x, (key, value))) (epoch_of_next m.clock (btree_map_len m.newest) (latest key m.records.items)))
           ∙ ap puts_of (sym history);

@@ -21,7 +21,7 @@ use Rattle.montage_tool.specs.Machine.{IsSound}
 use Rattle.montage_tool.specs.Run.{made, Played, AreDurable, IsRun}
 use Rattle.montage_tool.proofs.WellFormed.{with_map}
 use Rattle.montage_tool.proofs.Played.{entry_of}
-use Rattle.montage_tool.proofs.Recovery.{image_accepted, image_clock, image_states, same_recovered, cut_state}
+use Rattle.montage_tool.proofs.Recovery.{durable_words, image_accepted, image_clock, image_states, same_recovered, cut_state}
 use Rattle.mont_base.specs.Image.{IsRecovered, IsWellFormed}
 
 -- what outcomes and contents a report has is no part of how an outcome answers
@@ -131,9 +131,7 @@ module _ (j : Job) (m : Machine) (os : List Outcome) (is_job : IsJob j) (sound :
         records = m.records.items;
         holds = st.holds;
         puts = sound.puts;
-        flushed = m.flushed;
-        words_are = st.outlives;
-        recent = st.near;
+        words_are = durable_words m sound;
       }))
 
   pub is_run : IsRecovered m.layout m.durable.items (with_map (cut_state m)) → IsRun j report_made

@@ -1,5 +1,5 @@
 -- What outlives a crash is an image that recovery accepts, and holds the history cut two epochs before the clock.
-use Rattle.std.proofs.Common.{◌≡◌, ℕ, zero, suc, ◌+◌, ◌-◌, ◌≤◌, List, [], ◌∷◌, ◌++◌, length, take, drop, sym, refl, ap, ◌∙◌, subst, arith, append-nil, Bool, false}
+use Rattle.std.proofs.Common.{◌≡◌, ℕ, zero, suc, ◌+◌, ◌-◌, ◌≤◌, List, [], ◌∷◌, ◌++◌, length, take, drop, sym, refl, ap, ◌∙◌, subst, arith, append-nil, Bool, true, false}
 use Rattle.std.specs.Prelude.{Some, slice_get, nat_le, if◌then◌else◌}
 use Rattle.std.specs.List.{AllByRecursion}
 use Rattle.std.specs.FinMap as finite
@@ -12,7 +12,7 @@ use Rattle.mont_base.specs.State.{State, MapOf}
 use Rattle.mont_base.specs.Objects.{live_objects, IsStructure}
 use Rattle.mont_base.specs.Image.{clock_of, records_of, IsWellFormed, IsRecovered}
 use Rattle.mont_base.specs.History.{state_after, cut_at}
-use Rattle.montage_tool.specs.Log.{StandFrom, kept_at}
+use Rattle.montage_tool.specs.Log.{StandFrom, kept_at, memory}
 use Rattle.montage_tool.specs.declared.machine.Machine.{Machine}
 use Rattle.montage_tool.specs.Machine.{Holds, IsSound}
 use Rattle.montage_tool.proofs.Cut.{structure_of_cut}
@@ -47,6 +47,19 @@ kept_take clock flushed rs begun near =
     ∙ ap (λ (hs : List Held). kept_at (clock - 2) (take flushed rs) ++ hs) (sym (none_kept clock (drop flushed rs) begun near))
     ∙ sym (filter-append (λ (r : Held). nat_le r.label.epoch (clock - 2)) (take flushed rs) (drop flushed rs))
     ∙ ap (kept_at (clock - 2)) (take-append-drop flushed rs)
+
+kept_all : (clock : ℕ) (qs : List Held) → AllByRecursion (λ (r : Held). r.label.epoch + 2 ≤ clock) qs → kept_at (clock - 2) qs ≡ qs
+kept_all clock [] all = refl
+kept_all clock (q ∷ qs) all =
+    let low = all.0 in
+    let in_cut : nat_le q.label.epoch (clock - 2) ≡ true = grind (arith, nat_tests) in
+    ap (λ (b : Bool). if b then q ∷ kept_at (clock - 2) qs else kept_at (clock - 2) qs) in_cut ∙ ap (λ (hs : List Held). q ∷ hs) (kept_all clock qs all.1)
+
+-- the durable words are those of the records within the cut
+pub durable_words : (m : Machine) → IsSound m → m.durable.items ≡ memory m.layout m.clock (kept_at (m.clock - 2) m.records.items)
+durable_words m sound =
+    let st = sound.store in
+    st.outlives ∙ ap (memory m.layout m.clock) (sym (kept_all m.clock (take m.flushed m.records.items) sound.settled) ∙ kept_take m.clock m.flushed m.records.items st.begun st.near)
 
 pub image_accepted : (m : Machine) → IsSound m → IsWellFormed m.layout m.durable.items
 image_accepted m sound =

@@ -65,6 +65,7 @@ module _ (s : Shape) (clock : ℕ) (current durable : List ℕ) (rs : List Held)
         loads = ap (λ (xs : List ℕ). overwritten (1 + 8 * length rs) xs (words_of_record r)) st.loads ∙ memory_push s clock rs r eights (eight_of_pair r next.pair) (omega arith);
         outlives = st.outlives ∙ ap (memory s clock) (sym (take-append-le flushed rs (r ∷ []) within));
         within = omega arith;
+        old = subst (AllByRecursion (λ (q : Held). q.label.epoch < clock)) (sym (take-append-le flushed rs (r ∷ []) within)) st.old;
         near = subst (AllByRecursion (λ (q : Held). clock ≤ q.label.epoch + 1)) (sym (drop-append-le flushed rs (r ∷ []) within)) (each_push (λ (q : Held). clock ≤ q.label.epoch + 1) (drop flushed rs) r st.near (omega arith));
         finds = λ k. finds k ∙ ap (λ (o : Option Held). if k == key then Some r else o) (st.finds k) ∙ sym (latest_push k rs r);
         few = omega arith;
@@ -117,8 +118,8 @@ tail_of_drop P (r ∷ rs) zero low all = all.1
 tail_of_drop P (r ∷ rs) (suc n) low all = let e : suc n + 1 ≡ suc (n + 1) = omega arith in subst (λ (k : ℕ). AllByRecursion P (drop k (r ∷ rs))) (sym e) (tail_of_drop P rs n (omega arith) all)
 
 module _ (s : Shape) (clock : ℕ) (current durable : List ℕ) (rs : List Held) (flushed : ℕ) (find : Find) (keys : ℕ) (st : Store s clock current durable rs flushed find keys) where
-  pub persist_as : (durable' part : List ℕ) → flushed < length rs → part ≡ take 8 (drop (1 + 8 * flushed) current) → durable' ≡ overwritten (1 + 8 * flushed) durable part → Store s clock current durable' rs (flushed + 1) find keys
-  persist_as durable' part low is written =
+  pub persist_as : (durable' part : List ℕ) → flushed < length rs → ((q : Held) → slice_get rs flushed ≡ Some q → q.label.epoch < clock) → part ≡ take 8 (drop (1 + 8 * flushed) current) → durable' ≡ overwritten (1 + 8 * flushed) durable part → Store s clock current durable' rs (flushed + 1) find keys
+  persist_as durable' part low due is written =
       let r = item_at rs flushed low in
       let h = st.holds in
       let eights = eights_of_log rs h.log in
@@ -144,6 +145,7 @@ module _ (s : Shape) (clock : ℕ) (current durable : List ℕ) (rs : List Held)
             ∙ memory_push s clock front r.0 (each_take Eight rs flushed eights) eight (omega arith)
             ∙ ap (memory s clock) more;
         within = omega arith;
+        old = subst (AllByRecursion (λ (q : Held). q.label.epoch < clock)) more (each_push (λ (q : Held). q.label.epoch < clock) front r.0 st.old (due r.0 r.1));
         near = tail_of_drop (λ (q : Held). clock ≤ q.label.epoch + 1) rs flushed low st.near;
         finds = st.finds;
         few = st.few;
@@ -176,12 +178,17 @@ module _ (s : Shape) (clock : ℕ) (current durable : List ℕ) (rs : List Held)
         loads = moved ∙ ap (λ (xs : List ℕ). set xs 0 (clock + 1)) st.loads;
         outlives = kept ∙ ap (λ (xs : List ℕ). set xs 0 (clock + 1)) st.outlives;
         within = st.within;
+        old = older (take flushed rs) st.old;
         near = nearer (drop flushed rs) near;
         finds = st.finds;
         few = st.few;
         counted = raise_count keys keys (length rs) (length rs) clock (clock + 1) (omega arith) (omega arith) (omega arith) rs st.counted;
       }
     where
+      older : (qs : List Held) → AllByRecursion (λ (r : Held). r.label.epoch < clock) qs → AllByRecursion (λ (r : Held). r.label.epoch < clock + 1) qs
+      older [] all = tt
+      older (q ∷ qs) all = (let low = all.0 in omega arith, older qs all.1)
+
       nearer : (qs : List Held) → AllByRecursion (λ (r : Held). clock ≤ r.label.epoch) qs → AllByRecursion (λ (r : Held). clock + 1 ≤ r.label.epoch + 1) qs
       nearer [] all = tt
       nearer (q ∷ qs) all = (let low = all.0 in omega arith, nearer qs all.1)

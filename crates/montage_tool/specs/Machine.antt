@@ -1,5 +1,5 @@
 -- What is always true of the machine that runs a job's lines.
-use Rattle.std.specs.Prelude.{◌≡◌, ℕ, ◌+◌, ◌≤◌, List, [], ◌∷◌, ◌++◌, length, take, drop, map, All, slice_get, Option, Some, if◌then◌else◌}
+use Rattle.std.specs.Prelude.{◌≡◌, ℕ, ◌+◌, ◌<◌, ◌≤◌, List, [], ◌∷◌, ◌++◌, length, take, drop, map, All, slice_get, Option, Some, if◌then◌else◌}
 use Rattle.std.specs.List.{AllByRecursion}
 use Rattle.std.specs.Ordering.{nat_cmp}
 use Rattle.std.specs.BTreeMap.{get, btree_map_len}
@@ -38,6 +38,8 @@ pub record Store (s : Shape) (clock : ℕ) (current durable : List ℕ) (rs : Li
   pub loads : current ≡ memory s clock rs
   pub outlives : durable ≡ memory s clock (take flushed rs)
   pub within : flushed ≤ length rs
+  -- what is durable is of an earlier epoch
+  pub old : AllByRecursion (λ (r : Held). r.label.epoch < clock) (take flushed rs)
   -- what isn't durable is of this epoch or of the one before it
   pub near : AllByRecursion (λ (r : Held). clock ≤ r.label.epoch + 1) (drop flushed rs)
   pub finds : (key : ℕ) → find key ≡ latest key rs
@@ -51,9 +53,14 @@ IsStore m = Store m.layout m.clock m.current.items m.durable.items m.records.ite
 abbrev pub AreCalls : List Entry → Type 0
 AreCalls h = (i : ℕ) (e : Entry) → slice_get h i ≡ Some e → (e.caller ≡ 0) × (e.call ≡ i)
 
--- The history, and that its puts are the records.
+-- the next record is of an earlier epoch
+abbrev pub IsDue : Machine → Type 0
+IsDue m = (r : Held) → slice_get m.records.items m.flushed ≡ Some r → r.label.epoch < m.clock
+
+-- The history, and that its puts are the records, of which none of the last two epochs is durable.
 pub record IsSound (m : Machine) : Type 0 where
   pub store : IsStore m
+  pub settled : AllByRecursion (λ (r : Held). r.label.epoch + 2 ≤ m.clock) (take m.flushed m.records.items)
   pub puts : map put_of_record m.records.items ≡ puts_of m.history.items
   pub legal : IsLegal m.layout 0 (MapOf finite.empty) 2 m.history.items
   pub past : All (λ (e : Entry). e.epoch ≤ m.clock) m.history.items
@@ -63,6 +70,7 @@ pub record IsSound (m : Machine) : Type 0 where
 pub record PutsPair (old new : Machine) (key value : ℕ) : Type 0 where
   pub layout : new.layout ≡ old.layout
   pub clock : new.clock ≡ old.clock
+  pub flushed : new.flushed ≡ old.flushed
   pub history : new.history.items ≡ old.history.items
   pub records : new.records.items ≡ old.records.items ++ next_record old.clock (btree_map_len old.newest) old.records.items key value ∷ []
 
@@ -80,6 +88,7 @@ pub record Calls (old new : Machine) (op : Op) : Type 0 where
 pub record Enters (old new : Machine) (op : Op) (reply : Reply) : Type 0 where
   pub layout : new.layout ≡ old.layout
   pub clock : new.clock ≡ old.clock
+  pub flushed : new.flushed ≡ old.flushed
   pub records : new.records.items ≡ old.records.items
   pub history : new.history.items ≡ old.history.items ++ record { caller = 0; call = length old.history.items; op = op; reply = reply; epoch = old.clock } ∷ []
 

@@ -1,6 +1,5 @@
 -- What a run of a job's lines leaves.
-use Rattle.std.specs.Prelude.{◌≡◌, ℕ, ◌+◌, ◌≤◌, ◌<◌, List, [], ◌∷◌, ◌++◌, length, take, drop, map, All, count_by, slice_get, Some, if◌then◌else◌}
-use Rattle.std.specs.List.{AllByRecursion}
+use Rattle.std.specs.Prelude.{◌≡◌, ℕ, ◌+◌, ◌-◌, ◌≤◌, ◌<◌, List, [], ◌∷◌, ◌++◌, length, map, All, count_by, slice_get, Some, if◌then◌else◌}
 use Rattle.mont_base.specs.declared.operation.Entry.{Entry}
 use Rattle.mont_base.specs.declared.record.Held.{Held}
 use Rattle.mont_base.specs.declared.job.Job.{Job}
@@ -12,7 +11,7 @@ use Rattle.mont_base.specs.Layout.{Shape}
 use Rattle.mont_base.specs.State.{State}
 use Rattle.mont_base.specs.Image.{clock_of, IsWellFormed, IsRecovered}
 use Rattle.montage_tool.specs.declared.machine.Machine.{Machine}
-use Rattle.montage_tool.specs.Log.{memory, puts_of, put_of_record}
+use Rattle.montage_tool.specs.Log.{kept_at, memory, puts_of, put_of_record}
 use Rattle.montage_tool.specs.Machine.{Holds}
 use Rattle.mont_base.specs.Report.{Report, AnswersLines, IsFaithful, empty_states, is_at, names}
 
@@ -49,15 +48,13 @@ pub record LineDone (old new : Machine) (l : Line) (o : Outcome) : Type 0 where
   pub records : length new.records.items ≡ length old.records.items + (if is_put l then 1 else 0)
   pub played : (lines : List Line) (os : List Outcome) → Played old.layout old.history.items old.clock lines os → Played new.layout new.history.items new.clock (lines ++ l ∷ []) (os ++ o ∷ [])
 
--- The durable words after the operations of the map: the clock, and a slot for each put in turn, with a record of
--- its epoch, key and value. The records that aren't durable yet are the last ones, of the last two epochs.
+-- The durable words after the operations of the map. Each put has a record of its epoch, key and value in the next
+-- slot. Durable are the clock and the records of all epochs but the last two; the other words are 0.
 pub record AreDurable (s : Shape) (clock : ℕ) (h : List Entry) (words : List ℕ) : Type 0 where
   pub records : List Held
   pub holds : Holds s records
   pub puts : map put_of_record records ≡ puts_of h
-  pub flushed : ℕ
-  pub words_are : words ≡ memory s clock (take flushed records)
-  pub recent : AllByRecursion (λ (r : Held). clock ≤ r.label.epoch + 1) (drop flushed records)
+  pub words_are : words ≡ memory s clock (kept_at (clock - 2) records)
 
 -- A report of a run of the job on a fresh store: it is faithful, and its contents are what recovery rebuilds from
 -- the durable words.

@@ -35,7 +35,7 @@ pub(crate) struct Machine {
 }
 
 impl Machine {
-    ghost use Rattle.montage_tool.specs.Machine.{IsStore, IsSound, PutsPair, Enters, Calls, Persists, IsFlushed, Ticks};
+    ghost use Rattle.montage_tool.specs.Machine.{IsStore, IsSound, PutsPair, Enters, Calls, Persists, IsDue, IsFlushed, Ticks};
 
     /// A store whose slots are all closed.
     pub fn new(alloc: Global, layout: Layout) -> Result<Machine, AllocError>
@@ -190,6 +190,7 @@ impl Machine {
     fn is_due(&self) -> bool
         requires { IsStore self.now }
         ensures next { result ≡ true → self.now.flushed < length self.now.records.items }
+        ensures due { result ≡ true → IsDue self.now }
         ensures flushed { result ≡ false → IsFlushed self.now }
     {
         match self.records.get(self.flushed) {
@@ -202,6 +203,7 @@ impl Machine {
     fn persist(&mut self)
         requires store { IsStore self.old }
         requires there { self.old.flushed < length self.old.records.items }
+        requires due { IsDue self.old }
         ensures store { IsStore self.new }
         ensures persists { Persists self.old self.new }
         ensures one { self.new.flushed ≡ self.old.flushed + 1 }

@@ -25,5 +25,5 @@ returns-clause-store c =
     let long : length part ≡ 8 = ap length copied ∙ length-take-le 8 (drop at m.current.items) (omega (arith, length-drop at m.current.items)) in
     persist_as m.layout m.clock m.current.items m.durable.items m.records.items m.flushed find keys st
     (take m.durable.len (put_mid at (at + 8 - at) c.deref_mut.result.now part ++ drop (length (put_mid at (at + 8 - at) c.deref_mut.result.now part)) m.durable.items))
-    part there copied
+    part there c.requires.due copied
     (written_words m.durable.items c.deref_mut.result.now part at (at + 8 - at) m.durable.len c.deref_mut.ensures.value eight long into m.durable.ok.0)
