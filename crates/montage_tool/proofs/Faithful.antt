@@ -18,11 +18,12 @@ use Rattle.mont_base.specs.JobText.{IsJob, IsLine}
 use Rattle.mont_base.specs.Report.{Report, IsEntryAt, Answers, InOrder, AnswersLines, IsFaithful, empty_states, lines_of, names}
 use Rattle.montage_tool.specs.declared.machine.Machine.{Machine}
 use Rattle.montage_tool.specs.Machine.{IsSound}
-use Rattle.montage_tool.specs.Run.{made, Played, AreDurable, IsRun}
+use Rattle.montage_tool.specs.Run.{made, Played, AreLeft, Gives, IsRun}
 use Rattle.montage_tool.proofs.WellFormed.{with_map}
 use Rattle.montage_tool.proofs.Played.{entry_of}
-use Rattle.montage_tool.proofs.Recovery.{durable_words, image_accepted, image_clock, image_states, same_recovered, cut_state}
-use Rattle.mont_base.specs.Image.{IsRecovered, IsWellFormed}
+use Rattle.montage_tool.proofs.Crash.{SameCut, same_accepted, same_states}
+use Rattle.montage_tool.proofs.Recovery.{durable_words, durable_permitted, image_cut, image_accepted, image_clock, image_states, same_recovered, cut_state}
+use Rattle.mont_base.specs.Image.{IsPermitted, IsRecovered}
 
 -- what outcomes and contents a report has is no part of how an outcome answers
 answer_in : (s : Shape) (h : List Entry) (os : List Outcome) (clock : ℕ) (cs : List State) (before : List Outcome) (deed : Deed) (o : Outcome) → Answers (made s h [] clock []) 0 before deed o → Answers (made s h os clock cs) 0 before deed o
@@ -123,25 +124,36 @@ module _ (j : Job) (m : Machine) (os : List Outcome) (is_job : IsJob j) (sound :
     cut = λ unit state h at there. cut unit state h (ap (λ (ss : List State). slice_get ss unit) (sym (empty_with_map m.layout one)) ∙ at) there;
   })
 
-  durable : (h : List Entry) → slice_get (m.history.items ∷ [] ∷ [] ∷ []) 0 ≡ Some h → AreDurable j.layout m.clock h m.durable.items
-  durable h there =
-      let st = sound.store in
-      subst (λ (s : Shape). AreDurable s m.clock h m.durable.items) layout
-      (subst (λ (g : List Entry). AreDurable m.layout m.clock g m.durable.items) (same_Some m.history.items h there) (record {
+  left : (h : List Entry) → slice_get (m.history.items ∷ [] ∷ [] ∷ []) 0 ≡ Some h → AreLeft j.layout m.clock h m.current.items m.durable.items
+  left h there =
+      subst (λ (s : Shape). AreLeft s m.clock h m.current.items m.durable.items) layout
+      (subst (λ (g : List Entry). AreLeft m.layout m.clock g m.current.items m.durable.items) (same_Some m.history.items h there) (record {
         records = m.records.items;
-        holds = st.holds;
+        holds = sound.store.holds;
         puts = sound.puts;
-        words_are = durable_words m sound;
+        loads = sound.store.loads;
+        outlives = durable_words m sound;
       }))
 
-  pub is_run : IsRecovered m.layout m.durable.items (with_map (cut_state m)) → IsRun j report_made
-  is_run states = record {
+  gives : (image : List ℕ) → IsPermitted m.current.items m.durable.items image → Gives j.layout m.clock (with_map (cut_state m)) image
+  gives image permitted =
+      subst (λ (s : Shape). Gives s m.clock (with_map (cut_state m)) image) layout (record {
+        accepted = same_accepted m.layout m.durable.items image cut_same (image_accepted m sound);
+        clock_is = cut_same.clock ∙ image_clock m sound;
+        rebuilt = same_states m.layout m.durable.items image cut_same (with_map (cut_state m)) (image_states m sound);
+      })
+    where
+      cut_same : SameCut m.durable.items image
+      cut_same = image_cut m sound image permitted
+
+  pub is_run : IsRun j report_made
+  is_run = record {
     faithful = faithful;
-    words = m.durable.items;
-    durable = durable;
-    accepted = subst (λ (s : Shape). IsWellFormed s m.durable.items) layout (image_accepted m sound);
-    clock = image_clock m sound;
-    contents = subst (λ (s : Shape). IsRecovered s m.durable.items (with_map (cut_state m))) layout states;
+    current = m.current.items;
+    durable = m.durable.items;
+    left = left;
+    permitted = durable_permitted m sound;
+    images = gives;
   }
 
   -- the same for the report as it is put together
@@ -164,4 +176,4 @@ module _ (j : Job) (m : Machine) (os : List Outcome) (is_job : IsJob j) (sound :
       ∙ ap (λ (hs : List (List Entry)). record { layout = m.layout; callers = 1; base_clock = 2; base = empty_states m.layout; histories = hs; outcomes = outcomes; image_clock = m.clock; contents = contents }) whole
       ∙ ap (λ (qs : List (List Outcome)). record { layout = m.layout; callers = 1; base_clock = 2; base = empty_states m.layout; histories = m.history.items ∷ [] ∷ [] ∷ []; outcomes = qs; image_clock = m.clock; contents = contents }) answered
       ∙ ap (λ (ss : List State). record { layout = m.layout; callers = 1; base_clock = 2; base = empty_states m.layout; histories = m.history.items ∷ [] ∷ [] ∷ []; outcomes = os ∷ []; image_clock = m.clock; contents = ss }) same
-      )) (is_run states)
+      )) is_run

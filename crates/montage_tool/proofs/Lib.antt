@@ -10,5 +10,6 @@ pub mod Sound
 pub mod Calls
 pub mod Played
 pub mod Lines
+pub mod Crash
 pub mod Recovery
 pub mod Faithful

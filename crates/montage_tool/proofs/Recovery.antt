@@ -1,5 +1,5 @@
 -- What outlives a crash is an image that recovery accepts, and holds the history cut two epochs before the clock.
-use Rattle.std.proofs.Common.{◌≡◌, ℕ, zero, suc, ◌+◌, ◌-◌, ◌≤◌, List, [], ◌∷◌, ◌++◌, length, take, drop, sym, refl, ap, ◌∙◌, subst, arith, append-nil, Bool, true, false}
+use Rattle.std.proofs.Common.{◌≡◌, ℕ, zero, suc, inr, ◌+◌, ◌-◌, ◌≤◌, List, [], ◌∷◌, ◌++◌, length, take, drop, sym, refl, ap, ◌∙◌, subst, arith, append-nil, Bool, true, false}
 use Rattle.std.specs.Prelude.{Some, slice_get, nat_le, if◌then◌else◌}
 use Rattle.std.specs.List.{AllByRecursion}
 use Rattle.std.specs.FinMap as finite
@@ -10,13 +10,14 @@ use Rattle.mont_base.specs.declared.record.Held.{Held}
 use Rattle.mont_base.specs.Layout.{Shape}
 use Rattle.mont_base.specs.State.{State, MapOf}
 use Rattle.mont_base.specs.Objects.{live_objects, IsStructure}
-use Rattle.mont_base.specs.Image.{clock_of, records_of, IsWellFormed, IsRecovered}
+use Rattle.mont_base.specs.Image.{IsPermitted, clock_of, records_of, IsWellFormed, IsRecovered}
 use Rattle.mont_base.specs.History.{state_after, cut_at}
 use Rattle.montage_tool.specs.Log.{StandFrom, kept_at, memory}
 use Rattle.montage_tool.specs.declared.machine.Machine.{Machine}
 use Rattle.montage_tool.specs.Machine.{Holds, IsSound}
 use Rattle.montage_tool.proofs.Cut.{structure_of_cut}
 use Rattle.montage_tool.proofs.Latest.{log_take}
+use Rattle.montage_tool.proofs.Crash.{SameCut, as_long, permitted_cut}
 use Rattle.montage_tool.proofs.WellFormed.{with_map, well_formed, recovered, same_structure}
 
 stand_take : (m n : ℕ) (qs : List Held) → StandFrom m qs → StandFrom m (take n qs)
@@ -80,6 +81,24 @@ image_states m sound =
 
 pub image_clock : (m : Machine) → IsSound m → clock_of m.durable.items ≡ m.clock
 image_clock m sound = ap clock_of sound.store.outlives
+
+-- the durable words are an image that a crash permits
+pub durable_permitted : (m : Machine) → IsSound m → IsPermitted m.current.items m.durable.items m.durable.items
+durable_permitted m sound = record {
+  as_long =
+      let st = sound.store in
+      ap length st.outlives ∙ as_long m.layout m.clock m.records.items m.flushed st.holds st.within ∙ sym (ap length st.loads);
+  each = λ w low. inr refl;
+}
+
+-- an image that a crash permits has the same slots within the cut
+pub image_cut : (m : Machine) → IsSound m → (image : List ℕ) → IsPermitted m.current.items m.durable.items image → SameCut m.durable.items image
+image_cut m sound image permitted =
+    let st = sound.store in
+    subst (λ (durable : List ℕ). SameCut durable image) (sym st.outlives)
+    (permitted_cut m.layout m.clock m.records.items m.flushed st.holds st.begun st.within st.near image
+    (subst (λ (current : List ℕ). IsPermitted current (memory m.layout m.clock (take m.flushed m.records.items)) image) st.loads
+    (subst (λ (durable : List ℕ). IsPermitted m.current.items durable image) st.outlives permitted)))
 
 lists_same : {A : Type 0} (xs ys : List A) → length xs ≡ length ys → ((i : ℕ) (x y : A) → slice_get xs i ≡ Some x → slice_get ys i ≡ Some y → x ≡ y) → xs ≡ ys
 lists_same [] [] long each = refl

@@ -9,7 +9,7 @@ use Rattle.mont_base.specs.declared.job.Outcome.TheVariants.{At, Ticked}
 use Rattle.mont_base.specs.JobText.{is_put}
 use Rattle.mont_base.specs.Layout.{Shape}
 use Rattle.mont_base.specs.State.{State}
-use Rattle.mont_base.specs.Image.{clock_of, IsWellFormed, IsRecovered}
+use Rattle.mont_base.specs.Image.{IsPermitted, clock_of, IsWellFormed, IsRecovered}
 use Rattle.montage_tool.specs.declared.machine.Machine.{Machine}
 use Rattle.montage_tool.specs.Log.{kept_at, memory, puts_of, put_of_record}
 use Rattle.montage_tool.specs.Machine.{Holds}
@@ -48,20 +48,28 @@ pub record LineDone (old new : Machine) (l : Line) (o : Outcome) : Type 0 where
   pub records : length new.records.items ≡ length old.records.items + (if is_put l then 1 else 0)
   pub played : (lines : List Line) (os : List Outcome) → Played old.layout old.history.items old.clock lines os → Played new.layout new.history.items new.clock (lines ++ l ∷ []) (os ++ o ∷ [])
 
--- The durable words after the operations of the map. Each put has a record of its epoch, key and value in the next
--- slot. Durable are the clock and the records of all epochs but the last two; the other words are 0.
-pub record AreDurable (s : Shape) (clock : ℕ) (h : List Entry) (words : List ℕ) : Type 0 where
+-- The words after the operations of the map. Each put has a record of its epoch, key and value in the next slot. A
+-- load finds the clock and all records. Durable are the clock and the records of all epochs but the last two. The
+-- other words are 0.
+pub record AreLeft (s : Shape) (clock : ℕ) (h : List Entry) (current durable : List ℕ) : Type 0 where
   pub records : List Held
   pub holds : Holds s records
   pub puts : map put_of_record records ≡ puts_of h
-  pub words_are : words ≡ memory s clock (kept_at (clock - 2) records)
+  pub loads : current ≡ memory s clock records
+  pub outlives : durable ≡ memory s clock (kept_at (clock - 2) records)
+
+-- recovery accepts an image, which has this clock, and rebuilds these states from it
+pub record Gives (s : Shape) (clock : ℕ) (states : List State) (image : List ℕ) : Type 0 where
+  pub accepted : IsWellFormed s image
+  pub clock_is : clock_of image ≡ clock
+  pub rebuilt : IsRecovered s image states
 
 -- A report of a run of the job on a fresh store: it is faithful, and its contents are what recovery rebuilds from
--- the durable words.
+-- each image that a crash permits at the end, of which the durable words are one.
 pub record IsRun (j : Job) (r : Report) : Type 0 where
   pub faithful : IsFaithful j 2 (empty_states j.layout) r
-  pub words : List ℕ
-  pub durable : (h : List Entry) → slice_get r.histories 0 ≡ Some h → AreDurable j.layout r.image_clock h words
-  pub accepted : IsWellFormed j.layout words
-  pub clock : clock_of words ≡ r.image_clock
-  pub contents : IsRecovered j.layout words r.contents
+  pub current : List ℕ
+  pub durable : List ℕ
+  pub left : (h : List Entry) → slice_get r.histories 0 ≡ Some h → AreLeft j.layout r.image_clock h current durable
+  pub permitted : IsPermitted current durable durable
+  pub images : (image : List ℕ) → IsPermitted current durable image → Gives j.layout r.image_clock r.contents image

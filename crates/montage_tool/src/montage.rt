@@ -25,7 +25,7 @@ use std::alloc::{AllocError, Global};
 /// Does what the words of the command line ask, over the devices that are handed in.
 ///
 /// `run` reads a job, runs it on a fresh store and writes the report, which is faithful to the job: what
-/// recovery finds in the words that outlive a crash at the end is what the operations of all epochs but the
+/// recovery finds in any image that a crash at the end permits is what the operations of all epochs but the
 /// last two lead to (buffered durable linearizability, DISC 2016). Nothing is written before the run has ended.
 /// The image devices aren't asked.
 pub fn montage<R: AllocGlobal, J: Source, I: Source, O: Sink, K: Sink>(
