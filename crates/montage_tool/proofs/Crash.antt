@@ -2,7 +2,7 @@
 use Rattle.std.proofs.Common.{◌≡◌, ℕ, zero, suc, ◌+◌, ◌-◌, ◌<◌, ◌≤◌, ◌⊎◌, List, [], ◌∷◌, length, take, drop, sym, refl, ap, ◌∙◌, subst, inl, ⊎_elim, arith, Bool, true, false}
 use Rattle.std.specs.Prelude.{Option, Some, None, AllPairs, slice_get, slice_index, nat_le, ◌&&◌, if◌then◌else◌}
 use Rattle.std.specs.List.{AllByRecursion, filter_map, cons_option}
-use Rattle.std.proofs.lemmas.Bool.{and_right}
+use Rattle.std.proofs.lemmas.Bool.{and_right, both_ways}
 use Rattle.std.proofs.lemmas.Bool.Decides.{nat_tests}
 use Rattle.std.proofs.lemmas.List.{length-take-le}
 use Rattle.std.proofs.lemmas.Option.{same_Some}
@@ -177,9 +177,6 @@ module _ (s : Shape) (clock : ℕ) (rs : List Held) (flushed : ℕ) (holds : Hol
     words = λ slot inside.
         ⊎_elim
         (λ (low : slot < flushed). durable_slot slot low)
-        (λ (past : flushed ≤ slot). let none : Within clock (epoch_at (memory s clock (take flushed rs)) slot) ≡ false = ap (Within clock) (closed slot past) in absurd (both_ways_here (sym none ∙ inside)))
+        (λ (past : flushed ≤ slot). absurd (both_ways (Within clock (epoch_at (memory s clock (take flushed rs)) slot)) (ap (Within clock) (closed slot past)) inside))
         (below_or_past slot flushed);
   }
-    where
-      both_ways_here : false ≡ true → ⊥
-      both_ways_here e = cc
