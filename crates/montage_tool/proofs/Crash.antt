@@ -1,11 +1,10 @@
 -- Each image that a crash permits has the records of the durable words within the cut.
 use Rattle.std.proofs.Common.{◌≡◌, ℕ, zero, suc, ◌+◌, ◌-◌, ◌<◌, ◌≤◌, ◌⊎◌, List, [], ◌∷◌, length, take, drop, sym, refl, ap, ◌∙◌, subst, inl, ⊎_elim, arith, Bool, true, false}
-use Rattle.std.specs.Prelude.{Option, Some, None, AllPairs, slice_get, slice_index, nat_le, ◌&&◌, if◌then◌else◌}
+use Rattle.std.specs.Prelude.{Option, None, AllPairs, slice_get, slice_index, nat_le, ◌&&◌, if◌then◌else◌}
 use Rattle.std.specs.List.{AllByRecursion, filter_map, cons_option}
-use Rattle.std.proofs.lemmas.Bool.{and_right, both_ways}
+use Rattle.std.proofs.lemmas.Bool.{and_right, both_ways, cases_lt}
 use Rattle.std.proofs.lemmas.Bool.Decides.{nat_tests}
-use Rattle.std.proofs.lemmas.List.{length-take-le}
-use Rattle.std.proofs.lemmas.Option.{same_Some}
+use Rattle.std.proofs.lemmas.List.{get_or_past, length-take-le}
 use Rattle.mont_base.specs.declared.constants.TheConstants.{LAST}
 use Rattle.mont_base.specs.declared.record.Held.{Held}
 use Rattle.mont_base.specs.Layout.{Shape, unit_of_slot, word_of}
@@ -16,7 +15,7 @@ use Rattle.mont_base.specs.Image.{IsPermitted, clock_of, words_at, epoch_at, is_
 use Rattle.montage_tool.specs.Log.{memory}
 use Rattle.montage_tool.specs.Machine.{Holds}
 use Rattle.montage_tool.proofs.Memory.{eights_of_log, length-memory, words_at-memory, epoch_at-words, epoch_at-memory, epoch_at-closed}
-use Rattle.montage_tool.proofs.Latest.{log_take}
+use Rattle.montage_tool.proofs.Latest.{each_behind, log_take}
 use Rattle.montage_tool.proofs.WellFormed.{item_at}
 
 -- another image of the same clock, whose slots within the cut are the same
@@ -60,14 +59,6 @@ module _ (s : Shape) (a b : List ℕ) (same : SameCut a b) where
   pub same_states : (states : List State) → IsRecovered s a states → IsRecovered s b states
   same_states states r = (r.0, λ unit state at. subst (λ (rs : List Held). IsStructure s unit (live_objects rs) state) (sym (same_records unit)) (r.1 unit state at))
 
-beyond : (xs : List ℕ) (w : ℕ) → length xs ≤ w → slice_index xs w ≡ 0
-beyond [] w past = refl
-beyond (x ∷ xs) zero past = absurd (omega arith)
-beyond (x ∷ xs) (suc w) past = beyond xs w (omega arith)
-
-below_or_past : (m n : ℕ) → (m < n) ⊎ (n ≤ m)
-below_or_past m n = grind arith
-
 -- each word is one of two
 abbrev Either : List ℕ → List ℕ → List ℕ → Type 0
 Either a b c = (w : ℕ) → (slice_index c w ≡ slice_index a w) ⊎ (slice_index c w ≡ slice_index b w)
@@ -97,13 +88,6 @@ get_take [] (suc n) i low = refl
 get_take (q ∷ qs) (suc n) zero low = refl
 get_take (q ∷ qs) (suc n) (suc i) low = get_take qs n i (omega arith)
 
-each_behind : (P : Held → Type 0) (qs : List Held) (n i : ℕ) (q : Held) → AllByRecursion P (drop n qs) → n ≤ i → slice_get qs i ≡ Some q → P q
-each_behind P [] n i q all low at = absurd (cc)
-each_behind P (p ∷ qs) zero zero q all low at = subst P (same_Some p q at) all.0
-each_behind P (p ∷ qs) zero (suc i) q all low at = each_behind P qs zero i q all.1 (omega arith) at
-each_behind P (p ∷ qs) (suc n) zero q all low at = absurd (omega arith)
-each_behind P (p ∷ qs) (suc n) (suc i) q all low at = each_behind P qs n i q all (omega arith) at
-
 -- whether an epoch is within the cut of a clock
 abbrev Within : ℕ → ℕ → Bool
 Within clock epoch = nat_le 1 epoch && nat_le epoch (clock - 2)
@@ -123,8 +107,8 @@ module _ (s : Shape) (clock : ℕ) (rs : List Held) (flushed : ℕ) (holds : Hol
   each w =
       ⊎_elim
       (λ (low : w < length image). permitted.each w low)
-      (λ (past : length image ≤ w). inl (beyond image w past ∙ sym (beyond (memory s clock rs) w (let e = permitted.as_long in omega arith))))
-      (below_or_past w (length image))
+      (λ (past : length image ≤ w). inl (get_or_past image w 0 past ∙ sym (get_or_past (memory s clock rs) w 0 (let e = permitted.as_long in omega arith))))
+      (cases_lt w (length image))
 
   of_clock : clock_of image ≡ clock
   of_clock = ⊎_elim (λ (e : clock_of image ≡ clock). e) (λ (e : clock_of image ≡ clock). e) (each 0)
@@ -151,7 +135,7 @@ module _ (s : Shape) (clock : ℕ) (rs : List Held) (flushed : ℕ) (holds : Hol
       ap (Within clock) (epoch_at-memory s clock rs slot r.0 (eights_of_log rs holds.log) r.1)
       ∙ outside clock r.0.label.epoch begun (each_behind (λ (q : Held). clock ≤ q.label.epoch + 1) rs flushed slot r.0 near past r.1))
       (λ (beside : length rs ≤ slot). ap (Within clock) (epoch_at-closed s clock rs slot (eights_of_log rs holds.log) beside))
-      (below_or_past slot (length rs))
+      (cases_lt slot (length rs))
 
   same_within : (slot : ℕ) → is_within image slot ≡ is_within (memory s clock (take flushed rs)) slot
   same_within slot =
@@ -167,7 +151,7 @@ module _ (s : Shape) (clock : ℕ) (rs : List Held) (flushed : ℕ) (holds : Hol
       (λ (e : epoch_at image slot ≡ epoch_at (memory s clock (take flushed rs)) slot). ap (Within clock) e ∙ none)
       (each (word_of slot 0))
       ∙ sym none)
-      (below_or_past slot flushed)
+      (cases_lt slot flushed)
 
   pub permitted_cut : SameCut (memory s clock (take flushed rs)) image
   permitted_cut = record {
@@ -178,5 +162,5 @@ module _ (s : Shape) (clock : ℕ) (rs : List Held) (flushed : ℕ) (holds : Hol
         ⊎_elim
         (λ (low : slot < flushed). durable_slot slot low)
         (λ (past : flushed ≤ slot). absurd (both_ways (Within clock (epoch_at (memory s clock (take flushed rs)) slot)) (ap (Within clock) (closed slot past)) inside))
-        (below_or_past slot flushed);
+        (cases_lt slot flushed);
   }

@@ -1,6 +1,6 @@
 -- The latest record of a key, and the record that comes next.
-use Rattle.std.proofs.Common.{◌≡◌, ℕ, zero, suc, ◌+◌, ◌≤◌, List, [], ◌∷◌, ◌++◌, length, take, sym, refl, ap, ◌∙◌, subst, arith, Bool, true, false}
-use Rattle.std.specs.Prelude.{Option, Some, None, is_some, ◌==◌, if◌then◌else◌}
+use Rattle.std.proofs.Common.{◌≡◌, ℕ, zero, suc, ◌+◌, ◌≤◌, List, [], ◌∷◌, ◌++◌, length, take, drop, sym, refl, ap, ◌∙◌, subst, arith, Bool, true, false}
+use Rattle.std.specs.Prelude.{Option, Some, None, is_some, slice_get, ◌==◌, if◌then◌else◌}
 use Rattle.std.specs.List.{AllByRecursion}
 use Rattle.std.specs.Ordering.{nat_cmp}
 use Rattle.std.specs.FinMap as finite
@@ -199,16 +199,24 @@ pub each_push : (P : Held → Type 0) (rs : List Held) (r : Held) → AllByRecur
 each_push P [] r all here = (here, tt)
 each_push P (q ∷ rs) r all here = (all.0, each_push P rs r all.1 here)
 
-follows_take : (r : Held) (n : ℕ) (qs : List Held) → AllByRecursion (Follows r) qs → AllByRecursion (Follows r) (take n qs)
-follows_take r zero qs all = tt
-follows_take r (suc n) [] all = tt
-follows_take r (suc n) (q ∷ qs) all = (all.0, follows_take r n qs all.1)
+-- what holds of each record holds of each of the first ones, and of one that stands behind some
+pub each_take : (P : Held → Type 0) (n : ℕ) (qs : List Held) → AllByRecursion P qs → AllByRecursion P (take n qs)
+each_take P zero qs all = tt
+each_take P (suc n) [] all = tt
+each_take P (suc n) (q ∷ qs) all = (all.0, each_take P n qs all.1)
+
+pub each_behind : (P : Held → Type 0) (qs : List Held) (n i : ℕ) (q : Held) → AllByRecursion P (drop n qs) → n ≤ i → slice_get qs i ≡ Some q → P q
+each_behind P [] n i q all low at = absurd (cc)
+each_behind P (p ∷ qs) zero zero q all low at = subst P (same_Some p q at) all.0
+each_behind P (p ∷ qs) zero (suc i) q all low at = each_behind P qs zero i q all.1 (omega arith) at
+each_behind P (p ∷ qs) (suc n) zero q all low at = absurd (omega arith)
+each_behind P (p ∷ qs) (suc n) (suc i) q all low at = each_behind P qs n i q all (omega arith) at
 
 -- the first records of a log are a log
 pub log_take : (n : ℕ) (qs : List Held) → IsLog qs → IsLog (take n qs)
 log_take zero qs log = tt
 log_take (suc n) [] log = tt
-log_take (suc n) (q ∷ qs) log = (log.0, follows_take q n qs log.1, log_take n qs log.2)
+log_take (suc n) (q ∷ qs) log = (log.0, each_take (Follows q) n qs log.1, log_take n qs log.2)
 
 pub log_push : (rs : List Held) (r : Held) → IsLog rs → IsPair r → AllByRecursion (λ (q : Held). Follows q r) rs → IsLog (rs ++ r ∷ [])
 log_push [] r log pair follows = (pair, tt, tt)

@@ -17,7 +17,7 @@ use Rattle.montage_tool.specs.Log.{Follows, IsLog, latest, memory, words_of_reco
 use Rattle.montage_tool.specs.Machine.{Holds, Counted, Store}
 use Rattle.montage_tool.proofs.Memory.{Eight, eight_of_pair, eights_of_log, length-memory, memory_push, words_at-memory}
 use Rattle.montage_tool.proofs.WellFormed.{item_at}
-use Rattle.montage_tool.proofs.Latest.{IsNext, latest_among, next_is, follow_next, pairs_in_log, epoch_of_next, each_push, log_push, log_take, stand_push, latest_push, raise_count}
+use Rattle.montage_tool.proofs.Latest.{IsNext, latest_among, next_is, follow_next, pairs_in_log, epoch_of_next, each_push, each_take, each_behind, log_push, log_take, stand_push, latest_push, raise_count}
 
 abbrev pub Find : Type 0
 Find = ℕ → Option Held
@@ -131,7 +131,7 @@ module _ (s : Shape) (clock : ℕ) (current durable : List ℕ) (rs : List Held)
       ∙ (let e : 1 + 8 * flushed ≡ word_of flushed 0 = omega arith in ap (λ (n : ℕ). take 8 (drop n (memory s clock rs))) e)
       ∙ words_at-memory s clock rs flushed r.0 eights r.1 in
       let more : front ++ r.0 ∷ [] ≡ take (flushed + 1) rs = take_one rs flushed r.0 r.1 in
-      let eight = each_at Eight rs flushed r.0 eights r.1 in
+      let eight = each_behind Eight rs 0 flushed r.0 eights (omega arith) r.1 in
       record {
         holds = h;
         begun = st.begun;
@@ -142,7 +142,7 @@ module _ (s : Shape) (clock : ℕ) (current durable : List ℕ) (rs : List Held)
             ∙ ap (λ (xs : List ℕ). overwritten (1 + 8 * flushed) xs part) st.outlives
             ∙ ap (λ (xs : List ℕ). overwritten (1 + 8 * flushed) (memory s clock front) xs) block
             ∙ ap (λ (n : ℕ). overwritten (1 + 8 * n) (memory s clock front) (words_of_record r.0)) (sym long)
-            ∙ memory_push s clock front r.0 (each_take Eight rs flushed eights) eight (omega arith)
+            ∙ memory_push s clock front r.0 (each_take Eight flushed rs eights) eight (omega arith)
             ∙ ap (memory s clock) more;
         within = omega arith;
         old = subst (AllByRecursion (λ (q : Held). q.label.epoch < clock)) more (each_push (λ (q : Held). q.label.epoch < clock) front r.0 st.old (due r.0 r.1));
@@ -156,16 +156,6 @@ module _ (s : Shape) (clock : ℕ) (current durable : List ℕ) (rs : List Held)
       take_one [] n q at = absurd (cc)
       take_one (p ∷ qs) zero q at = ap (λ (h : Held). h ∷ []) (sym (same_Some p q at))
       take_one (p ∷ qs) (suc n) q at = let e : suc n + 1 ≡ suc (n + 1) = omega arith in ap (λ (hs : List Held). p ∷ hs) (take_one qs n q at) ∙ ap (λ (k : ℕ). take k (p ∷ qs)) (sym e)
-
-      each_at : (P : Held → Type 0) (qs : List Held) (n : ℕ) (q : Held) → AllByRecursion P qs → slice_get qs n ≡ Some q → P q
-      each_at P [] n q all at = absurd (cc)
-      each_at P (p ∷ qs) zero q all at = subst P (same_Some p q at) all.0
-      each_at P (p ∷ qs) (suc n) q all at = each_at P qs n q all.1 at
-
-      each_take : (P : Held → Type 0) (qs : List Held) (n : ℕ) → AllByRecursion P qs → AllByRecursion P (take n qs)
-      each_take P qs zero all = tt
-      each_take P [] (suc n) all = tt
-      each_take P (q ∷ qs) (suc n) all = (all.0, each_take P qs n all.1)
 
   -- the clock moves where what isn't durable is of this epoch
   pub store_tick : (current' durable' : List ℕ) → clock < LAST → AllByRecursion (λ (r : Held). clock ≤ r.label.epoch) (drop flushed rs) → current' ≡ set current 0 (clock + 1) → durable' ≡ set durable 0 (clock + 1) → Store s (clock + 1) current' durable' rs flushed find keys
