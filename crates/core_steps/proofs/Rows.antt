@@ -11,11 +11,14 @@ module _ {A : Type 0} where
   row_set (x ∷ xs) zero zero a b e = inl (refl, same_Some a b e)
   row_set (x ∷ xs) zero (suc j) a b e = inr ((λ h. omega arith), e)
   row_set (x ∷ xs) (suc i) zero a b e = inr ((λ h. omega arith), e)
-  row_set (x ∷ xs) (suc i) (suc j) a b e = ⊎_elim (λ t. inl (ap suc t.0, t.1)) (λ t. let n = t.0 in inr ((λ h. n (omega arith)), t.1)) (row_set xs i j a b e)
+  row_set (x ∷ xs) (suc i) (suc j) a b e =
+      ⊎_elim (λ t. inl (ap suc t.0, t.1)) (λ t. let n = t.0 in inr ((λ h. n (omega arith)), t.1)) (row_set xs i j a b e)
 
   -- what holds of each item holds after a change of one, if it holds of the new item and the change leaves
   -- what is said of the others
-  pub each_set : (P : ℕ → A → Type 0) (l : List A) (i : ℕ) (a : A) → ((j : ℕ) (b : A) → j ≢ i → slice_get l j ≡ Some b → P j b) → P i a → EachAt P (set l i a)
+  pub each_set :
+      (P : ℕ → A → Type 0) (l : List A) (i : ℕ) (a : A) → ((j : ℕ) (b : A) → j ≢ i → slice_get l j ≡ Some b → P j b) → P i a
+      → EachAt P (set l i a)
   each_set P l i a others mine j b e =
       ⊎_elim
       (λ (t : (j ≡ i) × (a ≡ b)). subst (λ (y : ℕ × A). P y.0 y.1) (λ k. (sym t.0 k, t.1 k)) mine)

@@ -1,4 +1,5 @@
--- What the advancer needs to pass a unit and to move the clock, and the core after each of these steps.
+-- What the advancer needs to pass a unit and to move the clock, and the core after each of these
+-- steps.
 use Rattle.std.specs.Prelude.{ℕ, ◌+◌, ◌/◌, Bool, true, false, ◌||◌, ◌==◌, nat_lt, nat_le, length, slice_set, if◌then◌else◌}
 use Rattle.mont_base.specs.declared.constants.TheConstants.{LAST}
 use Rattle.core_steps.specs.declared.parts.Core.{Core}
@@ -25,7 +26,8 @@ abbrev pub past_unit : ℕ → ℕ → AdvPart
 past_unit n j = if nat_lt (j + 1) n then Checking (j + 1) else Labels 0
 
 abbrev pub after_check : ℕ → ℕ → ℕ → AdvPart → AdvPart
-after_check n now word a = if lets_pass now word then past_unit n (unit_at_hand a) else Checking (unit_at_hand a)
+after_check n now word a =
+    if lets_pass now word then past_unit n (unit_at_hand a) else Checking (unit_at_hand a)
 
 abbrev pub check : Core → ℕ → Core
 check c word = record c { advancer = after_check (length c.units) (clock c) word c.advancer }

@@ -1,7 +1,7 @@
--- What a unit needs to announce an epoch, to be registered in it, and to take the announcement back or leave
--- it behind, and the core after each of these steps.
+-- What a unit needs to announce an epoch, to be registered in it, and to take the announcement back
+-- or leave it behind, and the core after each of these steps.
 use Rattle.std.specs.Prelude.{ℕ, ◌+◌, ◌*◌, ◌/◌, Bool, true, false, ◌&&◌, ◌||◌, not, ◌==◌, nat_le, List, [], ◌∷◌, ◌++◌, slice_set, slice_index, if◌then◌else◌, Some, is_none}
-use Rattle.mont_base.specs.declared.constants.TheConstants.{LAST}
+use Rattle.mont_base.specs.declared.constants.TheConstants.{FIRST_CLOCK, LAST}
 use Rattle.core_steps.specs.declared.parts.Core.{Core}
 use Rattle.core_steps.specs.declared.parts.UnitPart.{UnitPart}
 use Rattle.core_steps.specs.declared.parts.CallerPart.{CallerPart}
@@ -36,13 +36,16 @@ can_look p = is_unfrozen p && is_idle p.stage
 
 -- Tell
 abbrev pub can_tell : UnitPart → ℕ → Bool
-can_tell p e = is_unfrozen p && ((is_idle p.stage || is_told p.stage) && (nat_le 2 e && nat_le e LAST))
+can_tell p e =
+    is_unfrozen p
+    && ((is_idle p.stage || is_told p.stage) && (nat_le FIRST_CLOCK e && nat_le e LAST))
 
 abbrev pub after_tell : UnitPart → ℕ → UnitPart
 after_tell p e = record p { stage = Told e }
 
 abbrev pub tell : Core → ℕ → UnitPart → ℕ → Core
-tell c u p e = record c { told = slice_set c.told u (2 * e); units = slice_set c.units u (after_tell p e) }
+tell c u p e =
+    record c { told = slice_set c.told u (2 * e); units = slice_set c.units u (after_tell p e) }
 
 -- Confirm, where the clock shows now
 abbrev pub can_confirm : UnitPart → Bool
@@ -69,7 +72,8 @@ abbrev pub after_withdraw : UnitPart → UnitPart
 after_withdraw p = record p { stage = Idle }
 
 abbrev pub withdraw : Core → ℕ → UnitPart → Core
-withdraw c u p = record c { told = slice_set c.told u 0; units = slice_set c.units u (after_withdraw p) }
+withdraw c u p =
+    record c { told = slice_set c.told u 0; units = slice_set c.units u (after_withdraw p) }
 
 -- Freeze: the announcement keeps its epoch and becomes odd, if there is one.
 abbrev pub can_freeze : UnitPart → Bool

@@ -1,7 +1,6 @@
 -- The core of an empty store.
 use Rattle.std.specs.Prelude.{ℕ, ◌*◌, List, [], ◌∷◌, replicate, None}
-use Rattle.mont_base.specs.declared.constants.TheConstants.{FIELDS}
-use Rattle.core_steps.specs.declared.fresh.TheConstants.{FIRST_CLOCK}
+use Rattle.mont_base.specs.declared.constants.TheConstants.{FIELDS, FIRST_CLOCK}
 use Rattle.mont_base.specs.Layout.{Shape, units_of, total_of}
 use Rattle.core_steps.specs.declared.parts.Core.{Core}
 use Rattle.core_steps.specs.declared.parts.UnitPart.{UnitPart}

@@ -17,4 +17,6 @@ are_allowed c (e ∷ es) = is_allowed c e && are_allowed (after c e) es
 
 -- every run of allowed steps leads from a sound core to a sound core
 abbrev pub SoundnessLasts : Type 0
-SoundnessLasts = (base : ℕ) (c : Core) (es : List Event) → IsSound base c → are_allowed c es ≡ true → IsSound base (after_all c es)
+SoundnessLasts =
+    (base : ℕ) (c : Core) (es : List Event) → IsSound base c → are_allowed c es ≡ true
+    → IsSound base (after_all c es)

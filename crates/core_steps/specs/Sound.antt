@@ -1,6 +1,6 @@
 -- What every step keeps.
 use Rattle.std.specs.Prelude.{◌≡◌, ℕ, ◌+◌, ◌*◌, ◌<◌, ◌≤◌, List, length, slice_get, Option, Some, None}
-use Rattle.mont_base.specs.declared.constants.TheConstants.{FIELDS, LAST}
+use Rattle.mont_base.specs.declared.constants.TheConstants.{FIELDS, FIRST_CLOCK, LAST}
 use Rattle.mont_base.specs.Layout.{Shape, IsLayout, units_of, total_of, words_of}
 use Rattle.core_steps.specs.declared.parts.Core.{Core}
 use Rattle.core_steps.specs.declared.parts.UnitPart.{UnitPart}
@@ -13,12 +13,12 @@ use Rattle.core_steps.specs.Places.{EachAt}
 use Rattle.core_steps.specs.Clock.{clock, durable_clock}
 
 -- the advancer stands at a unit or a slot that the store has
-abbrev pub IsWithinStore : Shape → AdvPart → Type 0
-IsWithinStore s (Checking j) = j < units_of s
-IsWithinStore s (Labels slot) = slot < total_of s
-IsWithinStore s (Fields slot field) = (slot < total_of s) × (field < FIELDS)
-IsWithinStore s (Holding slot field value) = (slot < total_of s) × (field < FIELDS)
-IsWithinStore s _ = Unit {0}
+abbrev pub IsInStore : Shape → AdvPart → Type 0
+IsInStore s (Checking j) = j < units_of s
+IsInStore s (Labels slot) = slot < total_of s
+IsInStore s (Fields slot field) = (slot < total_of s) × (field < FIELDS)
+IsInStore s (Holding slot field value) = (slot < total_of s) × (field < FIELDS)
+IsInStore s _ = Unit {0}
 
 -- the core has as many words and units as its layout says
 pub record Sizes (s : Shape) (cur dur : List ℕ) (units : List UnitPart) (a : AdvPart) : Type 0 where
@@ -26,7 +26,7 @@ pub record Sizes (s : Shape) (cur dur : List ℕ) (units : List UnitPart) (a : A
   pub current : length cur ≡ words_of s
   pub durable : length dur ≡ words_of s
   pub unit_count : length units ≡ units_of s
-  pub place : IsWithinStore s a
+  pub place : IsInStore s a
 
 -- while an advance is under way, both clocks are one, and there is a next one
 pub record IsUnderWay (now durable : ℕ) : Type 0 where
@@ -39,9 +39,12 @@ ClocksStand Rest now durable = durable ≡ now
 ClocksStand Clocked now durable = durable + 1 ≡ now
 ClocksStand _ now durable = IsUnderWay now durable
 
--- Of a store that was opened at the clock base. Nobody has loaded a durable clock that wasn't reached.
-pub record Clocks (base now durable : ℕ) (a : AdvPart) (units : List UnitPart) (callers : List CallerPart) : Type 0 where
-  pub low : 2 ≤ base
+-- Of a store that was opened at the clock base. Nobody has loaded a durable clock that wasn't
+-- reached.
+pub record Clocks
+    (base now durable : ℕ) (a : AdvPart) (units : List UnitPart) (callers : List CallerPart)
+    : Type 0 where
+  pub low : FIRST_CLOCK ≤ base
   pub begun : base ≤ durable
   pub behind : durable ≤ now
   pub last : now ≤ LAST
@@ -71,8 +74,8 @@ HasPassed (Checking j) u = u < j
 HasPassed Clocked u = ⊥
 HasPassed _ u = Unit {0}
 
--- A registered unit writes with the clock as its epoch, or with the one before; once it was passed only with
--- the clock.
+-- A registered unit writes with the clock as its epoch, or with the one before; once it was passed
+-- only with the clock.
 pub record IsRegistered (base now : ℕ) (passed : Type 0) (e : ℕ) : Type 0 where
   pub begun : base ≤ e
   pub reached : e ≤ now

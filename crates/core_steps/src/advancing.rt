@@ -3,9 +3,9 @@ ghost use Rattle.std.specs.Prelude.{◌≡◌};
 ghost use Rattle.core_steps.specs.Advancing.{can_check, unit_at_hand, lets_pass};
 ghost use Rattle.core_steps.specs.Events.{after};
 
+use crate::core_words::{store, word};
 use crate::event::Event;
 use crate::parts::{AdvPart, Core};
-use crate::words::{store, word};
 use mont_base::{Epoch, LAST, Unit};
 
 impl AdvPart {

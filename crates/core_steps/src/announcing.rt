@@ -1,13 +1,14 @@
-// How a unit announces an epoch, is registered in it, and takes the announcement back or leaves it behind.
+// How a unit announces an epoch, is registered in it, and takes the announcement back or leaves it
+// behind.
 ghost use Rattle.std.specs.Prelude.{◌≡◌, ◌<◌, ◌≤◌, OnOk, OnErr, length};
 ghost use Rattle.mont_base.specs.declared.constants.TheConstants.{LAST};
 ghost use Rattle.core_steps.specs.Announcing.{is_unfrozen, can_look, can_tell, confirmed, can_confirm, has_stored, can_withdraw, made_odd};
 ghost use Rattle.core_steps.specs.Events.{after};
 
+use crate::core_words::{store, word};
 use crate::event::Event;
 use crate::parts::{Core, UnitPart, UnitStage};
-use crate::words::{store, word};
-use mont_base::{Epoch, LAST, Unit};
+use mont_base::{Epoch, FIRST_CLOCK, LAST, Unit};
 use std::alloc::AllocError;
 
 impl UnitPart {
@@ -28,7 +29,7 @@ impl UnitPart {
     {
         self.is_unfrozen()
             && matches!(self.stage, UnitStage::Idle | UnitStage::Told { .. })
-            && (2..=LAST).contains(&epoch)
+            && (FIRST_CLOCK..=LAST).contains(&epoch)
     }
 
     pub(crate) fn can_confirm(&self) -> bool

@@ -4,14 +4,12 @@ ghost use Rattle.core_steps.specs.Fresh.{fresh, fresh_words, fresh_unit, fresh_c
 ghost use Rattle.core_steps.specs.Sound.{IsSound};
 
 use crate::parts::{AdvPart, CallerPart, Core, UnitPart, UnitStage};
-use mont_base::{Epoch, Layout, Sequence};
+use mont_base::{FIRST_CLOCK, Layout, Sequence};
 use std::alloc::{AllocError, Global};
 
-/// The clock of an empty store. Its cut, two epochs before, is empty.
-pub const FIRST_CLOCK: Epoch = 2;
-
 impl Core {
-    /// The core of an empty store: every slot is closed, nothing is announced, and nobody has seen anything.
+    /// The core of an empty store: every slot is closed, nothing is announced, and nobody has seen
+    /// anything.
     pub fn fresh(alloc: Global, layout: Layout, callers: u64) -> Result<Core, AllocError>
         ensures core { IfOk result (λ c. c ≡ fresh layout callers) }
         ensures sound { IfOk result (λ c. IsSound FIRST_CLOCK c) }

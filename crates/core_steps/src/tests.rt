@@ -1,13 +1,14 @@
 // Steps on the core of a small store.
-use crate::words::word;
+use crate::core_words::word;
 use crate::{AdvPart, Core, Event, StepRefusal, UnitStage, step};
-use mont_base::Layout;
+use mont_base::{Kinds, Layout};
 use std::alloc::Global;
 use std::process::Abort;
 use std::test::Fail;
 
 fn small_core(alloc: Global) -> Result<Core, Fail> {
-    let layout = Layout::new(1, 8)?;
+    let kinds = Kinds::of_letters(b"mqg")?;
+    let layout = Layout::new(kinds, 8)?;
     Ok(Core::fresh(alloc, layout, 2)?)
 }
 

@@ -9,13 +9,14 @@ use Rattle.std.proofs.lemmas.Fmt.{decimal_by_steps, decimal-digits_value, parse-
 use Rattle.std.proofs.lemmas.List.Elements.{All-push, All-cons, All-nil}
 use Rattle.std.proofs.lemmas.Bool.Decides.{nat_tests, Decides-eqb}
 use Rattle.std.proofs.lemmas.Bool.{cases_eq}
-use Rattle.job_text.specs.Parts.{Lacks, IsPlain}
+use Rattle.job_text.specs.Parts.{Lacks, IsUnpadded}
 
 own : IsNumeralModel (λ ds. all_ascii_digits ds ≡ true) (digits_value 10)
 own = numerals_by_value (λ ds. all_ascii_digits ds ≡ true) tells_all_ascii_digits
 
 -- such a word is parsed exactly where it is a number's
-pub parsed_plain : {E : Type 0} (word : List ℕ) (r : Result ℕ E) → IsPlain word → ParsesUnsigned 64 10 word r → MatchOption (result_ok r) ((n : ℕ) → n < 2 ^ 64 → word ≢ decimal n) (λ n. (n < 2 ^ 64) × (word ≡ decimal n))
+pub parsed_plain : {E : Type 0} (word : List ℕ) (r : Result ℕ E) → IsUnpadded word → ParsesUnsigned 64 10 word r
+    → MatchOption (result_ok r) ((n : ℕ) → n < 2 ^ 64 → word ≢ decimal n) (λ n. (n < 2 ^ 64) × (word ≡ decimal n))
 parsed_plain {E} word (Ok n) plain h =
     let p = parse_plain own {E = E} 64 word (Ok n) h plain.unsigned in
     let one : get_or word 0 0 ≡ 48 → length word ≡ 1 = λ z. omega (arith, p.0.1, plain.no_zero z) in
@@ -41,7 +42,7 @@ pub decimal_short : (n : ℕ) → n < 2 ^ 64 → length (decimal n) ≤ 20
 decimal_short n small = length-decimal-le 20 n (omega arith) (omega arith) small
 
 -- the text of a number begins with its greatest digit
-pub decimal_plain : (n : ℕ) → n < 2 ^ 64 → IsPlain (decimal n)
+pub decimal_plain : (n : ℕ) → n < 2 ^ 64 → IsUnpadded (decimal n)
 decimal_plain n small =
     let some : 0 < length (decimal n) = decimal_nonempty n small in
     record {
@@ -49,5 +50,10 @@ decimal_plain n small =
           let lacks : (get_or (decimal n) 0 0 == 43) ≡ false = decimal_lacks 43 n (lit< tt) small 0 0 some in
           let is : (get_or (decimal n) 0 0 == 43) ≡ true = (Decides-eqb (get_or (decimal n) 0 0) 43).1 sign in
           cc;
-      no_zero = λ zero. elim (cases_eq n 0) [ inl e ↦ rw (e, decimal_digit 0 (lit< tt)) (omega arith) | inr ne ↦ absurd (omega (arith, first_decimal n (omega arith) small)) ];
+      no_zero = λ zero.
+          elim (cases_eq n 0) [
+            | inl e ↦ rw (e, decimal_digit 0 (lit< tt)) (omega arith)
+            | inr ne ↦ absurd
+                (omega (arith, first_decimal n (omega arith) small))
+          ];
     }

@@ -1,5 +1,9 @@
-pub mod Report
+pub mod Lines
+pub mod Spelling
+pub mod JobText
 pub mod Parts
 pub mod Refused
-pub mod Places
-pub mod Faithful
+pub mod Taken
+pub mod Report
+pub mod ReportText
+pub mod PlainReport

@@ -3,10 +3,12 @@ ghost use Rattle.std.specs.Prelude.{◌≡◌, ◌++◌, map, OnOk};
 ghost use Rattle.std.specs.String.{string_bytes};
 ghost use Rattle.std.specs.VecDeque.Iter.{deque_iter_rest};
 ghost use Rattle.mont_base.specs.State.{MapOf, QueueOf, GraphOf};
-ghost use Rattle.mont_base.specs.Text.{text_of};
-ghost use Rattle.mont_base.specs.ReportText.{contents_lines, state_lines, pair_lines, edge_lines, item_lines};
 ghost use Rattle.plain.specs.States.{state_of};
+ghost use Rattle.job_text.specs.Lines.{text_of};
+ghost use Rattle.job_text.specs.ReportText.{contents_lines, state_lines, pair_words, item_words, vertex_words, edge_words};
 
+use crate::text_word::TextWord;
+use mont_base::Text;
 use plain::{GraphState, MapState, QueueState, UnitState};
 use std::alloc::AllocError;
 use std::collections::{btree_map, vec_deque};
@@ -58,16 +60,40 @@ fn write_graph(text: &mut String, unit: usize, state: &GraphState) -> Result<(),
     let vertices = state.vertices_len();
     let edges = state.edges_len();
     writeln!(text, "graph {unit} {vertices} {edges}")?;
-    write_pairs(text, state.vertices())?;
+    write_vertices(text, state.vertices())?;
     write_edges(text, state.edges())
 }
 
-fn write_pairs(text: &mut String, pairs: btree_map::Iter<'_, u64, u64>) -> Result<(), AllocError>
+fn write_pairs(text: &mut String, pairs: btree_map::Iter<'_, Text, Text>) -> Result<(), AllocError>
     ensures { OnOk result (string_bytes text.new
-        ≡ string_bytes text.old ++ text_of (pair_lines pairs.entry)) }
+        ≡ string_bytes text.old ++ text_of (map pair_words pairs.entry)) }
 {
     for (key, value) in pairs {
+        let (key, value) = (TextWord(*key), TextWord(*value));
         writeln!(text, "{key} {value}")?;
+    }
+    Ok(())
+}
+
+fn write_items(text: &mut String, items: vec_deque::Iter<'_, u64>) -> Result<(), AllocError>
+    ensures { OnOk result (string_bytes text.new
+        ≡ string_bytes text.old ++ text_of (map item_words (deque_iter_rest items.entry))) }
+{
+    for item in items {
+        writeln!(text, "{item}")?;
+    }
+    Ok(())
+}
+
+fn write_vertices(
+    text: &mut String,
+    vertices: btree_map::Iter<'_, u64, u64>,
+) -> Result<(), AllocError>
+    ensures { OnOk result (string_bytes text.new
+        ≡ string_bytes text.old ++ text_of (map vertex_words vertices.entry)) }
+{
+    for (vertex, attribute) in vertices {
+        writeln!(text, "{vertex} {attribute}")?;
     }
     Ok(())
 }
@@ -77,20 +103,10 @@ fn write_edges(
     edges: btree_map::Iter<'_, (u64, u64), u64>,
 ) -> Result<(), AllocError>
     ensures { OnOk result (string_bytes text.new
-        ≡ string_bytes text.old ++ text_of (edge_lines edges.entry)) }
+        ≡ string_bytes text.old ++ text_of (map edge_words edges.entry)) }
 {
     for ((from, to), attribute) in edges {
         writeln!(text, "{from} {to} {attribute}")?;
-    }
-    Ok(())
-}
-
-fn write_items(text: &mut String, items: vec_deque::Iter<'_, u64>) -> Result<(), AllocError>
-    ensures { OnOk result (string_bytes text.new
-        ≡ string_bytes text.old ++ text_of (item_lines (deque_iter_rest items.entry))) }
-{
-    for item in items {
-        writeln!(text, "{item}")?;
     }
     Ok(())
 }

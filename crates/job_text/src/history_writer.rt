@@ -1,17 +1,19 @@
 // The lines of a report that tell the histories of its units and the outcomes of its callers.
-ghost use Rattle.std.specs.Prelude.{◌≡◌, ◌++◌, [], ◌∷◌, map, OnOk};
+ghost use Rattle.std.specs.Prelude.{◌≡◌, ◌++◌, map, OnOk};
 ghost use Rattle.std.specs.String.{string_bytes};
-ghost use Rattle.std.specs.List.{flat_map, enumerate_from};
-ghost use Rattle.mont_base.specs.Text.{text_of, line_of};
-ghost use Rattle.mont_base.specs.ReportText.{entry_words, history_lines, outcome_words, outcomes_lines};
+ghost use Rattle.std.specs.List.{enumerate_from};
+ghost use Rattle.job_text.specs.Lines.{text_of, line_of};
+ghost use Rattle.job_text.specs.ReportText.{entry_words, history_lines, histories_lines, outcome_words, caller_lines, outcomes_lines};
 
-use mont_base::{Entry, Outcome, Sequence};
+use crate::outcome::Outcome;
+use crate::spelling::{OpWords, ReplyWords};
+use mont_base::{Entry, Sequence};
 use std::alloc::AllocError;
 
 /// The histories of all units.
 pub fn write_histories(text: &mut String, histories: &[Sequence<Entry>]) -> Result<(), AllocError>
     ensures { OnOk result (string_bytes text.new
-        ≡ string_bytes text.old ++ text_of (flat_map (λ p. history_lines p.0 p.1) (enumerate_from 0 histories.now))) }
+        ≡ string_bytes text.old ++ text_of (histories_lines histories.now)) }
 {
     for (unit, history) in histories.iter().enumerate() {
         write_history(text, unit, history.as_slice())?;
@@ -22,10 +24,10 @@ pub fn write_histories(text: &mut String, histories: &[Sequence<Entry>]) -> Resu
 /// The outcomes of all callers.
 pub fn write_outcomes(text: &mut String, outcomes: &[Sequence<Outcome>]) -> Result<(), AllocError>
     ensures { OnOk result (string_bytes text.new
-        ≡ string_bytes text.old ++ text_of (flat_map (λ p. outcomes_lines p.0 p.1) (enumerate_from 0 outcomes.now))) }
+        ≡ string_bytes text.old ++ text_of (outcomes_lines outcomes.now)) }
 {
     for (caller, of_caller) in outcomes.iter().enumerate() {
-        write_outcomes_of(text, caller, of_caller.as_slice())?;
+        write_caller(text, caller, of_caller.as_slice())?;
     }
     Ok(())
 }
@@ -40,8 +42,8 @@ fn write_history(text: &mut String, unit: usize, history: &[Entry]) -> Result<()
 }
 
 fn write_entries(text: &mut String, history: &[Entry]) -> Result<(), AllocError>
-    ensures { OnOk result (string_bytes text.new
-        ≡ string_bytes text.old ++ text_of (map (λ p. entry_words p.0 p.1) (enumerate_from 0 history.now))) }
+    ensures { OnOk result (string_bytes text.new ≡ string_bytes text.old
+        ++ text_of (map (λ p. entry_words p.0 p.1) (enumerate_from 0 history.now))) }
 {
     for (place, entry) in history.iter().enumerate() {
         write_entry(text, place, entry)?;
@@ -60,16 +62,13 @@ fn write_entry(text: &mut String, place: usize, entry: &Entry) -> Result<(), All
         reply,
         epoch,
     } = entry;
+    let (op, reply) = (OpWords(op), ReplyWords(reply));
     writeln!(text, "{place} {caller} {call} {epoch} {op} = {reply}")
 }
 
-fn write_outcomes_of(
-    text: &mut String,
-    caller: usize,
-    outcomes: &[Outcome],
-) -> Result<(), AllocError>
+fn write_caller(text: &mut String, caller: usize, outcomes: &[Outcome]) -> Result<(), AllocError>
     ensures { OnOk result (string_bytes text.new
-        ≡ string_bytes text.old ++ text_of (outcomes_lines caller outcomes.now)) }
+        ≡ string_bytes text.old ++ text_of (caller_lines caller outcomes.now)) }
 {
     let length = outcomes.len();
     writeln!(text, "caller {caller} {length}")?;

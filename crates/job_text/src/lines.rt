@@ -1,16 +1,14 @@
 // The lines of a job's text.
 ghost use Rattle.std.specs.Prelude.{◌≡◌, MatchResult};
-ghost use Rattle.mont_base.specs.JobText.{is_put};
+ghost use Rattle.job_text.specs.JobText.{is_put};
 ghost use Rattle.job_text.specs.Refused.{BeginsWith, IsNoLine, BeginsWithHeader, IsNoHeader, BeginsWithDeed, IsNoDeed};
 
-use crate::words::{begins_stop, cut, deed, header};
-use mont_base::{Deed, JobFault, Layout, Line, Op};
-
-/// A text has at most so many lines.
-const MOST_LINES: u64 = 200_000;
-
-/// A line has at most so many bytes.
-const MOST_BYTES: usize = 80;
+use crate::deeds::{begins_stop, deed};
+use crate::header::job_layout;
+use crate::job::{Deed, JobFault, Line};
+use crate::limits::{LINE_BYTES, MOST_LINES};
+use crate::split::split_once;
+use mont_base::{Layout, Op};
 
 /// The first line of a text, and what follows its line feed. The line's place is counted from 0.
 fn next_line(text: &[u8], place: u64) -> Result<(&[u8], &[u8]), JobFault>
@@ -20,13 +18,13 @@ fn next_line(text: &[u8], place: u64) -> Result<(&[u8], &[u8]), JobFault>
     if place >= MOST_LINES {
         return Err(JobFault::Many);
     }
-    let Some((line, after)) = cut(text, b'\n') else {
-        if text.len() > MOST_BYTES {
+    let Some((line, after)) = split_once(text, b'\n') else {
+        if text.len() > LINE_BYTES {
             return Err(JobFault::Long);
         }
         return Err(JobFault::Unended);
     };
-    if line.len() > MOST_BYTES {
+    if line.len() > LINE_BYTES {
         return Err(JobFault::Long);
     }
     Ok((line, after))
@@ -34,11 +32,11 @@ fn next_line(text: &[u8], place: u64) -> Result<(&[u8], &[u8]), JobFault>
 
 /// The layout that the first line of a text names, and what follows that line.
 pub fn next_header(text: &[u8]) -> Result<(Layout, &[u8]), JobFault>
-    ensures { MatchResult result (λ p. (p.0.maps ≡ 1) × BeginsWithHeader text.now p.0.slots p.1.now)
+    ensures { MatchResult result (λ p. BeginsWithHeader text.now p.0 p.1.now)
         (λ fault. IsNoHeader text.now fault) }
 {
     let (line, after) = next_line(text, 0)?;
-    match header(line) {
+    match job_layout(line) {
         Some(layout) => Ok((layout, after)),
         None => Err(JobFault::Header),
     }

@@ -2,7 +2,8 @@
 ghost use Rattle.std.specs.Prelude.{◌≡◌};
 ghost use Rattle.job_text.specs.declared.refusal.JobRefusal.TheVariants.{Read, Memory};
 
-use mont_base::{Failed, JobFault};
+use crate::job::JobFault;
+use mont_base::Failed;
 use std::alloc::{AllocError, AllocFailed};
 
 /// Why no job was read.

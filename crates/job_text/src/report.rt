@@ -1,9 +1,10 @@
 // What a run of a job reports.
-use mont_base::{Entry, Epoch, Layout, Outcome, Sequence};
+use crate::outcome::Outcome;
+use mont_base::{Entry, Epoch, Layout, Sequence};
 use plain::Contents;
 
-/// A report of a run: what the store held when it began, what its callers did, and what a crash at the end
-/// leaves of it.
+/// A report of a run: what the store held when it began, what its callers did, and what a crash at
+/// the end leaves of it.
 #[derive(Debug, Drop)]
 pub struct Report {
     pub layout: Layout,

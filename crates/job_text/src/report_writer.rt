@@ -1,12 +1,13 @@
 // The text of a report.
-ghost use Rattle.std.specs.Prelude.{◌≡◌, ◌++◌, [], ◌∷◌, codes, decimal, OnOk, IfOk};
+ghost use Rattle.std.specs.Prelude.{◌≡◌, ◌++◌, OnOk, IfOk};
 ghost use Rattle.std.specs.String.{string_bytes};
-ghost use Rattle.mont_base.specs.Text.{text_of};
-ghost use Rattle.mont_base.specs.ReportText.{contents_lines, report_text};
 ghost use Rattle.plain.specs.States.{states_of};
-ghost use Rattle.job_text.specs.Report.{report_of};
+ghost use Rattle.job_text.specs.Lines.{text_of};
+ghost use Rattle.job_text.specs.ReportText.{base_lines, image_lines, report_text};
+ghost use Rattle.job_text.specs.PlainReport.{report_of};
 
 use crate::contents_writer::write_units;
+use crate::header::write_report_header;
 use crate::history_writer::{write_histories, write_outcomes};
 use crate::report::Report;
 use mont_base::Epoch;
@@ -18,9 +19,7 @@ pub fn write_report(alloc: Global, report: &Report) -> Result<Vec<u8>, AllocErro
     ensures { IfOk result (λ bytes. bytes.items ≡ report_text (report_of report.now)) }
 {
     let mut text = String::new(alloc);
-    let maps = report.layout.maps();
-    let slots = report.layout.slots();
-    write_header(&mut text, maps, slots, report.callers)?;
+    write_report_header(&mut text, &report.layout, report.callers)?;
     write_base(&mut text, report.base_clock, &report.base)?;
     write_histories(&mut text, report.histories.as_slice())?;
     write_outcomes(&mut text, report.outcomes.as_slice())?;
@@ -29,19 +28,10 @@ pub fn write_report(alloc: Global, report: &Report) -> Result<Vec<u8>, AllocErro
     Ok(text.into_bytes())
 }
 
-fn write_header(text: &mut String, maps: u64, slots: u64, callers: u64) -> Result<(), AllocError>
-    ensures { OnOk result (string_bytes text.new
-        ≡ string_bytes text.old
-        ++ text_of ((codes "montage-report" ∷ codes "1" ∷ decimal maps ∷ decimal slots ∷ decimal callers ∷ []) ∷ [])) }
-{
-    writeln!(text, "montage-report 1 {maps} {slots} {callers}")
-}
-
 // What the store held when the run began.
 fn write_base(text: &mut String, clock: Epoch, base: &Contents) -> Result<(), AllocError>
     ensures { OnOk result (string_bytes text.new
-        ≡ string_bytes text.old
-        ++ text_of ((codes "base" ∷ decimal clock ∷ []) ∷ contents_lines (states_of base.now))) }
+        ≡ string_bytes text.old ++ text_of (base_lines clock (states_of base.now))) }
 {
     writeln!(text, "base {clock}")?;
     write_units(text, base.units.as_slice())
@@ -50,8 +40,7 @@ fn write_base(text: &mut String, clock: Epoch, base: &Contents) -> Result<(), Al
 // What the crash leaves.
 fn write_image(text: &mut String, clock: Epoch, contents: &Contents) -> Result<(), AllocError>
     ensures { OnOk result (string_bytes text.new
-        ≡ string_bytes text.old
-        ++ text_of ((codes "image" ∷ decimal clock ∷ []) ∷ contents_lines (states_of contents.now))) }
+        ≡ string_bytes text.old ++ text_of (image_lines clock (states_of contents.now))) }
 {
     writeln!(text, "image {clock}")?;
     write_units(text, contents.units.as_slice())

@@ -1,18 +1,19 @@
 // Reports of runs with one map unit of eight slots and one caller, made by hand.
+use crate::outcome::Outcome;
 use crate::report::Report;
-use mont_base::{Deed, Entry, Epoch, Job, Layout, Line, Op, Outcome, Reply, Sequence, UnitKind};
+use mont_base::{Entry, Epoch, Layout, Op, Reply, Sequence, Text, UnitKind};
 use plain::{Contents, MapState, UnitState};
 use std::alloc::{AllocError, Global};
 
-/// A report of a run that began with nothing, with the history of the map unit, the outcomes of the caller,
-/// and the pairs that the crash leaves.
+/// A report of a run that began with nothing, with the history of the map unit, the outcomes of the
+/// caller, and the pairs that the crash leaves.
 pub fn report_of_run(
     alloc: Global,
     layout: Layout,
     history: &[Entry],
     outcomes: &[Outcome],
     image_clock: Epoch,
-    pairs: &[(u64, u64)],
+    pairs: &[(Text, Text)],
 ) -> Result<Report, AllocError> {
     let mut histories = Sequence::new(alloc);
     histories.push(copied(alloc, history)?)?;
@@ -48,58 +49,13 @@ fn copied<T: Copy + Drop>(alloc: Global, items: &[T]) -> Result<Sequence<T>, All
     Ok(sequence)
 }
 
-/// The job that puts 10 under 1, moves the clock twice, and puts 11 under 1.
-pub fn two_puts_job(alloc: Global, layout: Layout) -> Result<Job, AllocError> {
-    let deeds = [
-        Deed::Call {
-            op: Op::Put { key: 1, value: 10 },
-        },
-        Deed::Tick,
-        Deed::Tick,
-        Deed::Call {
-            op: Op::Put { key: 1, value: 11 },
-        },
-    ];
-    let mut lines = Sequence::new(alloc);
-    for deed in deeds {
-        lines.push(Line { caller: 0, deed })?;
+/// The entry of a call that was answered at an epoch.
+pub fn entry(call: u64, op: Op, reply: Reply, epoch: Epoch) -> Entry {
+    Entry {
+        caller: 0,
+        call,
+        op,
+        reply,
+        epoch,
     }
-    Ok(Job {
-        layout,
-        callers: 1,
-        attempts: 0,
-        mask: 0,
-        stops: Sequence::new(alloc),
-        lines,
-    })
-}
-
-/// The history of the map unit after that job.
-pub fn two_puts_history() -> [Entry; 2] {
-    [
-        Entry {
-            caller: 0,
-            call: 0,
-            op: Op::Put { key: 1, value: 10 },
-            reply: Reply::Nothing,
-            epoch: 2,
-        },
-        Entry {
-            caller: 0,
-            call: 1,
-            op: Op::Put { key: 1, value: 11 },
-            reply: Reply::Was { value: 10 },
-            epoch: 4,
-        },
-    ]
-}
-
-/// What came of the lines of that job.
-pub fn two_puts_outcomes() -> [Outcome; 4] {
-    [
-        Outcome::At { unit: 0, place: 0 },
-        Outcome::Ticked { epoch: 3 },
-        Outcome::Ticked { epoch: 4 },
-        Outcome::At { unit: 0, place: 1 },
-    ]
 }

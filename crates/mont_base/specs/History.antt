@@ -1,5 +1,5 @@
 -- The answered operations of one unit, in their order.
-use Rattle.std.specs.Prelude.{◌≡◌, ℕ, ◌≤◌, List, [], ◌∷◌, All, AllPairs, filter, nat_le}
+use Rattle.std.specs.Prelude.{◌≡◌, ℕ, ◌≤◌, List, [], ◌∷◌, All, AllPairs, filter, nat_le, Some}
 use Rattle.mont_base.specs.declared.constants.TheConstants.{LAST}
 use Rattle.mont_base.specs.declared.operation.Entry.{Entry}
 use Rattle.mont_base.specs.Layout.{Shape}
@@ -15,9 +15,10 @@ abbrev pub RepliesFollow : State → List Entry → Type 0
 RepliesFollow s [] = Unit {0}
 RepliesFollow s (e ∷ es) = (e.reply ≡ (step s e.op).reply) × RepliesFollow (step s e.op).state es
 
--- A legal history of a unit, from a state at a clock (a sequential history of the structure whose epochs never fall).
+-- A legal history of a unit, from a state at a clock (a sequential history of the structure whose
+-- epochs never fall).
 pub record IsLegal (s : Shape) (unit : ℕ) (base : State) (clock : ℕ) (h : List Entry) : Type 0 where
-  pub of_unit : All (λ (e : Entry). unit_of_op s e.op ≡ unit) h
+  pub of_unit : All (λ (e : Entry). unit_of_op s e.op ≡ Some unit) h
   pub replies : RepliesFollow base h
   pub rising : AllPairs (λ (d e : Entry). d.epoch ≤ e.epoch) h
   pub begins : All (λ (e : Entry). clock ≤ e.epoch) h

@@ -1,26 +1,48 @@
--- How the words of a store are divided among its units.
-use Rattle.std.specs.Prelude.{ℕ, ◌+◌, ◌*◌, ◌/◌, ◌%◌, ◌≤◌, nat_lt, ◌==◌, if◌then◌else◌}
-use Rattle.mont_base.specs.declared.constants.TheConstants.{FIELDS}
-use Rattle.mont_base.specs.declared.layout.UnitKind.{UnitKind}
-use Rattle.mont_base.specs.declared.layout.UnitKind.TheVariants as kinds
+-- How the words of a store are divided among its units, and which unit keeps what.
+use Rattle.std.specs.Prelude.{ℕ, ◌+◌, ◌*◌, ◌/◌, ◌%◌, ◌≤◌, Bool, true, false, List, [], ◌∷◌, length, map, codes, slice_index, slice_get, Option, Some, None, if◌then◌else◌}
+use Rattle.std.specs.List.{fold}
+use Rattle.mont_base.specs.declared.constants.TheConstants.{FIELDS, MOST_UNITS, LEAST_SLOTS, MOST_SLOTS}
+use Rattle.mont_base.specs.declared.kinds.UnitKind.{UnitKind}
+use Rattle.mont_base.specs.declared.kinds.UnitKind.TheVariants as kinds
 
--- a number of map units, and the slots of each unit
+-- a kind is spelled by one letter
+abbrev pub letter_of : UnitKind → ℕ
+letter_of kinds.Map = slice_index (codes "m") 0
+letter_of kinds.Queue = slice_index (codes "q") 0
+letter_of kinds.Graph = slice_index (codes "g") 0
+
+-- and stands in an image as a number
+abbrev pub code_of : UnitKind → ℕ
+code_of kinds.Map = 1
+code_of kinds.Queue = 2
+code_of kinds.Graph = 3
+
+abbrev pub letters_of : List UnitKind → List ℕ
+letters_of ks = map letter_of ks
+
+-- a store has one unit at least
+pub record IsKinds (ks : List UnitKind) : Type 0 where
+  pub some : 1 ≤ length ks
+  pub few : length ks ≤ MOST_UNITS
+
+-- the kinds of the units in their order, and the slots of each unit
 pub record Shape : Type 0 where
-  pub maps : ℕ
+  pub kinds : List UnitKind
   pub slots : ℕ
 
-abbrev pub shape : ℕ → ℕ → Shape
-shape maps slots = record { maps = maps; slots = slots }
+abbrev pub shape : List UnitKind → ℕ → Shape
+shape kinds slots = record { kinds = kinds; slots = slots }
 
 pub record IsLayout (s : Shape) : Type 0 where
-  pub some_maps : 1 ≤ s.maps
-  pub few_maps : s.maps ≤ 8
-  pub some_slots : 8 ≤ s.slots
-  pub few_slots : s.slots ≤ 4096
+  pub kinds : IsKinds s.kinds
+  pub some_slots : LEAST_SLOTS ≤ s.slots
+  pub few_slots : s.slots ≤ MOST_SLOTS
 
--- behind the map units come one queue and one graph
 abbrev pub units_of : Shape → ℕ
-units_of s = s.maps + 2
+units_of s = length s.kinds
+
+abbrev pub kind_of : Shape → ℕ → Option UnitKind
+kind_of s unit = slice_get s.kinds unit
 
 abbrev pub total_of : Shape → ℕ
 total_of s = units_of s * s.slots
@@ -29,15 +51,49 @@ total_of s = units_of s * s.slots
 abbrev pub words_of : Shape → ℕ
 words_of s = 1 + FIELDS * total_of s
 
-abbrev pub unit_of_key : Shape → ℕ → ℕ
-unit_of_key s key = key % s.maps
-
 abbrev pub unit_of_slot : Shape → ℕ → ℕ
 unit_of_slot s slot = slot / s.slots
-
-abbrev pub kind_of : Shape → ℕ → UnitKind
-kind_of s unit = if nat_lt unit s.maps then kinds.Map else (if unit == s.maps then kinds.Queue else kinds.Graph)
 
 -- the place of a slot's word among the words of the store
 abbrev pub word_of : ℕ → ℕ → ℕ
 word_of slot field = 1 + FIELDS * slot + field
+
+abbrev pub same_kind : UnitKind → UnitKind → Bool
+same_kind kinds.Map kinds.Map = true
+same_kind kinds.Queue kinds.Queue = true
+same_kind kinds.Graph kinds.Graph = true
+same_kind _ _ = false
+
+-- the units of a kind, in their order, where the first of these kinds is unit n
+abbrev pub units_from : ℕ → UnitKind → List UnitKind → List ℕ
+units_from n kind [] = []
+units_from n kind (k ∷ ks) =
+    if same_kind k kind then n ∷ units_from (n + 1) kind ks else units_from (n + 1) kind ks
+
+abbrev pub map_units : Shape → List ℕ
+map_units s = units_from 0 kinds.Map s.kinds
+
+-- A key's bytes as digits in base 10, modulo the number of map units. The digits 0 to 9 count as
+-- these numbers,
+-- so a number is kept by the same map unit as its decimal digits.
+abbrev pub next_digit : ℕ → ℕ → ℕ → ℕ
+next_digit maps number byte = (number * 10 + (byte + 208) % 256) % maps
+
+abbrev pub key_number : ℕ → List ℕ → ℕ
+key_number maps key = fold (next_digit maps) 0 key
+
+-- the map unit that keeps a key, if there is a map unit
+abbrev pub unit_of_key : Shape → List ℕ → Option ℕ
+unit_of_key s key = slice_get (map_units s) (key_number (length (map_units s)) key)
+
+-- a unit that is named, if it is of the kind
+abbrev pub named_if : Bool → ℕ → Option ℕ
+named_if true unit = Some unit
+named_if false unit = None
+
+abbrev pub is_of_kind : Option UnitKind → UnitKind → Bool
+is_of_kind None kind = false
+is_of_kind (Some k) kind = same_kind k kind
+
+abbrev pub unit_named : Shape → UnitKind → ℕ → Option ℕ
+unit_named s kind unit = named_if (is_of_kind (kind_of s unit) kind) unit

@@ -1,28 +1,56 @@
--- The structures as plain values, and what an operation does to them.
-use Rattle.std.specs.Prelude.{ℕ, List, [], Option, Some, None}
+-- The structures as plain values, and what an operation does to them (their sequential
+-- specification).
+use Rattle.std.specs.Prelude.{ℕ, ◌+◌, Bool, true, false, ◌==◌, ◌&&◌, ◌||◌, not, List, [], ◌∷◌, ◌++◌, length, map, Option, Some, None}
 use Rattle.std.specs.declared.cmp.Ordering.{Ordering}
 use Rattle.std.specs.Ordering.{nat_cmp, ordering_then}
-use Rattle.std.specs.FinMap as map
-use Rattle.mont_base.specs.declared.layout.UnitKind.{UnitKind}
-use Rattle.mont_base.specs.declared.layout.UnitKind.TheVariants as kinds
+use Rattle.std.specs.List.{filter}
+use Rattle.std.specs.FinMap as finite
+use Rattle.mont_base.specs.declared.kinds.UnitKind.{UnitKind}
+use Rattle.mont_base.specs.declared.kinds.UnitKind.TheVariants as kinds
 use Rattle.mont_base.specs.declared.operation.Op.{Op}
-use Rattle.mont_base.specs.declared.operation.Op.TheVariants.{Put, Get}
+use Rattle.mont_base.specs.declared.operation.Op.TheVariants as ops
 use Rattle.mont_base.specs.declared.operation.Reply.{Reply}
-use Rattle.mont_base.specs.declared.operation.Reply.TheVariants.{Nothing, Was}
-use Rattle.mont_base.specs.Layout.{Shape, unit_of_key}
+use Rattle.mont_base.specs.declared.operation.Reply.TheVariants.{Nothing, Was, WasText, Count, NoEnds}
+use Rattle.mont_base.specs.declared.effect.Thing.{Thing}
+use Rattle.mont_base.specs.declared.effect.Thing.TheVariants.{Pair, Item, Vertex, Edge}
+use Rattle.mont_base.specs.declared.effect.Effect.{Effect}
+use Rattle.mont_base.specs.declared.effect.Effect.TheVariants.{Inserts, Replaces, Removes}
+use Rattle.mont_base.specs.Layout.{Shape, unit_of_key, unit_named}
+use Rattle.mont_base.specs.Texts.{text_cmp}
+
+-- keys and values of maps
+abbrev pub Key : Type 0
+Key = List ℕ
+
+abbrev pub Value : Type 0
+Value = List ℕ
+
+abbrev pub key_cmp : Key → Key → Ordering
+key_cmp = text_cmp
 
 -- a finite map from keys to values
 abbrev pub Pairs : Type 0
-Pairs = map.FinMap nat_cmp ℕ
+Pairs = finite.FinMap key_cmp Value
+
+-- vertices with their attributes
+abbrev pub Vertices : Type 0
+Vertices = finite.FinMap nat_cmp ℕ
+
+-- an edge goes from one vertex to another
+abbrev pub Ends : Type 0
+Ends = ℕ × ℕ
 
 -- edges go by the vertex that they leave, and then by the one that they reach
-abbrev pub edge_cmp : ℕ × ℕ → ℕ × ℕ → Ordering
+abbrev pub edge_cmp : Ends → Ends → Ordering
 edge_cmp d e = ordering_then (nat_cmp d.0 e.0) (nat_cmp d.1 e.1)
 
--- vertices with their attributes, and edges with theirs
+-- edges with their attributes
+abbrev pub Edges : Type 0
+Edges = finite.FinMap edge_cmp ℕ
+
 pub record Graph : Type 0 where
-  pub vertices : Pairs
-  pub edges : map.FinMap edge_cmp ℕ
+  pub vertices : Vertices
+  pub edges : Edges
 
 -- the state of a unit of each kind
 pub data State : Type 0 where
@@ -31,31 +59,165 @@ pub data State : Type 0 where
   GraphOf : (graph : Graph) → State
 
 abbrev pub empty_state : UnitKind → State
-empty_state kinds.Map = MapOf map.empty
+empty_state kinds.Map = MapOf finite.empty
 empty_state kinds.Queue = QueueOf []
-empty_state kinds.Graph = GraphOf (record { vertices = map.empty; edges = map.empty })
+empty_state kinds.Graph = GraphOf (record { vertices = finite.empty; edges = finite.empty })
 
--- what an operation leaves, what it is answered, and how many things it inserts, replaces or removes
+abbrev pub is_state_of : UnitKind → State → Bool
+is_state_of kinds.Map (MapOf m) = true
+is_state_of kinds.Queue (QueueOf items) = true
+is_state_of kinds.Graph (GraphOf g) = true
+is_state_of _ _ = false
+
+-- how many things are in it
+abbrev pub size_of : State → ℕ
+size_of (MapOf m) = finite.len m
+size_of (QueueOf items) = length items
+size_of (GraphOf g) = finite.len g.vertices + finite.len g.edges
+
+-- what an operation leaves, what it is answered, and the things that it inserts, replaces and
+-- removes, in their order
 pub record Step : Type 0 where
   pub state : State
   pub reply : Reply
-  pub changes : ℕ
+  pub effects : List Effect
 
-abbrev pub earlier : Option ℕ → Reply
-earlier None = Nothing
-earlier (Some value) = Was value
+-- only an answer
+abbrev pub answered : State → Reply → Step
+answered state reply = record { state = state; reply = reply; effects = [] }
+
+-- a thing is set, which was there or wasn't
+abbrev pub set_effects : Bool → Thing → List Effect
+set_effects true thing = Replaces thing ∷ []
+set_effects false thing = Inserts thing ∷ []
+
+-- ---- maps
+abbrev pub earlier_text : Option Value → Reply
+earlier_text None = Nothing
+earlier_text (Some value) = WasText value
+
+abbrev pub map_del : Pairs → Key → Option Value → Step
+map_del m key None = answered (MapOf m) Nothing
+map_del m key (Some value) =
+    record {
+      state = MapOf (finite.remove m key);
+      reply = WasText value;
+      effects = Removes
+          (Pair key value) ∷ [];
+    }
 
 abbrev pub map_step : Pairs → Op → Step
-map_step m (Put key value) = record { state = MapOf (map.insert m key value); reply = earlier (map.get m key); changes = 1 }
-map_step m (Get key) = record { state = MapOf m; reply = earlier (map.get m key); changes = 0 }
+map_step m (ops.Put key value) = record {
+  state = MapOf (finite.insert m key value);
+  reply = earlier_text (finite.get m key);
+  effects = set_effects (finite.contains_key m key) (Pair key value);
+}
+map_step m (ops.Get key) = answered (MapOf m) (earlier_text (finite.get m key))
+map_step m (ops.Del key) = map_del m key (finite.get m key)
+map_step m _ = answered (MapOf m) Nothing
 
--- no operation of a map is one of a queue or of a graph, so there nothing comes of it
+-- ---- queues
+abbrev pub queue_deq : List ℕ → Step
+queue_deq [] = answered (QueueOf []) Nothing
+queue_deq (item ∷ items) =
+    record { state = QueueOf items; reply = Was item; effects = Removes (Item item) ∷ [] }
+
+abbrev pub queue_step : List ℕ → Op → Step
+queue_step items (ops.Enq unit item) =
+    record
+    { state = QueueOf (items ++ item ∷ []); reply = Nothing; effects = Inserts (Item item) ∷ [] }
+queue_step items (ops.Deq unit) = queue_deq items
+queue_step items (ops.Len unit) = answered (QueueOf items) (Count (length items))
+queue_step items _ = answered (QueueOf items) Nothing
+
+-- ---- graphs
+abbrev pub earlier : Option ℕ → Reply
+earlier None = Nothing
+earlier (Some number) = Was number
+
+abbrev pub touches : ℕ → Ends → Bool
+touches vertex e = (e.0 == vertex) || (e.1 == vertex)
+
+abbrev pub edge_thing : Ends × ℕ → Thing
+edge_thing e = Edge e.0.0 e.0.1 e.1
+
+-- the edges from or to a vertex, by rising ends
+abbrev pub edges_at : Graph → ℕ → List (Ends × ℕ)
+edges_at g vertex = filter (λ (e : Ends × ℕ). touches vertex e.0) (finite.entries g.edges)
+
+-- a vertex goes with every edge from or to it, and these go first
+abbrev pub del_vertex : Graph → ℕ → Option ℕ → Step
+del_vertex g vertex None = answered (GraphOf g) Nothing
+del_vertex g vertex (Some attribute) = record {
+  state = GraphOf (record {
+    vertices = finite.remove g.vertices vertex;
+    edges = finite.retain_keys g.edges (λ e. not (touches vertex e));
+  });
+  reply = Was attribute;
+  effects =
+      map (λ e. Removes (edge_thing e)) (edges_at g vertex)
+      ++ Removes (Vertex vertex attribute) ∷ [];
+}
+
+-- an edge may go from one vertex to another
+abbrev pub can_join : Vertices → Ends → Bool
+can_join vertices e =
+    not (e.0 == e.1) && (finite.contains_key vertices e.0 && finite.contains_key vertices e.1)
+
+abbrev pub add_edge : Graph → Ends → ℕ → Bool → Step
+add_edge g e attribute false = answered (GraphOf g) NoEnds
+add_edge g e attribute true = record {
+  state = GraphOf (record { vertices = g.vertices; edges = finite.insert g.edges e attribute });
+  reply = earlier (finite.get g.edges e);
+  effects = set_effects (finite.contains_key g.edges e) (edge_thing (e, attribute));
+}
+
+abbrev pub del_edge : Graph → Ends → Option ℕ → Step
+del_edge g e None = answered (GraphOf g) Nothing
+del_edge g e (Some attribute) = record {
+  state = GraphOf (record { vertices = g.vertices; edges = finite.remove g.edges e });
+  reply = Was attribute;
+  effects = Removes (edge_thing (e, attribute)) ∷ [];
+}
+
+abbrev pub degree : Graph → ℕ → Bool → Reply
+degree g vertex false = Nothing
+degree g vertex true = Count (length (edges_at g vertex))
+
+abbrev pub graph_step : Graph → Op → Step
+graph_step g (ops.AddV unit vertex attribute) = record {
+  state =
+      GraphOf (record { vertices = finite.insert g.vertices vertex attribute; edges = g.edges });
+  reply = earlier (finite.get g.vertices vertex);
+  effects = set_effects (finite.contains_key g.vertices vertex) (Vertex vertex attribute);
+}
+graph_step g (ops.DelV unit vertex) = del_vertex g vertex (finite.get g.vertices vertex)
+graph_step g (ops.AddE unit from to attribute) =
+    add_edge g (from, to) attribute (can_join g.vertices (from, to))
+graph_step g (ops.DelE unit from to) = del_edge g (from, to) (finite.get g.edges (from, to))
+graph_step g (ops.Vertex unit vertex) =
+    answered (GraphOf g) (earlier (finite.get g.vertices vertex))
+graph_step g (ops.Degree unit vertex) =
+    answered (GraphOf g) (degree g vertex (finite.contains_key g.vertices vertex))
+graph_step g _ = answered (GraphOf g) Nothing
+
+-- An operation of another kind of unit does nothing, and is answered as if nothing was there.
 abbrev pub step : State → Op → Step
 step (MapOf m) op = map_step m op
-step (QueueOf items) op = record { state = QueueOf items; reply = Nothing; changes = 0 }
-step (GraphOf g) op = record { state = GraphOf g; reply = Nothing; changes = 0 }
+step (QueueOf items) op = queue_step items op
+step (GraphOf g) op = graph_step g op
 
--- the unit that an operation belongs to
-abbrev pub unit_of_op : Shape → Op → ℕ
-unit_of_op s (Put key value) = unit_of_key s key
-unit_of_op s (Get key) = unit_of_key s key
+-- the unit that an operation belongs to, if there is one: that of its key, or the one that it names
+abbrev pub unit_of_op : Shape → Op → Option ℕ
+unit_of_op s (ops.Put key value) = unit_of_key s key
+unit_of_op s (ops.Get key) = unit_of_key s key
+unit_of_op s (ops.Del key) = unit_of_key s key
+unit_of_op s (ops.Enq unit item) = unit_named s kinds.Queue unit
+unit_of_op s (ops.Deq unit) = unit_named s kinds.Queue unit
+unit_of_op s (ops.Len unit) = unit_named s kinds.Queue unit
+unit_of_op s (ops.AddV unit vertex attribute) = unit_named s kinds.Graph unit
+unit_of_op s (ops.DelV unit vertex) = unit_named s kinds.Graph unit
+unit_of_op s (ops.AddE unit from to attribute) = unit_named s kinds.Graph unit
+unit_of_op s (ops.DelE unit from to) = unit_named s kinds.Graph unit
+unit_of_op s (ops.Vertex unit vertex) = unit_named s kinds.Graph unit
+unit_of_op s (ops.Degree unit vertex) = unit_named s kinds.Graph unit

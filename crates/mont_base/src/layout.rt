@@ -1,11 +1,15 @@
 // How the words of a store are divided among its units.
-ghost use Rattle.std.specs.Prelude.{◌≡◌, ◌+◌, ◌*◌, ◌<◌, ◌≤◌};
+ghost use Rattle.std.specs.Prelude.{◌≡◌, ◌+◌, ◌*◌, ◌<◌, ◌≤◌, length, slice_get, Some};
 ghost use Rattle.std.specs.Result.{OkIff};
-ghost use Rattle.mont_base.specs.Layout.{IsLayout, units_of, total_of, words_of, unit_of_key, unit_of_slot, kind_of, shape};
+ghost use Rattle.mont_base.specs.Layout.{IsLayout, IsKinds, units_of, total_of, words_of, map_units, unit_of_key, key_number, next_digit, unit_of_slot, kind_of, unit_named, shape, units_from};
 
+use crate::constants::{FIELDS, LEAST_SLOTS, MOST_SLOTS};
+use crate::kinds::{Kinds, UnitKind};
+use crate::text::Text;
 use std::marker::Model;
 
-/// A number of the clock. An operation's payloads carry the epoch in which it was made (Montage, ICPP 2021).
+/// A number of the clock. An operation's payloads carry the epoch in which it was made (Montage,
+/// ICPP 2021).
 pub type Epoch = u64;
 
 /// The number of a unit, which is a structure under one lock.
@@ -14,24 +18,16 @@ pub type Unit = u64;
 /// The number of a slot, counted over the whole store.
 pub type Slot = u64;
 
-/// Numbers that are no layout.
+/// A number of slots that no unit has: fewer than 8 or more than 4096.
 #[derive(Clone, Copy, Debug, PartialEq, Eq)]
 pub struct BadLayout;
 
-/// What kind of structure a unit is.
-#[derive(Clone, Copy, Debug, PartialEq, Eq)]
-pub enum UnitKind {
-    Map,
-    Queue,
-    Graph,
-}
-
-/// A number of map units and the slots of each unit. Behind the map units come one queue and one graph.
+/// The kinds of a store's units, and the slots of each unit.
 ///
-/// Contracts see it as the record of both numbers, which are from 1 to 8 and from 8 to 4096.
+/// Contracts see it as the record of both, whose ranges are 1 to 16 units and 8 to 4096 slots.
 #[derive(Clone, Copy, Debug, PartialEq, Eq)]
 pub struct Layout {
-    maps: u64,
+    kinds: Kinds,
     slots: u64,
 }
 
@@ -40,31 +36,32 @@ impl Model for Layout {
 
     ghost Value = { Shape };
 
-    ghost view = { λ l. shape l.maps l.slots };
+    ghost view = { λ l. shape l.kinds l.slots };
 
-    ghost invariant = { λ l. IsLayout (shape l.maps l.slots) };
+    ghost invariant = { λ l. IsLayout (shape l.kinds l.slots) };
 
-    ghost inverse = { λ s. record { maps = s.maps; slots = s.slots } };
+    ghost inverse = { λ s. record { kinds = s.kinds; slots = s.slots } };
 }
 
 impl Layout {
-    /// The layout of these numbers; `BadLayout` outside their ranges.
-    pub fn new(maps: u64, slots: u64) -> Result<Layout, BadLayout>
-        ensures { OkIff result (IsLayout (shape maps slots)) (shape maps slots) }
+    /// The layout of these units; `BadLayout` where the slots of a unit are out of their range.
+    pub fn new(kinds: Kinds, slots: u64) -> Result<Layout, BadLayout>
+        ensures { OkIff result (IsLayout (shape kinds slots)) (shape kinds slots) }
     {
-        if (1..=8).contains(&maps) && (8..=4096).contains(&slots) {
-            Ok(Layout { maps, slots })
+        let _units = kinds.len();
+        if (LEAST_SLOTS..=MOST_SLOTS).contains(&slots) {
+            Ok(Layout { kinds, slots })
         } else {
             Err(BadLayout)
         }
     }
 
-    /// How many map units there are.
-    pub fn maps(&self) -> u64
-        ensures value { result ≡ self.now.maps }
+    /// The kinds of the units.
+    pub fn kinds(&self) -> Kinds
+        ensures value { result ≡ self.now.kinds }
         ensures layout { IsLayout self.now }
     {
-        self.maps
+        self.kinds
     }
 
     /// How many slots each unit has.
@@ -80,7 +77,7 @@ impl Layout {
         ensures value { result ≡ units_of self.now }
         ensures layout { IsLayout self.now }
     {
-        self.maps + 2
+        self.kinds.len()
     }
 
     /// How many slots all units have.
@@ -96,14 +93,15 @@ impl Layout {
         ensures value { result ≡ words_of self.now }
         ensures layout { IsLayout self.now }
     {
-        1 + 8 * self.total()
+        1 + FIELDS as u64 * self.total()
     }
 
-    /// The map unit that keeps a key.
-    pub fn unit_of_key(&self, key: u64) -> Unit
-        ensures { result ≡ unit_of_key self.now key }
+    /// What kind of structure a unit is.
+    pub fn kind(&self, unit: Unit) -> UnitKind
+        requires { unit < units_of self.now }
+        ensures { kind_of self.now unit ≡ Some result }
     {
-        key % self.maps
+        self.kinds.as_slice()[unit as usize]
     }
 
     /// The unit that a slot belongs to.
@@ -113,17 +111,70 @@ impl Layout {
         slot / self.slots
     }
 
-    /// What kind of structure a unit is.
-    pub fn kind(&self, unit: Unit) -> UnitKind
-        requires { unit < units_of self.now }
-        ensures { result ≡ kind_of self.now unit }
+    /// How many map units there are.
+    pub fn maps(&self) -> u64
+        ensures value { result ≡ length (map_units self.now) }
+        ensures layout { IsLayout self.now }
     {
-        if unit < self.maps {
-            UnitKind::Map
-        } else if unit == self.maps {
-            UnitKind::Queue
+        let mut maps = 0;
+        for kind in self.kinds.as_slice() {
+            if *kind == UnitKind::Map {
+                maps += 1;
+            }
+        }
+        maps
+    }
+
+    /// The map unit that keeps a key. The digits of a number belong to the map unit that the number
+    /// modulo their
+    /// count names.
+    pub fn unit_of_key(&self, key: &Text) -> Unit
+        requires { 0 < length (map_units self.now) }
+        ensures { unit_of_key self.now key.now ≡ Some result }
+    {
+        let number = key_number(self.maps(), key);
+        self.map_unit(number)
+    }
+
+    /// The map unit of a number among the map units, counted from 0.
+    pub fn map_unit(&self, number: u64) -> Unit
+        requires { number < length (map_units self.now) }
+        ensures { slice_get (map_units self.now) number ≡ Some result }
+    {
+        let mut left = number;
+        for (unit, kind) in self.kinds.as_slice().iter().enumerate() {
+            if *kind == UnitKind::Map {
+                if left == 0 {
+                    return unit as u64;
+                }
+                left -= 1;
+            }
+        }
+        unreachable!()
+    }
+
+    /// A unit that is named as one of a kind, if it is one.
+    pub fn named(&self, kind: UnitKind, unit: Unit) -> Option<Unit>
+        ensures { result ≡ unit_named self.now kind unit }
+    {
+        if self.kinds.get(unit) == Some(kind) {
+            Some(unit)
         } else {
-            UnitKind::Graph
+            None
         }
     }
+}
+
+// A key's bytes as digits in base 10, modulo the number of map units.
+fn key_number(maps: u64, key: &Text) -> u64
+    requires some { 0 < maps }
+    requires few { maps ≤ 16 }
+    ensures number { result ≡ key_number maps key.now }
+    ensures below { result < maps }
+{
+    let mut number = 0;
+    for at in 0..key.len() {
+        number = (number * 10 + (u64::from(key.byte(at)) + 208) % 256) % maps;
+    }
+    number
 }

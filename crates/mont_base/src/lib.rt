@@ -1,28 +1,42 @@
-//! The types, traits and definitions of buffered durable structures: layouts, slots, records, operations,
-//! jobs, and the devices that a job is read from and a report is written to.
+//! The types, traits and definitions of buffered durable structures: kinds of units and layouts,
+//! texts, slots,
+//! records, operations and what they do, gates, and the devices that bytes are read from and
+//! written to.
 //!
 //! The definitions that contracts cite stand in `specs/`, one file for each subject.
 #![tactic(auto)]
 
 mod constants;
-mod job;
+mod effect;
+mod gate;
+mod kinds;
 mod layout;
+mod memory;
 mod operation;
 mod record;
+mod refusal;
 mod sequence;
 mod sink;
+mod slot_list;
 mod source;
-mod spelling;
 #[cfg(test)]
 mod tests;
-mod words;
+mod text;
 
-pub use constants::{BODY, FIELDS, LAST};
-pub use job::{Deed, Job, JobFault, Line, Outcome, Stop};
-pub use layout::{BadLayout, Epoch, Layout, Slot, Unit, UnitKind};
+pub use constants::{
+    BODY, EDGE_TAG, FIELDS, FIRST_CLOCK, LABEL, LAST, LEAST_SLOTS, MOST_SLOTS, MOST_UNITS,
+    TEXT_BYTES, VERTEX_TAG,
+};
+pub use effect::{Effect, Thing};
+pub use gate::{Cut, Fuel, Gate, Steady};
+pub use kinds::{BadKinds, Kinds, UnitKind};
+pub use layout::{BadLayout, Epoch, Layout, Slot, Unit};
+pub use memory::Words;
 pub use operation::{Entry, Op, Receipt, Reply};
 pub use record::{Change, Held, Kind, Label, Object, ObjectFault, SlotFault};
+pub use refusal::{CallRefusal, Which};
 pub use sequence::Sequence;
 pub use sink::{MemSink, Sink};
+pub use slot_list::SlotList;
 pub use source::{Failed, MemSource, Source};
-pub use words::Words;
+pub use text::{Text, TextTooLong};

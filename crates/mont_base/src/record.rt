@@ -42,15 +42,25 @@ pub struct Object {
     pub body: [u64; BODY],
 }
 
-/// What an operation does to one payload.
+/// What an operation does to one payload. The slot is that of the identity's live record.
 #[derive(Clone, Copy, Debug, PartialEq, Eq)]
 pub enum Change {
-    Insert { body: [u64; BODY] },
-    Replace { identity: u64, body: [u64; BODY] },
-    Remove { identity: u64 },
+    Insert {
+        body: [u64; BODY],
+    },
+    Replace {
+        slot: Slot,
+        identity: u64,
+        body: [u64; BODY],
+    },
+    Remove {
+        slot: Slot,
+        identity: u64,
+    },
 }
 
-/// Why an open slot can't be read, and which word says so. The order of the variants is that in which they are tried.
+/// Why an open slot can't be read, and which word says so. The order of the variants is that in
+/// which they are tried.
 #[derive(Clone, Copy, Debug, PartialEq, Eq)]
 pub enum SlotFault {
     /// The word at field 1, divided by 256, is no kind.
@@ -68,8 +78,22 @@ pub enum SlotFault {
 pub enum ObjectFault {
     /// A body word that isn't used isn't 0.
     Spare,
-    /// The key belongs to another unit.
+    /// A map's key belongs to another unit.
     Shard,
     /// An object in a lower slot has the key.
     Key,
+    /// A queue's serial is 0, above 2^62, or that of an object in a lower slot.
+    Serial,
+    /// A graph's body is neither a vertex nor an edge.
+    Tag,
+    /// An edge goes to where it begins.
+    Loop,
+    /// An object in a lower slot has the vertex.
+    Vertex,
+    /// An object in a lower slot has the edge.
+    Edge,
+    /// An end of an edge is no vertex.
+    End,
+    /// The words of a map's key or value are no text.
+    Text,
 }

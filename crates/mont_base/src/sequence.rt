@@ -6,7 +6,8 @@ ghost use Rattle.mont_base.specs.contracts.sequence.Sequence.{the_row};
 use std::alloc::{AllocError, Global};
 use std::marker::Model;
 
-/// A vector that contracts see as the list of its items, so that values which hold one can be compared with
+/// A vector that contracts see as the list of its items, so that values which hold one can be
+/// compared with
 /// what a definition computes.
 #[derive(Debug, Drop)]
 pub struct Sequence<T> {
@@ -69,7 +70,8 @@ impl<T> Sequence<T> {
 
     /// The item at a place.
     pub fn get(&self, place: u64) -> Option<&T>
-        ensures { MatchOption result (slice_get self.now place ≡ None) (λ x. slice_get self.now place ≡ Some x.now) }
+        ensures { MatchOption result (slice_get self.now place ≡ None)
+            (λ x. slice_get self.now place ≡ Some x.now) }
     {
         if place < self.len() {
             Some(&self.items[place as usize])
@@ -81,7 +83,8 @@ impl<T> Sequence<T> {
     /// The item at a place, to be changed there.
     pub fn item_mut(&mut self, place: u64) -> &mut T
         requires { place < length self.old }
-        ensures* writes_back { sem 𝓛 (Lends (the_row T.row) T.row self.entry result (slice_set self.old place)) }
+        ensures* writes_back { sem 𝓛
+            (Lends (the_row T.row) T.row self.entry result (slice_set self.old place)) }
         ensures value { slice_get self.old place ≡ Some result.now }
     {
         &mut self.items[place as usize]

@@ -1,7 +1,7 @@
 // Where bytes are written to.
 ghost use Rattle.std.specs.Prelude.{◌≡◌, ◌<◌, ◌≤◌, ◌+◌, ◌-◌, ℕ, List, [], length, Option, Some, IfOk};
 ghost use Rattle.std.specs.Io.KnownBytes.{WriteAppends};
-ghost use Rattle.mont_base.specs.Faults.{HasCause};
+ghost use Rattle.mont_base.specs.Faults.{HasCause, CountsFaults};
 
 use crate::source::Failed;
 use std::alloc::{AllocError, Global};
@@ -15,7 +15,8 @@ pub trait Sink {
     /// How often it failed. It never falls, and stands still at the last value of a `u64`.
     ghost faults: { Self → ℕ };
 
-    /// Takes some bytes from the front of the piece, at least one, and says how many. A failure takes none.
+    /// Takes some bytes from the front of the piece, at least one, and says how many. A failure
+    /// takes none.
     fn write(&mut self, piece: &[u8]) -> Result<usize, Failed>
         requires { 0 < length piece.now }
         ensures bound { IfOk result (λ n. (0 < n) × (n ≤ length piece.now)) }
@@ -23,45 +24,51 @@ pub trait Sink {
         ensures cause { HasCause (faults self.old) (faults self.new) result };
 }
 
-/// A sink in memory whose room is reserved when it is made. It takes at most a stated number of bytes a
-/// call. A call past its room fails, and so do the calls whose numbers are listed; the first call has
+/// A sink in memory whose room is reserved when it is made. It takes at most a stated number of
+/// bytes a
+/// call. A call past its room fails, and so do the calls whose numbers are listed; the first call
+/// has
 /// number 0.
 ///
 /// Contracts see the bytes that it took, its room and the count of faults.
 #[derive(Debug, Drop)]
 pub struct MemSink {
     taken: Vec<u8>,
-    reserved: usize,
-    piece: usize,
+    reserved: u64,
+    piece: u64,
     fail_calls: Vec<u64>,
     calls: u64,
     faults: u64,
 }
 
 impl Model for MemSink {
-    ghost use Rattle.std.specs.Prelude.{◌<◌, ◌≤◌};
+    ghost use Rattle.std.specs.Prelude.{◌<◌, ◌≤◌, length};
     ghost use Rattle.mont_base.specs.Devices.{Writable};
 
     ghost Value = { Writable };
 
-    ghost view = { λ s. record { taken = s.taken.items; reserved = s.reserved; faults = s.faults } };
+    ghost view = { λ s. record {
+      taken = s.taken.items;
+      reserved = s.reserved;
+      faults = s.faults;
+    } };
 
-    ghost invariant = { λ s. 0 < s.piece };
+    ghost invariant = { λ s. (0 < s.piece) × (length s.taken.items ≤ s.reserved) };
 }
 
 impl MemSink {
     /// A sink with room for `reserved` bytes, which takes at most `piece` of them a call.
     pub fn new(
         alloc: Global,
-        reserved: usize,
-        piece: usize,
+        reserved: u64,
+        piece: u64,
         fail_calls: Vec<u64>,
     ) -> Result<MemSink, AllocError>
         requires { 0 < piece }
         ensures { IfOk result (λ s. s ≡ record { taken = []; reserved = reserved; faults = 0 }) }
     {
         Ok(MemSink {
-            taken: Vec::with_capacity(alloc, reserved)?,
+            taken: Vec::with_capacity(alloc, reserved as usize)?,
             reserved,
             piece,
             fail_calls,
@@ -83,11 +90,19 @@ impl Sink for MemSink {
 
     ghost faults = { λ s. s.faults };
 
-    fn write(&mut self, piece: &[u8]) -> Result<usize, Failed> {
+    fn write(&mut self, piece: &[u8]) -> Result<usize, Failed>
+        requires { 0 < length piece.now }
+        ensures bound { IfOk result (λ n. (0 < n) × (n ≤ length piece.now)) }
+        ensures bytes { WriteAppends (Some self.old.taken) (Some self.new.taken) result piece.now }
+        ensures cause { HasCause self.old.faults self.new.faults result }
+        ensures counted { CountsFaults self.old.faults self.new.faults result }
+        ensures room { length self.new.taken ≤ self.new.reserved }
+        ensures reserved { self.new.reserved ≡ self.old.reserved }
+    {
         let call = self.calls;
         self.calls = call.saturating_add(1);
-        let room = self.reserved.saturating_sub(self.taken.len());
-        let count = piece.len().min(self.piece).min(room);
+        let room = self.reserved - self.taken.len() as u64;
+        let count = (piece.len() as u64).min(self.piece).min(room) as usize;
         let fails = self.fail_calls.contains(&call) || count == 0;
         if fails || self.taken.extend_from_slice(&piece[..count]).is_err() {
             self.faults = self.faults.saturating_add(1);

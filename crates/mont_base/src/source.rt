@@ -1,7 +1,7 @@
 // Where bytes are read from.
 ghost use Rattle.std.specs.Prelude.{◌≡◌, ◌<◌, ◌≤◌, ◌+◌, ℕ, List, length, drop, Option, Some, IfOk};
 ghost use Rattle.std.specs.Io.KnownBytes.{ReadConsumes};
-ghost use Rattle.mont_base.specs.Faults.{HasCause};
+ghost use Rattle.mont_base.specs.Faults.{HasCause, CountsFaults};
 
 use std::marker::Model;
 
@@ -17,7 +17,8 @@ pub trait Source {
     /// How often it failed. It never falls, and stands still at the last value of a `u64`.
     ghost faults: { Self → ℕ };
 
-    /// Reads the next bytes into the front of the buffer and says how many. It gives none only at the end.
+    /// Reads the next bytes into the front of the buffer and says how many. It gives none only at
+    /// the end.
     fn read(&mut self, buf: &mut [u8]) -> Result<usize, Failed>
         requires { 0 < length buf.old }
         ensures bound { IfOk result (λ n. n ≤ length buf.new) }
@@ -25,15 +26,16 @@ pub trait Source {
         ensures cause { HasCause (faults self.old) (faults self.new) result };
 }
 
-/// Bytes in memory, given in pieces of a stated size. The calls whose numbers are listed fail; the first
+/// Bytes in memory, given in pieces of a stated size. The calls whose numbers are listed fail; the
+/// first
 /// call has number 0.
 ///
 /// Contracts see the bytes that are left and the count of faults.
 #[derive(Debug, Drop)]
 pub struct MemSource {
     bytes: Vec<u8>,
-    at: usize,
-    piece: usize,
+    at: u64,
+    piece: u64,
     fail_calls: Vec<u64>,
     calls: u64,
     faults: u64,
@@ -52,7 +54,7 @@ impl Model for MemSource {
 
 impl MemSource {
     /// A source of these bytes, of which a call gives at most `piece`.
-    pub fn new(bytes: Vec<u8>, piece: usize, fail_calls: Vec<u64>) -> MemSource
+    pub fn new(bytes: Vec<u8>, piece: u64, fail_calls: Vec<u64>) -> MemSource
         requires { 0 < piece }
         ensures { result ≡ record { left = bytes.items; faults = 0 } }
     {
@@ -72,17 +74,22 @@ impl Source for MemSource {
 
     ghost faults = { λ s. s.faults };
 
-    fn read(&mut self, buf: &mut [u8]) -> Result<usize, Failed> {
+    fn read(&mut self, buf: &mut [u8]) -> Result<usize, Failed>
+        ensures bound { IfOk result (λ n. n ≤ length buf.new) }
+        ensures bytes { ReadConsumes (Some self.old.left) (Some self.new.left) result buf.new }
+        ensures cause { HasCause self.old.faults self.new.faults result }
+        ensures counted { CountsFaults self.old.faults self.new.faults result }
+    {
         let call = self.calls;
         self.calls = call.saturating_add(1);
         if self.fail_calls.contains(&call) {
             self.faults = self.faults.saturating_add(1);
             return Err(Failed);
         }
-        let rest = &self.bytes[self.at..];
-        let count = rest.len().min(self.piece).min(buf.len());
+        let rest = &self.bytes[self.at as usize..];
+        let count = rest.len().min(self.piece as usize).min(buf.len());
         buf[..count].copy_from_slice(&rest[..count]);
-        self.at += count;
+        self.at += count as u64;
         Ok(count)
     }
 }

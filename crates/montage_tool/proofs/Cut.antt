@@ -1,85 +1,136 @@
--- A cut of the history and the records of its puts.
-use Rattle.std.proofs.Common.{◌≡◌, ℕ, List, [], ◌∷◌, ◌++◌, sym, refl, ap, ◌∙◌, subst, Bool, true, false}
-use Rattle.std.specs.Prelude.{map, filter, nat_le, if◌then◌else◌}
+-- What the operations of a history lead to, and the records that its puts leave.
+use Rattle.std.proofs.Common.{◌≡◌, ℕ, List, [], ◌∷◌, ◌++◌, sym, refl, ap, ◌∙◌, Bool, true, false}
+use Rattle.std.specs.Prelude.{nat_le, if◌then◌else◌}
 use Rattle.std.specs.List.{AllByRecursion}
 use Rattle.std.specs.FinMap as finite
+use Rattle.std.proofs.lemmas.List.{append-nil}
+use Rattle.std.proofs.lemmas.List.Elements.{filter-append}
 use Rattle.mont_base.specs.declared.record.Held.{Held}
 use Rattle.mont_base.specs.declared.operation.Entry.{Entry}
 use Rattle.mont_base.specs.declared.operation.Op.{Op}
-use Rattle.mont_base.specs.declared.operation.Op.TheVariants.{Put, Get}
-use Rattle.mont_base.specs.Layout.{Shape}
-use Rattle.mont_base.specs.State.{MapOf, Pairs, step}
+use Rattle.mont_base.specs.declared.operation.Op.TheVariants as ops
+use Rattle.mont_base.specs.State.{State, MapOf, Key, Value, step}
+use Rattle.mont_base.specs.Texts.{IsText}
 use Rattle.mont_base.specs.History.{state_after, cut_at}
-use Rattle.mont_base.specs.Objects.{live_objects, key_of, value_of, IsStructure}
-use Rattle.montage_tool.specs.Log.{Follows, IsLog, set_all, puts_of, puts_of_op, put_of_record, kept_at}
-use Rattle.montage_tool.proofs.NoFault.{structure_of_log}
+use Rattle.mont_laws.specs.Records.{cut_records}
+use Rattle.job_text.specs.JobText.{IsJobOp}
+use Rattle.montage_tool.specs.Log.{value_of, latest, identities, next_record, with_op, records_behind, records_left}
+use Rattle.montage_tool.specs.Machine.{map_after}
+use Rattle.montage_tool.proofs.Keys.{key_of-next, value_of-next}
+use Rattle.montage_tool.proofs.Latest.{epoch_of_next}
+use Rattle.montage_tool.proofs.Live.{set_all, set_all-push}
 
-abbrev pub Puts : Type 0
-Puts = List (ℕ × (ℕ × ℕ))
+-- an operation that a job asks for is a put or a get
+pub job_op : (P : Op → Type 0) (op : Op) → IsJobOp op
+    → ((key : Key) (value : Value) → IsText key × IsText value → P (ops.Put key value))
+    → ((key : Key) → IsText key → P (ops.Get key)) → P op
+job_op P (ops.Put key value) is put get = put key value is
+job_op P (ops.Get key) is put get = get key is
+job_op P (ops.Del key) is put get = absurd is
+job_op P (ops.Enq unit item) is put get = absurd is
+job_op P (ops.Deq unit) is put get = absurd is
+job_op P (ops.Len unit) is put get = absurd is
+job_op P (ops.AddV unit vertex attr) is put get = absurd is
+job_op P (ops.DelV unit vertex) is put get = absurd is
+job_op P (ops.AddE unit from to attr) is put get = absurd is
+job_op P (ops.DelE unit from to) is put get = absurd is
+job_op P (ops.Vertex unit vertex) is put get = absurd is
+job_op P (ops.Degree unit vertex) is put get = absurd is
 
--- the pairs after these puts, in their order
-abbrev pub set_puts : Pairs → Puts → Pairs
-set_puts m [] = m
-set_puts m (p ∷ ps) = set_puts (finite.insert m p.1.0 p.1.1) ps
-
-abbrev puts_at : ℕ → Puts → Puts
-puts_at x ps = filter (λ (p : ℕ × (ℕ × ℕ)). nat_le p.0 x) ps
-
-pub state_of_puts : (m : Pairs) (h : List Entry) → state_after (MapOf m) h ≡ MapOf (set_puts m (puts_of h))
-state_of_puts m [] = refl
-state_of_puts m (e ∷ h) = by_op (λ n. state_of_puts n h) e.op
+-- one more record, which is kept or isn't
+cut_push : (x : ℕ) (rs : List Held) (r : Held)
+    → cut_records x (rs ++ r ∷ []) ≡ (if nat_le r.label.epoch x then cut_records x rs ++ r ∷ [] else cut_records x rs)
+cut_push x rs r = filter-append (λ (q : Held). nat_le q.label.epoch x) rs (r ∷ []) ∙ kept (nat_le r.label.epoch x)
   where
-    by_op : ((n : Pairs) → state_after (MapOf n) h ≡ MapOf (set_puts n (puts_of h))) → (op : Op) → state_after (step (MapOf m) op).state h ≡ MapOf (set_puts m (puts_of_op e.epoch op ++ puts_of h))
-    by_op behind (Put key value) = behind (finite.insert m key value)
-    by_op behind (Get key) = behind m
+    kept : (b : Bool) → cut_records x rs ++ (if b then r ∷ [] else []) ≡ (if b then cut_records x rs ++ r ∷ [] else cut_records x rs)
+    kept true = refl
+    kept false = append-nil (cut_records x rs)
 
-pub set_all-puts : (m : Pairs) (rs : List Held) → set_all m rs ≡ set_puts m (map put_of_record rs)
-set_all-puts m [] = refl
-set_all-puts m (r ∷ rs) = set_all-puts (finite.insert m (key_of r.body) (value_of r.body)) rs
+-- the pair of the next record is set behind these
+put_next : (ps rs : List Held) (epoch : ℕ) (key : Key) (value : Value) → IsText key × IsText value
+    → set_all finite.empty (ps ++ next_record rs epoch key value ∷ []) ≡ finite.insert (set_all finite.empty ps) key value
+put_next ps rs epoch key value texts =
+    let r : Held = next_record rs epoch key value in
+    set_all-push finite.empty ps r
+    ∙ ap (λ (k : Key). finite.insert (set_all finite.empty ps) k (value_of r)) (key_of-next rs epoch key value texts)
+    ∙ ap (λ (v : Value). finite.insert (set_all finite.empty ps) key v) (value_of-next rs epoch key value texts)
 
-puts_of_kept : (x : ℕ) (rs : List Held) → map put_of_record (kept_at x rs) ≡ puts_at x (map put_of_record rs)
-puts_of_kept x [] = refl
-puts_of_kept x (r ∷ rs) = by_test (puts_of_kept x rs) (nat_le r.label.epoch x)
+-- ---- the whole history
+abbrev state_of : List Held → State
+state_of rs = MapOf (set_all finite.empty rs)
+
+op_state : (rs : List Held) (epoch : ℕ) (op : Op) → IsJobOp op → (step (state_of rs) op).state ≡ state_of (with_op rs epoch op)
+op_state rs epoch op is =
+    job_op (λ (o : Op). (step (state_of rs) o).state ≡ state_of (with_op rs epoch o)) op is
+    (λ key value texts. ap MapOf (sym (put_next rs rs epoch key value texts)))
+    (λ key text. refl)
+
+after_behind : (rs : List Held) (h : List Entry) → AllByRecursion (λ (e : Entry). IsJobOp e.op) h
+    → state_after (state_of rs) h ≡ state_of (records_behind rs h)
+after_behind rs [] asked = refl
+after_behind rs (e ∷ h) asked =
+    ap (λ (s : State). state_after s h) (op_state rs e.epoch e.op asked.0) ∙ after_behind (with_op rs e.epoch e.op) h asked.1
+
+pub state_of_left : (h : List Entry) → AllByRecursion (λ (e : Entry). IsJobOp e.op) h
+    → map_after h ≡ MapOf (set_all finite.empty (records_left h))
+state_of_left h asked = after_behind [] h asked
+
+-- ---- the history up to an epoch
+abbrev cut_state : ℕ → List Held → State
+cut_state x rs = state_of (cut_records x rs)
+
+cut_op : (x : ℕ) (rs : List Held) (epoch : ℕ) (op : Op) → IsJobOp op
+    → (if nat_le epoch x then (step (cut_state x rs) op).state else cut_state x rs) ≡ cut_state x (with_op rs epoch op)
+cut_op x rs epoch op is =
+    job_op (λ (o : Op). (if nat_le epoch x then (step (cut_state x rs) o).state else cut_state x rs) ≡ cut_state x (with_op rs epoch o))
+    op is put (λ key text. same (nat_le epoch x))
   where
-    by_test : map put_of_record (kept_at x rs) ≡ puts_at x (map put_of_record rs) → (b : Bool) → map put_of_record (if b then r ∷ kept_at x rs else kept_at x rs) ≡ (if b then put_of_record r ∷ puts_at x (map put_of_record rs) else puts_at x (map put_of_record rs))
-    by_test behind true = ap (λ (ps : Puts). put_of_record r ∷ ps) behind
-    by_test behind false = behind
+    same : (b : Bool) → (if b then cut_state x rs else cut_state x rs) ≡ cut_state x rs
+    same true = refl
+    same false = refl
 
-puts_of_cut : (x : ℕ) (h : List Entry) → puts_of (cut_at x h) ≡ puts_at x (puts_of h)
-puts_of_cut x [] = refl
-puts_of_cut x (e ∷ h) = inside (nat_le e.epoch x) ∙ by_op (puts_of_cut x h) (nat_le e.epoch x) refl e.op
+    put : (key : Key) (value : Value) → IsText key × IsText value
+        → (if nat_le epoch x then MapOf (finite.insert (set_all finite.empty (cut_records x rs)) key value) else cut_state x rs)
+        ≡ cut_state x (rs ++ next_record rs epoch key value ∷ [])
+    put key value texts = by_test (nat_le epoch x) ∙ ap state_of (sym pushed)
+      where
+        r : Held
+        r = next_record rs epoch key value
+
+        pushed : cut_records x (rs ++ r ∷ []) ≡ (if nat_le epoch x then cut_records x rs ++ r ∷ [] else cut_records x rs)
+        pushed =
+            cut_push x rs r
+            ∙ ap (λ (e : ℕ). if nat_le e x then cut_records x rs ++ r ∷ [] else cut_records x rs)
+            (epoch_of_next epoch (identities rs) (latest key rs))
+
+        by_test : (b : Bool)
+            → (if b then MapOf (finite.insert (set_all finite.empty (cut_records x rs)) key value) else cut_state x rs)
+            ≡ state_of (if b then cut_records x rs ++ r ∷ [] else cut_records x rs)
+        by_test true = ap MapOf (sym (put_next (cut_records x rs) rs epoch key value texts))
+        by_test false = refl
+
+cut_behind : (x : ℕ) (rs : List Held) (h : List Entry) → AllByRecursion (λ (e : Entry). IsJobOp e.op) h
+    → state_after (cut_state x rs) (cut_at x h) ≡ cut_state x (records_behind rs h)
+cut_behind x rs [] asked = refl
+cut_behind x rs (e ∷ h) asked =
+    inside (nat_le e.epoch x)
+    ∙ ap (λ (s : State). state_after s (cut_at x h)) (cut_op x rs e.epoch e.op asked.0)
+    ∙ cut_behind x (with_op rs e.epoch e.op) h asked.1
   where
-    inside : (b : Bool) → puts_of (if b then e ∷ cut_at x h else cut_at x h) ≡ (if b then puts_of_op e.epoch e.op ++ puts_of (cut_at x h) else puts_of (cut_at x h))
+    inside : (b : Bool) → state_after (cut_state x rs) (if b then e ∷ cut_at x h else cut_at x h)
+        ≡ state_after (if b then (step (cut_state x rs) e.op).state else cut_state x rs) (cut_at x h)
     inside true = refl
     inside false = refl
 
-    by_op : puts_of (cut_at x h) ≡ puts_at x (puts_of h) → (b : Bool) → nat_le e.epoch x ≡ b → (op : Op) → (if b then puts_of_op e.epoch op ++ puts_of (cut_at x h) else puts_of (cut_at x h)) ≡ puts_at x (puts_of_op e.epoch op ++ puts_of h)
-    by_op behind true is (Put key value) = ap (λ (ps : Puts). (e.epoch, (key, value)) ∷ ps) behind ∙ ap (λ (t : Bool). if t then (e.epoch, (key, value)) ∷ puts_at x (puts_of h) else puts_at x (puts_of h)) (sym is)
-    by_op behind false is (Put key value) = behind ∙ ap (λ (t : Bool). if t then (e.epoch, (key, value)) ∷ puts_at x (puts_of h) else puts_at x (puts_of h)) (sym is)
-    by_op behind true is (Get key) = behind
-    by_op behind false is (Get key) = behind
+pub state_of_cut : (x : ℕ) (h : List Entry) → AllByRecursion (λ (e : Entry). IsJobOp e.op) h
+    → state_after (MapOf finite.empty) (cut_at x h) ≡ MapOf (set_all finite.empty (cut_records x (records_left h)))
+state_of_cut x h asked = cut_behind x [] h asked
 
-pub follows_kept : (x : ℕ) (r : Held) (qs : List Held) → AllByRecursion (Follows r) qs → AllByRecursion (Follows r) (kept_at x qs)
-follows_kept x r [] all = tt
-follows_kept x r (q ∷ qs) all = by_test (follows_kept x r qs all.1) (nat_le q.label.epoch x)
-  where
-    by_test : AllByRecursion (Follows r) (kept_at x qs) → (b : Bool) → AllByRecursion (Follows r) (if b then q ∷ kept_at x qs else kept_at x qs)
-    by_test behind true = (all.0, behind)
-    by_test behind false = behind
+-- ---- one more entry
+behind_push : (rs : List Held) (h : List Entry) (e : Entry)
+    → records_behind rs (h ++ e ∷ []) ≡ with_op (records_behind rs h) e.epoch e.op
+behind_push rs [] e = refl
+behind_push rs (d ∷ h) e = behind_push (with_op rs d.epoch d.op) h e
 
--- the records of a log up to an epoch are a log
-pub log_kept : (x : ℕ) (rs : List Held) → IsLog rs → IsLog (kept_at x rs)
-log_kept x [] log = tt
-log_kept x (r ∷ rs) log = by_test (log_kept x rs log.2) (nat_le r.label.epoch x)
-  where
-    by_test : IsLog (kept_at x rs) → (b : Bool) → IsLog (if b then r ∷ kept_at x rs else kept_at x rs)
-    by_test behind true = (log.0, follows_kept x r rs log.1, behind)
-    by_test behind false = behind
-
--- where the puts of a history are those of a log, the records up to an epoch make the state of the history's cut there
-pub structure_of_cut : (s : Shape) → s.maps ≡ 1 → (rs : List Held) (h : List Entry) (x : ℕ) → IsLog rs → map put_of_record rs ≡ puts_of h → IsStructure s 0 (live_objects (kept_at x rs)) (state_after (MapOf finite.empty) (cut_at x h))
-structure_of_cut s one rs h x log same =
-    subst (IsStructure s 0 (live_objects (kept_at x rs))) (
-    ap MapOf (set_all-puts finite.empty (kept_at x rs) ∙ ap (set_puts finite.empty) (puts_of_kept x rs ∙ ap (puts_at x) same ∙ sym (puts_of_cut x h)))
-    ∙ sym (state_of_puts finite.empty (cut_at x h))
-    ) (structure_of_log s one (kept_at x rs) (log_kept x rs log))
+pub left_push : (h : List Entry) (e : Entry) → records_left (h ++ e ∷ []) ≡ with_op (records_left h) e.epoch e.op
+left_push h e = behind_push [] h e

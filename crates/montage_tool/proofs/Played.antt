@@ -1,44 +1,31 @@
 -- One more line of a run.
-use Rattle.std.proofs.Common.{◌≡◌, ℕ, zero, suc, ◌+◌, ◌<◌, ◌≤◌, ◌⊎◌, List, [], ◌∷◌, ◌++◌, length, take, sym, refl, ap, ◌∙◌, subst, inl, inr, ⊎_elim, arith, length-append, zero-add, get_or, Bool, true, false}
+use Rattle.std.proofs.Common.{◌≡◌, ℕ, zero, suc, ◌+◌, ◌-◌, ◌<◌, ◌≤◌, ◌⊎◌, List, [], ◌∷◌, ◌++◌, length, take, replicate, sym, refl, ap, ◌∙◌, subst, inl, inr, ⊎_elim, arith, length-append, get_or, Bool, true, false}
 use Rattle.std.specs.Prelude.{Some, All, slice_get, count_by, ◌&&◌, ◌==◌, if◌then◌else◌}
-use Rattle.std.proofs.lemmas.Bool.{and_right}
+use Rattle.std.proofs.lemmas.Bool.{and_right, cases_lt}
 use Rattle.std.proofs.lemmas.Bool.Decides.{nat_tests}
 use Rattle.std.proofs.lemmas.List.{take-append-le}
 use Rattle.std.proofs.Math.Seq.{take-append_seam}
 use Rattle.std.proofs.lemmas.List.Elements.{All-push}
-use Rattle.std.proofs.lemmas.List.Sums.{sum_by_push, sum_by-append}
+use Rattle.std.proofs.lemmas.List.Sums.{sum_by_push, sum_by-cons}
 use Rattle.std.proofs.lemmas.List.Quantifiers.{all_pairs_push}
 use Rattle.std.proofs.lemmas.Option.{same_Some, slice_get_within}
+use Rattle.mont_base.specs.declared.constants.TheConstants.{FIRST_CLOCK}
 use Rattle.mont_base.specs.declared.operation.Entry.{Entry}
 use Rattle.mont_base.specs.declared.operation.Op.{Op}
-use Rattle.mont_base.specs.declared.job.Line.{Line}
-use Rattle.mont_base.specs.declared.job.Deed.{Deed}
-use Rattle.mont_base.specs.declared.job.Deed.TheVariants.{Call, Tick}
-use Rattle.mont_base.specs.declared.job.Outcome.{Outcome}
-use Rattle.mont_base.specs.declared.job.Outcome.TheVariants.{At, Ticked}
-use Rattle.mont_base.specs.Layout.{Shape}
+use Rattle.mont_base.specs.Layout.{Shape, units_of}
 use Rattle.mont_base.specs.State.{unit_of_op}
-use Rattle.mont_base.specs.Report.{Report, IsEntryAt, Answers, InOrder, is_at, names}
-use Rattle.montage_tool.specs.Run.{made, IsReached, Played}
+use Rattle.mont_base.specs.Seen.{IsEntryAt}
+use Rattle.job_text.specs.declared.job.Line.{Line}
+use Rattle.job_text.specs.declared.job.Deed.{Deed}
+use Rattle.job_text.specs.declared.job.Deed.TheVariants.{Call, Tick}
+use Rattle.job_text.specs.declared.outcome.Outcome.{Outcome}
+use Rattle.job_text.specs.declared.outcome.Outcome.TheVariants.{At, Ticked}
+use Rattle.job_text.specs.Report.{Answers, InOrder, ShowsEpoch, place_of, tick_of, is_at, names_entry}
+use Rattle.montage_tool.specs.Run.{so_far, IsReached, Played}
 
--- the entries of the one unit that has any
-pub entry_of : (s : Shape) (h : List Entry) (clock unit place : ℕ) (e : Entry) → IsEntryAt (made s h [] clock []) unit place e → (unit ≡ 0) × (slice_get h place ≡ Some e)
-entry_of s h clock zero place e at = (refl, subst (λ (g : List Entry). slice_get g place ≡ Some e) (sym (same_Some h at.0 at.1)) at.2)
-entry_of s h clock (suc zero) place e at = let none : [] ≡ at.0 = same_Some [] at.0 at.1 in absurd (no_entry (subst (λ (g : List Entry). slice_get g place ≡ Some e) (sym none) at.2))
-  where
-    no_entry : slice_get {X = Entry} [] place ≡ Some e → ⊥
-    no_entry f = cc
-entry_of s h clock (suc (suc zero)) place e at = let none : [] ≡ at.0 = same_Some [] at.0 at.1 in absurd (no_entry (subst (λ (g : List Entry). slice_get g place ≡ Some e) (sym none) at.2))
-  where
-    no_entry : slice_get {X = Entry} [] place ≡ Some e → ⊥
-    no_entry f = cc
-entry_of s h clock (suc (suc (suc unit))) place e at = let f = at.1 in absurd (cc)
-
-pub entry_here : (s : Shape) (h : List Entry) (clock unit place : ℕ) (e : Entry) → unit ≡ 0 → slice_get h place ≡ Some e → IsEntryAt (made s h [] clock []) unit place e
-entry_here s h clock unit place e zeroth at = subst (λ (u : ℕ). IsEntryAt (made s h [] clock []) u place e) (sym zeroth) (h, refl, at)
-
+-- ---- lists
 module _ {A : Type 0} where
-  get_left : (xs ys : List A) (n : ℕ) → n < length xs → slice_get (xs ++ ys) n ≡ slice_get xs n
+  pub get_left : (xs ys : List A) (n : ℕ) → n < length xs → slice_get (xs ++ ys) n ≡ slice_get xs n
   get_left [] ys n low = absurd (omega arith)
   get_left (x ∷ xs) ys zero low = refl
   get_left (x ∷ xs) ys (suc n) low = get_left xs ys n (omega arith)
@@ -47,207 +34,278 @@ module _ {A : Type 0} where
   get_last [] x = refl
   get_last (y ∷ xs) x = get_last xs x
 
-  get_or-slice_get : (xs : List A) (n : ℕ) (x : A) → slice_get xs n ≡ Some x → get_or xs n x ≡ x
+  pub get_or-slice_get : (xs : List A) (n : ℕ) (x : A) → slice_get xs n ≡ Some x → get_or xs n x ≡ x
   get_or-slice_get [] n x at = refl
   get_or-slice_get (y ∷ xs) zero x at = same_Some y x at
   get_or-slice_get (y ∷ xs) (suc n) x at = get_or-slice_get xs n x at
 
   -- an item behind one more is one of the others or that one
-  push_cases : (xs : List A) (x y : A) (n : ℕ) → slice_get (xs ++ x ∷ []) n ≡ Some y → ((n < length xs) × (slice_get xs n ≡ Some y)) ⊎ ((n ≡ length xs) × (x ≡ y))
+  push_cases : (xs : List A) (x y : A) (n : ℕ) → slice_get (xs ++ x ∷ []) n ≡ Some y
+      → ((n < length xs) × (slice_get xs n ≡ Some y)) ⊎ ((n ≡ length xs) × (x ≡ y))
   push_cases [] x y zero at = inr (refl, same_Some x y at)
   push_cases [] x y (suc n) at = absurd (cc)
   push_cases (z ∷ xs) x y zero at = inl (omega arith, at)
-  push_cases (z ∷ xs) x y (suc n) at = ⊎_elim (λ (t : (n < length xs) × (slice_get xs n ≡ Some y)). let low = t.0 in inl (omega arith, t.1)) (λ (t : (n ≡ length xs) × (x ≡ y)). inr (ap suc t.0, t.1)) (push_cases xs x y n at)
+  push_cases (z ∷ xs) x y (suc n) at =
+      ⊎_elim
+      (λ (t : (n < length xs) × (slice_get xs n ≡ Some y)). let low = t.0 in inl (omega arith, t.1))
+      (λ (t : (n ≡ length xs) × (x ≡ y)). inr (ap suc t.0, t.1))
+      (push_cases xs x y n at)
 
   pub count_push : (p : A → Bool) (xs : List A) (x : A) → count_by p (xs ++ x ∷ []) ≡ count_by p xs + (if p x then 1 else 0)
   count_push p xs x = sum_by_push (λ (y : A). if p y then 1 else 0) xs x
 
   count_cons : (p : A → Bool) (x : A) (xs : List A) → count_by p (x ∷ xs) ≡ (if p x then 1 else 0) + count_by p xs
-  count_cons p x xs = sum_by-append (λ (y : A). if p y then 1 else 0) (x ∷ []) xs ∙ ap (λ (n : ℕ). n + count_by p xs) (zero-add (if p x then 1 else 0))
+  count_cons p x xs = sum_by-cons (λ (y : A). if p y then 1 else 0) x xs
 
--- an entry of a longer history that stands where the shorter one goes
-entry_back : (s : Shape) (h : List Entry) (x : Entry) (clock clock' unit place : ℕ) (e : Entry) → unit ≡ 0 → place < length h → IsEntryAt (made s (h ++ x ∷ []) [] clock' []) unit place e → IsEntryAt (made s h [] clock []) unit place e
-entry_back s h x clock clock' unit place e zeroth low at = entry_here s h clock unit place e zeroth (sym (get_left h (x ∷ []) place low) ∙ (entry_of s (h ++ x ∷ []) clock' unit place e at).1)
+-- ---- the entries of the one unit that has any
+pub nothing_else : {A : Type 0} (n i : ℕ) (g : List A) → slice_get (replicate n []) i ≡ Some g → [] ≡ g
+nothing_else zero i g at = absurd (cc)
+nothing_else (suc n) zero g at = same_Some [] g at
+nothing_else (suc n) (suc i) g at = nothing_else n i g at
 
-entry_on : (s : Shape) (h : List Entry) (x : Entry) (clock clock' unit place : ℕ) (e : Entry) → IsEntryAt (made s h [] clock []) unit place e → IsEntryAt (made s (h ++ x ∷ []) [] clock' []) unit place e
-entry_on s h x clock clock' unit place e at =
-    let f = entry_of s h clock unit place e at in
-    entry_here s (h ++ x ∷ []) clock' unit place e f.0 (get_left h (x ∷ []) place (slice_get_within h place e f.1) ∙ f.1)
-
-answer_on : (s : Shape) (h : List Entry) (x : Entry) (clock clock' : ℕ) (before : List Outcome) (deed : Deed) (o : Outcome) → clock ≤ clock' → Answers (made s h [] clock []) 0 before deed o → Answers (made s (h ++ x ∷ []) [] clock' []) 0 before deed o
-answer_on s h x clock clock' before (Call op) (At unit place) later a = record {
-  of_unit = a.of_unit;
-  entry = a.entry;
-  there = entry_on s h x clock clock' unit place a.entry a.there;
-  by = a.by;
-  number = a.number;
-  asked = a.asked;
-}
-answer_on s h x clock clock' before (Call op) (Ticked epoch) later a = absurd a
-answer_on s h x clock clock' before Tick (At unit place) later a = absurd a
-answer_on s h x clock clock' before Tick (Ticked epoch) later a = (a.0, let past = a.1 in omega arith)
-
-order_on : (s : Shape) (h : List Entry) (x : Entry) (clock clock' : ℕ) (o p : Outcome) → IsReached h clock o → IsReached h clock p → InOrder (made s h [] clock []) o p → InOrder (made s (h ++ x ∷ []) [] clock' []) o p
-order_on s h x clock clock' (At u m) (At v n) a b t = ((λ d e at there. t.0 d e (entry_back s h x clock clock' u m d a.0 a.1 at) (entry_back s h x clock clock' v n e b.0 b.1 there)), t.1)
-order_on s h x clock clock' (At u m) (Ticked epoch) a b t = λ d at. t d (entry_back s h x clock clock' u m d a.0 a.1 at)
-order_on s h x clock clock' (Ticked epoch) (At v n) a b t = λ e at. t e (entry_back s h x clock clock' v n e b.0 b.1 at)
-order_on s h x clock clock' (Ticked d) (Ticked e) a b t = t
-
--- the same where the history stays and the clock moves
-answer_later : (s : Shape) (h : List Entry) (clock clock' : ℕ) (before : List Outcome) (deed : Deed) (o : Outcome) → clock ≤ clock' → Answers (made s h [] clock []) 0 before deed o → Answers (made s h [] clock' []) 0 before deed o
-answer_later s h clock clock' before (Call op) (At unit place) later a = record { of_unit = a.of_unit; entry = a.entry; there = a.there; by = a.by; number = a.number; asked = a.asked }
-answer_later s h clock clock' before (Call op) (Ticked epoch) later a = absurd a
-answer_later s h clock clock' before Tick (At unit place) later a = absurd a
-answer_later s h clock clock' before Tick (Ticked epoch) later a = (a.0, let past = a.1 in omega arith)
-
-order_later : (s : Shape) (h : List Entry) (clock clock' : ℕ) (o p : Outcome) → InOrder (made s h [] clock []) o p → InOrder (made s h [] clock' []) o p
-order_later s h clock clock' (At u m) (At v n) t = t
-order_later s h clock clock' (At u m) (Ticked epoch) t = t
-order_later s h clock clock' (Ticked epoch) (At v n) t = t
-order_later s h clock clock' (Ticked d) (Ticked e) t = t
-
-reached_on : (h : List Entry) (x : Entry) (clock : ℕ) (o : Outcome) → IsReached h clock o → IsReached (h ++ x ∷ []) clock o
-reached_on h x clock (At u n) r = (r.0, let low = r.1 in omega (arith, length-append h (x ∷ [])))
-reached_on h x clock (Ticked e) r = r
-
-reached_later : (h : List Entry) (clock clock' : ℕ) (o : Outcome) → clock ≤ clock' → IsReached h clock o → IsReached h clock' o
-reached_later h clock clock' (At u n) later r = r
-reached_later h clock clock' (Ticked e) later r = omega arith
-
--- no outcome so far names a place that isn't there
-unnamed : (h : List Entry) (clock : ℕ) (os : List Outcome) → All (IsReached h clock) os → count_by (names 0 (length h)) os ≡ 0
-unnamed h clock [] all = refl
-unnamed h clock (o ∷ os) all = count_cons (names 0 (length h)) o os ∙ by_kind o (all 0 o (omega arith)) (unnamed h clock os (λ k d low. all (suc k) d (omega arith)))
+pub entry_of : (h : List Entry) (n unit place : ℕ) (e : Entry) → IsEntryAt (h ∷ replicate n []) unit place e
+    → (unit ≡ 0) × (slice_get h place ≡ Some e)
+entry_of h n zero place e at = (refl, subst (λ (g : List Entry). slice_get g place ≡ Some e) (sym (same_Some h at.0 at.1)) at.2)
+entry_of h n (suc unit) place e at =
+    absurd (no_entry (subst (λ (g : List Entry). slice_get g place ≡ Some e) (sym (nothing_else n unit at.0 at.1)) at.2))
   where
-    by_kind : (p : Outcome) → IsReached h clock p → count_by (names 0 (length h)) os ≡ 0 → (if names 0 (length h) p then 1 else 0) + count_by (names 0 (length h)) os ≡ 0
+    no_entry : slice_get {X = Entry} [] place ≡ Some e → ⊥
+    no_entry f = cc
+
+entry_here :
+    (h : List Entry) (n unit place : ℕ) (e : Entry) → unit ≡ 0 → slice_get h place ≡ Some e → IsEntryAt (h ∷ replicate n []) unit place e
+entry_here h n unit place e zeroth at = subst (λ (u : ℕ). IsEntryAt (h ∷ replicate n []) u place e) (sym zeroth) (h, refl, at)
+
+-- an entry is as old as those of its history
+pub past_at :
+    (clock : ℕ) (h : List Entry) (place : ℕ) (e : Entry) → All (λ (d : Entry). d.epoch ≤ clock) h → slice_get h place ≡ Some e
+    → e.epoch ≤ clock
+past_at clock h place e past at =
+    subst (λ (d : Entry). d.epoch ≤ clock) (get_or-slice_get h place e at) (past place e (slice_get_within h place e at))
+
+-- ---- a history that grew, and a clock that may have moved
+module _
+    (s : Shape) (h g : List Entry) (clock later : ℕ) (longer : length h ≤ length g)
+    (same : (n : ℕ) → n < length h → slice_get g n ≡ slice_get h n) (on : clock ≤ later) where
+  others : ℕ
+  others = units_of s - 1
+
+  reached_on : (o : Outcome) → IsReached h clock o → IsReached g later o
+  reached_on (At u n) r = let low = r.1 in (r.0, omega arith)
+  reached_on (Ticked e) r = omega arith
+
+  answer_on :
+      (before : List Outcome) (deed : Deed) (o : Outcome) → Answers (so_far s h clock) 0 before deed o
+      → Answers (so_far s g later) 0 before deed o
+  answer_on before (Call op) (At unit place) a =
+      let at = entry_of h (units_of s - 1) unit place a.entry a.there in
+      record {
+        of_unit = a.of_unit;
+        entry = a.entry;
+        there = entry_here g (units_of s - 1) unit place a.entry at.0
+            (same place (slice_get_within h place a.entry at.1) ∙ at.1);
+        by = a.by;
+        number = a.number;
+        asked = a.asked;
+      }
+  answer_on before (Call op) (Ticked epoch) a = absurd a
+  answer_on before Tick (At unit place) a = absurd a
+  answer_on before Tick (Ticked epoch) a = (a.0, let past = a.1 in omega arith)
+
+  -- what an outcome shows, it showed before
+  shown_back : (o : Outcome) (epoch : ℕ) → IsReached h clock o → ShowsEpoch (g ∷ replicate (units_of s - 1) []) o epoch
+      → ShowsEpoch (h ∷ replicate (units_of s - 1) []) o epoch
+  shown_back (At unit place) epoch r shown =
+      let at = entry_of g (units_of s - 1) unit place shown.0 shown.1 in
+      (shown.0, entry_here h (units_of s - 1) unit place shown.0 at.0 (sym (same place r.1) ∙ at.1), shown.2)
+  shown_back (Ticked now) epoch r shown = shown
+
+  -- and it isn't above the clock
+  pub shown_low : All (λ (d : Entry). d.epoch ≤ clock) h → (o : Outcome) (epoch : ℕ) → IsReached h clock o
+      → ShowsEpoch (g ∷ replicate (units_of s - 1) []) o epoch → epoch ≤ clock
+  shown_low past (At unit place) epoch r shown =
+      let back = shown_back (At unit place) epoch r shown in
+      let at = entry_of h (units_of s - 1) unit place back.0 back.1 in
+      let low = past_at clock h place back.0 past at.1 in
+      let is = back.2 in
+      omega arith
+  shown_low past (Ticked now) epoch r shown = omega arith
+
+  order_on : (o p : Outcome) → IsReached h clock o → IsReached h clock p → InOrder (so_far s h clock) o p → InOrder (so_far s g later) o p
+  order_on o p r q t = record {
+    epochs = λ d e first second. t.epochs d e (shown_back o d r first) (shown_back p e q second);
+    places = t.places;
+    ticks = t.ticks;
+  }
+
+  -- one more line, with its outcome
+  module _ (lines : List Line) (os : List Outcome) (l : Line) (new : Outcome) (p : Played s h clock lines os) where
+    answers_push : Answers (so_far s g later) 0 os l.deed new → (i : ℕ) (k : Line) (o : Outcome)
+        → slice_get (lines ++ l ∷ []) i ≡ Some k → slice_get (os ++ new ∷ []) i ≡ Some o
+        → Answers (so_far s g later) 0 (take i (os ++ new ∷ [])) k.deed o
+    answers_push answer i k o line_at out_at =
+        ⊎_elim
+        (λ (t : (i < length os) × (slice_get os i ≡ Some o)).
+        let low = t.0 in
+        let long = p.answers.one_each in
+        subst (λ (before : List Outcome). Answers (so_far s g later) 0 before k.deed o) (sym (take-append-le i os (new ∷ []) (omega arith)))
+        (answer_on (take i os) k.deed o (p.answers.each i k o (sym (get_left lines (l ∷ []) i (omega arith)) ∙ line_at) t.1)))
+        (λ (t : (i ≡ length os) × (new ≡ o)).
+        let place : i ≡ length lines = t.0 ∙ p.answers.one_each in
+        let is : l ≡ k = same_Some l k (sym (get_last lines l) ∙ subst (λ (n : ℕ). slice_get (lines ++ l ∷ []) n ≡ Some k) place line_at) in
+        let before : take i (os ++ new ∷ []) ≡ os = ap (λ (n : ℕ). take n (os ++ new ∷ [])) t.0 ∙ take-append_seam os (new ∷ []) in
+        subst (λ (b : List Outcome). Answers (so_far s g later) 0 b k.deed o) (sym before)
+        (subst (λ (q : Outcome). Answers (so_far s g later) 0 os k.deed q) t.1
+        (subst (λ (m : Line). Answers (so_far s g later) 0 os m.deed new) is answer)))
+        (push_cases os new o i out_at)
+
+    pub played_next : Answers (so_far s g later) 0 os l.deed new → IsReached g later new
+        → ((o : Outcome) → IsReached h clock o → InOrder (so_far s g later) o new)
+        → length h + (if is_at new then 1 else 0) ≡ length g
+        → ((place : ℕ) → place < length g → count_by (names_entry 0 place) (os ++ new ∷ []) ≡ 1)
+        → Played s g later (lines ++ l ∷ []) (os ++ new ∷ [])
+    played_next answer reach last_order longer_by once = record {
+      answers = record {
+        one_each = let e = p.answers.one_each in omega (arith, length-append os (new ∷ []), length-append lines (l ∷ []));
+        each = answers_push answer;
+        order = all_pairs_push (InOrder (so_far s g later)) os new
+            (λ i j d low high. order_on (get_or os i d) (get_or os j d) (p.reached i d (omega arith)) (p.reached j d high)
+            (p.answers.order i j d low high))
+            (λ k d low. last_order (get_or os k d) (p.reached k d low));
+      };
+      reached = All-push (IsReached g later) os new (λ k d low. reached_on (get_or os k d) (p.reached k d low)) reach;
+      calls = count_push is_at os new ∙ ap (λ (n : ℕ). n + (if is_at new then 1 else 0)) p.calls ∙ longer_by;
+      once = once;
+    }
+
+-- ---- one more call
+-- no outcome so far names an entry that is still to come
+unnamed : (h : List Entry) (clock : ℕ) (os : List Outcome) → All (IsReached h clock) os → count_by (names_entry 0 (length h)) os ≡ 0
+unnamed h clock [] all = refl
+unnamed h clock (o ∷ os) all =
+    count_cons (names_entry 0 (length h)) o os
+    ∙ by_kind o (all 0 o (omega arith)) (unnamed h clock os (λ k d low. all (suc k) d (omega arith)))
+  where
+    by_kind : (p : Outcome) → IsReached h clock p → count_by (names_entry 0 (length h)) os ≡ 0
+        → (if names_entry 0 (length h) p then 1 else 0) + count_by (names_entry 0 (length h)) os ≡ 0
     by_kind (At u n) r rest =
         let low = r.1 in
         let other : (n == length h) ≡ false = grind (arith, nat_tests) in
         let both : ((u == 0) && (n == length h)) ≡ false = and_right (u == 0) (n == length h) other in
-        ap (λ (b : Bool). (if b then 1 else 0) + count_by (names 0 (length h)) os) both ∙ omega arith
+        ap (λ (b : Bool). (if b then 1 else 0) + count_by (names_entry 0 (length h)) os) both ∙ omega arith
     by_kind (Ticked e) r rest = omega arith
 
--- where each outcome answers its line, so it is with one more of both
-answers_push : (r : Report) (lines : List Line) (os : List Outcome) (l : Line) (new : Outcome) → length os ≡ length lines
-    → ((i : ℕ) (k : Line) (o : Outcome) → slice_get lines i ≡ Some k → slice_get os i ≡ Some o → Answers r 0 (take i os) k.deed o)
-    → Answers r 0 os l.deed new
-    → (i : ℕ) (k : Line) (o : Outcome) → slice_get (lines ++ l ∷ []) i ≡ Some k → slice_get (os ++ new ∷ []) i ≡ Some o → Answers r 0 (take i (os ++ new ∷ [])) k.deed o
-answers_push r lines os l new one_each each answer i k o line_at out_at =
-    ⊎_elim
-    (λ (t : (i < length os) × (slice_get os i ≡ Some o)).
-    let low = t.0 in
-    subst (λ (before : List Outcome). Answers r 0 before k.deed o) (sym (take-append-le i os (new ∷ []) (omega arith)))
-    (each i k o (sym (get_left lines (l ∷ []) i (omega arith)) ∙ line_at) t.1))
-    (λ (t : (i ≡ length os) × (new ≡ o)).
-    let place : i ≡ length lines = t.0 ∙ one_each in
-    let same : l ≡ k = same_Some l k (sym (get_last lines l) ∙ subst (λ (n : ℕ). slice_get (lines ++ l ∷ []) n ≡ Some k) place line_at) in
-    let before : take i (os ++ new ∷ []) ≡ os = ap (λ (n : ℕ). take n (os ++ new ∷ [])) t.0 ∙ take-append_seam os (new ∷ []) in
-    subst (λ (b : List Outcome). Answers r 0 b k.deed o) (sym before)
-    (subst (λ (q : Outcome). Answers r 0 os k.deed q) t.1 (subst (λ (m : Line). Answers r 0 os m.deed new) same answer)))
-    (push_cases os new o i out_at)
-
--- the outcomes of one more call
-pub played_call : (s : Shape) (h : List Entry) (clock : ℕ) (lines : List Line) (os : List Outcome) (l : Line) (op : Op) (unit : ℕ) (x : Entry)
-    → Played s h clock lines os → l.deed ≡ Call op → x.op ≡ op → unit ≡ unit_of_op s op → unit ≡ 0 → x.caller ≡ 0 → x.call ≡ length h → x.epoch ≡ clock
+pub played_call : (s : Shape) (h : List Entry) (clock : ℕ) (lines : List Line) (os : List Outcome) (l : Line) (op : Op) (x : Entry)
+    → Played s h clock lines os → l.deed ≡ Call op → x.op ≡ op → unit_of_op s op ≡ Some 0 → x.caller ≡ 0 → x.call ≡ length h
+    → x.epoch ≡ clock
     → All (λ (e : Entry). e.epoch ≤ clock) h
-    → Played s (h ++ x ∷ []) clock (lines ++ l ∷ []) (os ++ At unit (length h) ∷ [])
-played_call s h clock lines os l op unit x p deed asked of_unit zeroth by number epoch past =
-    let new : Outcome = At unit (length h) in
-    let r = made s (h ++ x ∷ []) [] clock [] in
-    let there : IsEntryAt r unit (length h) x = entry_here s (h ++ x ∷ []) clock unit (length h) x zeroth (get_last h x) in
-    let answer : Answers r 0 os l.deed new = subst (λ (d : Deed). Answers r 0 os d new) (sym deed) (record {
+    → Played s (h ++ x ∷ []) clock (lines ++ l ∷ []) (os ++ At 0 (length h) ∷ [])
+played_call s h clock lines os l op x p deed asked of_unit by number epoch past =
+    played_next s h g clock clock longer (get_left h (x ∷ [])) (omega arith) lines os l new p
+    (subst (λ (d : Deed). Answers (so_far s g clock) 0 os d new) (sym deed) (record {
       of_unit = of_unit;
       entry = x;
-      there = there;
+      there = (g, refl, get_last h x);
       by = by;
       number = number ∙ sym p.calls;
       asked = asked;
-    }) in
-    record {
-      answers = record {
-        one_each = let e = p.answers.one_each in omega (arith, length-append os (new ∷ []), length-append lines (l ∷ []));
-        each = answers_push r lines os l new p.answers.one_each
-            (λ i k o line_at out_at. answer_on s h x clock clock (take i os) k.deed o (omega arith) (p.answers.each i k o line_at out_at)) answer;
-        order = all_pairs_push (InOrder r) os new
-            (λ i j d low high. order_on s h x clock clock (get_or os i d) (get_or os j d) (p.reached i d (omega arith)) (p.reached j d high) (p.answers.order i j d low high))
-            (λ k d low. last_order (get_or os k d) (p.reached k d low));
-      };
-      reached = All-push (IsReached (h ++ x ∷ []) clock) os new (λ k d low. reached_on h x clock (get_or os k d) (p.reached k d low)) (zeroth, omega (arith, length-append h (x ∷ [])));
-      calls = count_push is_at os new ∙ (let e = p.calls in omega (arith, length-append h (x ∷ [])));
-      once = λ place low.
-          ⊎_elim
-          (λ (below : place < length h). once_before place below)
-          (λ (here : place ≡ length h). subst (λ (n : ℕ). count_by (names 0 n) (os ++ new ∷ []) ≡ 1) (sym here) once_here)
-          (lower_or_last place (length h) (omega (arith, length-append h (x ∷ []))));
-    }
+    }))
+    (refl, omega (arith, length-append h (x ∷ [])))
+    last_order
+    (sym (length-append h (x ∷ [])))
+    (λ place low. ⊎_elim
+    (λ (below : place < length h). once_before place below)
+    (λ (high : length h ≤ place).
+    let is : place ≡ length h = omega (arith, length-append h (x ∷ [])) in
+    subst (λ (n : ℕ). count_by (names_entry 0 n) (os ++ new ∷ []) ≡ 1) (sym is) once_here)
+    (cases_lt place (length h)))
   where
-    new_epoch : (e : Entry) → IsEntryAt (made s (h ++ x ∷ []) [] clock []) unit (length h) e → e.epoch ≡ clock
-    new_epoch e at = sym (ap (λ (d : Entry). d.epoch) (same_Some x e (sym (get_last h x) ∙ (entry_of s (h ++ x ∷ []) clock unit (length h) e at).1))) ∙ epoch
+    new : Outcome
+    new = At 0 (length h)
 
-    past_at : {m : ℕ} {d : Entry} → slice_get (h ++ x ∷ []) m ≡ Some d → m < length h → d.epoch ≤ clock
-    past_at {m} {d} at low = let found = sym (get_left h (x ∷ []) m low) ∙ at in subst (λ (e : Entry). e.epoch ≤ clock) (get_or-slice_get h m d found) (past m d low)
+    g : List Entry
+    g = h ++ x ∷ []
 
-    lower_or_last : (m n : ℕ) → m < n + 1 → (m < n) ⊎ (m ≡ n)
-    lower_or_last m n l = grind arith
+    longer : length h ≤ length g
+    longer = omega (arith, length-append h (x ∷ []))
 
-    once_before : (n : ℕ) → n < length h → count_by (names 0 n) (os ++ At unit (length h) ∷ []) ≡ 1
+    once_before : (n : ℕ) → n < length h → count_by (names_entry 0 n) (os ++ new ∷ []) ≡ 1
     once_before n low =
         let other : (length h == n) ≡ false = grind (arith, nat_tests) in
-        let none : ((unit == 0) && (length h == n)) ≡ false = and_right (unit == 0) (length h == n) other in
-        count_push (names 0 n) os (At unit (length h)) ∙ ap (λ (b : Bool). count_by (names 0 n) os + (if b then 1 else 0)) none ∙ (let e = p.once n low in omega arith)
+        count_push (names_entry 0 n) os new
+        ∙ ap (λ (b : Bool). count_by (names_entry 0 n) os + (if b then 1 else 0)) other
+        ∙ (let e = p.once n low in omega arith)
 
-    once_here : count_by (names 0 (length h)) (os ++ At unit (length h) ∷ []) ≡ 1
+    once_here : count_by (names_entry 0 (length h)) (os ++ new ∷ []) ≡ 1
     once_here =
-        let first : (unit == 0) ≡ true = grind (arith, nat_tests) in
-        let second : (length h == length h) ≡ true = grind (arith, nat_tests) in
-        count_push (names 0 (length h)) os (At unit (length h))
-        ∙ ap (λ (b : Bool). count_by (names 0 (length h)) os + (if b && (length h == length h) then 1 else 0)) first
-        ∙ ap (λ (b : Bool). count_by (names 0 (length h)) os + (if b then 1 else 0)) second
+        let own : (length h == length h) ≡ true = grind (arith, nat_tests) in
+        count_push (names_entry 0 (length h)) os new
+        ∙ ap (λ (b : Bool). count_by (names_entry 0 (length h)) os + (if b then 1 else 0)) own
         ∙ (let none = unnamed h clock os p.reached in omega arith)
 
-    last_order : (o : Outcome) → IsReached h clock o → InOrder (made s (h ++ x ∷ []) [] clock []) o (At unit (length h))
-    last_order (At u m) reach = (
-      (λ d e at there.
-          let low = past_at (entry_of s (h ++ x ∷ []) clock u m d at).1 reach.1 in
-          let high = new_epoch e there in
-          omega arith),
-      λ same. reach.1,
-    )
-    last_order (Ticked t) reach = λ e at. let high = new_epoch e at in omega arith
+    new_epoch : (e : ℕ) → ShowsEpoch (g ∷ replicate (units_of s - 1) []) new e → e ≡ clock
+    new_epoch e shown =
+        let at = entry_of g (units_of s - 1) 0 (length h) shown.0 shown.1 in
+        sym shown.2 ∙ sym (ap (λ (d : Entry). d.epoch) (same_Some x shown.0 (sym (get_last h x) ∙ at.1))) ∙ epoch
 
--- the outcomes of one more tick
+    last_order : (o : Outcome) → IsReached h clock o → InOrder (so_far s g clock) o new
+    last_order o reach = record {
+      epochs = λ d e first second.
+          let low = shown_low s h g clock clock longer (get_left h (x ∷ [])) (omega arith) past o d reach first in
+          let high = new_epoch e second in
+          omega arith;
+      places = λ unit m n first second. place_below o reach unit m n first second;
+      ticks = λ d e first second. absurd (cc);
+    }
+      where
+        place_below : (q : Outcome) → IsReached h clock q → (unit m n : ℕ) → place_of q ≡ Some (unit, m)
+            → place_of new ≡ Some (unit, n) → m < n
+        place_below (At u k) r unit m n first second =
+            let low = r.1 in
+            let here : k ≡ m = ap (λ (t : ℕ × ℕ). t.1) (same_Some (u, k) (unit, m) first) in
+            let there : length h ≡ n = ap (λ (t : ℕ × ℕ). t.1) (same_Some (0, length h) (unit, n) second) in
+            omega arith
+        place_below (Ticked epoch) r unit m n first second = absurd (cc)
+
+-- ---- one more tick
 pub played_tick : (s : Shape) (h : List Entry) (clock : ℕ) (lines : List Line) (os : List Outcome) (l : Line)
-    → Played s h clock lines os → l.deed ≡ Tick → 2 ≤ clock → All (λ (e : Entry). e.epoch ≤ clock) h
+    → Played s h clock lines os → l.deed ≡ Tick → FIRST_CLOCK ≤ clock → All (λ (e : Entry). e.epoch ≤ clock) h
     → Played s h (clock + 1) (lines ++ l ∷ []) (os ++ Ticked (clock + 1) ∷ [])
 played_tick s h clock lines os l p deed begun past =
-    let new : Outcome = Ticked (clock + 1) in
-    let r = made s h [] (clock + 1) [] in
-    let answer : Answers r 0 os l.deed new = subst (λ (d : Deed). Answers r 0 os d new) (sym deed) (omega arith, omega arith) in
-    record {
-      answers = record {
-        one_each = let e = p.answers.one_each in omega (arith, length-append os (new ∷ []), length-append lines (l ∷ []));
-        each = answers_push r lines os l new p.answers.one_each
-            (λ i k o line_at out_at. answer_later s h clock (clock + 1) (take i os) k.deed o (omega arith) (p.answers.each i k o line_at out_at)) answer;
-        order = all_pairs_push (InOrder r) os new
-            (λ i j d low high. order_later s h clock (clock + 1) (get_or os i d) (get_or os j d) (p.answers.order i j d low high))
-            (λ k d low. last_order (get_or os k d) (p.reached k d low));
-      };
-      reached = All-push (IsReached h (clock + 1)) os new (λ k d low. reached_later h clock (clock + 1) (get_or os k d) (omega arith) (p.reached k d low)) (omega arith);
-      calls = count_push is_at os new ∙ (let e = p.calls in omega arith);
-      once = λ place low. count_push (names 0 place) os new ∙ (let e = p.once place low in omega arith);
-    }
+    played_next s h h clock (clock + 1) (omega arith) (λ n low. refl) (omega arith) lines os l new p
+    (subst (λ (d : Deed). Answers (so_far s h (clock + 1)) 0 os d new) (sym deed) (omega arith, omega arith))
+    (omega arith)
+    last_order
+    (omega arith)
+    (λ place low. count_push (names_entry 0 place) os new ∙ (let e = p.once place low in omega arith))
   where
-    last_order : (o : Outcome) → IsReached h clock o → InOrder (made s h [] (clock + 1) []) o (Ticked (clock + 1))
-    last_order (At u m) reach = λ d at. let low = past_at d (entry_of s h (clock + 1) u m d at).1 reach.1 in omega arith
+    new : Outcome
+    new = Ticked (clock + 1)
+
+    last_order : (o : Outcome) → IsReached h clock o → InOrder (so_far s h (clock + 1)) o new
+    last_order o reach = record {
+      epochs = λ d e first second.
+          let low = shown_low s h h clock (clock + 1) (omega arith) (λ n low. refl) (omega arith) past o d reach first in
+          omega arith;
+      places = λ unit m n first second. absurd (cc);
+      ticks = λ d e first second. tick_below o reach d e first second;
+    }
       where
-        past_at : (d : Entry) → slice_get h m ≡ Some d → m < length h → d.epoch ≤ clock
-        past_at d found low = subst (λ (e : Entry). e.epoch ≤ clock) (get_or-slice_get h m d found) (past m d low)
-    last_order (Ticked t) reach = omega arith
+        tick_below : (q : Outcome) → IsReached h clock q → (d e : ℕ) → tick_of q ≡ Some d → tick_of new ≡ Some e → d < e
+        tick_below (At u k) r d e first second = absurd (cc)
+        tick_below (Ticked epoch) r d e first second =
+            let here : epoch ≡ d = same_Some epoch d first in
+            let there : clock + 1 ≡ e = same_Some (clock + 1) e second in
+            omega arith
 
 -- nothing was done yet
 pub played_none : (s : Shape) (clock : ℕ) → Played s [] clock [] []
 played_none s clock = record {
-  answers = record { one_each = refl; each = λ i l o line_at out_at. absurd (cc); order = λ i j d low high. absurd (omega arith) };
+  answers = record {
+    one_each = refl;
+    each = λ i l o line_at out_at. absurd (cc);
+    order = λ i j d low high. absurd (omega arith);
+  };
   reached = λ k d low. absurd (omega arith);
   calls = refl;
   once = λ place low. absurd (omega arith);

@@ -1,7 +1,9 @@
 pub mod Log
 pub mod Machine
+pub mod Stopped
 pub mod Run
-pub mod Status
-pub mod Words
 pub mod Delivery
+pub mod Status
+pub mod Forms
 pub mod Montage
+pub mod Program

@@ -1,7 +1,7 @@
--- How a run of the tool ends: its exit code, and the line that it writes to standard error.
-use Rattle.std.specs.Prelude.{ℕ, List, [], ◌++◌, codes, decimal}
-use Rattle.mont_base.specs.declared.job.JobFault.{JobFault}
-use Rattle.mont_base.specs.declared.job.JobFault.TheVariants as faults
+-- How a run of the tool ends: its exit status, and the line that it writes to standard output.
+use Rattle.std.specs.Prelude.{ℕ, List, [], ◌∷◌, ◌++◌, codes, decimal}
+use Rattle.job_text.specs.declared.job.JobFault.{JobFault}
+use Rattle.job_text.specs.declared.job.JobFault.TheVariants as faults
 use Rattle.montage_tool.specs.declared.status.Status.{Status}
 use Rattle.montage_tool.specs.declared.status.Status.TheVariants.{Done, BadWords, BadJob, ReadFault, WriteFault, Memory}
 use Rattle.montage_tool.specs.declared.status.SourceName.{SourceName}
@@ -34,10 +34,20 @@ abbrev pub sink_word : SinkName → List ℕ
 sink_word sinks.Report = codes "report"
 sink_word sinks.Image = codes "image"
 
+-- what is told of a status: nothing where all went well
 abbrev pub status_bytes : Status → List ℕ
 status_bytes Done = []
 status_bytes BadWords = codes "montage: bad words"
-status_bytes (BadJob line fault) = codes "montage: job line " ++ decimal line ++ codes ": " ++ fault_word fault
+status_bytes (BadJob line fault) =
+    codes "montage: job line " ++ decimal line ++ codes ": " ++ fault_word fault
 status_bytes (ReadFault which) = codes "montage: read fault: " ++ source_word which
 status_bytes (WriteFault which) = codes "montage: write fault: " ++ sink_word which
 status_bytes Memory = codes "montage: out of memory"
+
+-- a text with a line feed behind it, if there is one
+abbrev pub with_line_feed : List ℕ → List ℕ
+with_line_feed [] = []
+with_line_feed (byte ∷ bytes) = (byte ∷ bytes) ++ 10 ∷ []
+
+abbrev pub status_line : Status → List ℕ
+status_line status = with_line_feed (status_bytes status)

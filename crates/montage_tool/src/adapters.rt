@@ -1,6 +1,8 @@
-// The devices of the process. What a standard stream or a file gives and takes is known to no contract.
-ghost use Rattle.std.specs.Prelude.{◌≡◌, ◌≤◌, None, option_and_then};
-ghost use Rattle.mont_base.specs.Faults.{Rose};
+// The devices of the process. What a standard stream or a file gives and takes is known to no
+// contract.
+ghost use Rattle.std.specs.Prelude.{◌≡◌, ◌<◌, ◌≤◌, ℕ, None, Err, IfOk, length, option_and_then};
+ghost use Rattle.std.specs.Io.KnownBytes.{ReadConsumes, WriteAppends};
+ghost use Rattle.mont_base.specs.Faults.{HasCause, CountsFaults};
 
 #[cfg(test)]
 mod tests;
@@ -32,7 +34,13 @@ impl<R: Read + Drop> Source for StdSource<R> {
 
     ghost faults = { λ s. s.faults };
 
-    fn read(&mut self, buf: &mut [u8]) -> Result<usize, Failed> {
+    fn read(&mut self, buf: &mut [u8]) -> Result<usize, Failed>
+        ensures bound { IfOk result (λ n. n ≤ length buf.new) }
+        ensures bytes { ReadConsumes (R.remaining self.old.reader) (R.remaining self.new.reader)
+            result buf.new }
+        ensures cause { HasCause self.old.faults self.new.faults result }
+        ensures counted { CountsFaults self.old.faults self.new.faults result }
+    {
         match self.reader.read(buf) {
             Ok(count) => Ok(count),
             Err(_) => Err(failure(&mut self.faults)),
@@ -62,7 +70,13 @@ impl<W: Write + Drop> Sink for StdSink<W> {
 
     ghost faults = { λ s. s.faults };
 
-    fn write(&mut self, piece: &[u8]) -> Result<usize, Failed> {
+    fn write(&mut self, piece: &[u8]) -> Result<usize, Failed>
+        ensures bound { IfOk result (λ n. (0 < n) × (n ≤ length piece.now)) }
+        ensures bytes { WriteAppends (W.contents self.old.writer) (W.contents self.new.writer)
+            result piece.now }
+        ensures cause { HasCause self.old.faults self.new.faults result }
+        ensures counted { CountsFaults self.old.faults self.new.faults result }
+    {
         match self.writer.write(piece) {
             Ok(0) | Err(_) => Err(failure(&mut self.faults)),
             Ok(count) => Ok(count),
@@ -105,7 +119,13 @@ impl<F: Read + Drop> Source for FileSource<F> {
 
     ghost faults = { λ s. s.faults };
 
-    fn read(&mut self, buf: &mut [u8]) -> Result<usize, Failed> {
+    fn read(&mut self, buf: &mut [u8]) -> Result<usize, Failed>
+        ensures bound { IfOk result (λ n. n ≤ length buf.new) }
+        ensures bytes { ReadConsumes (option_and_then F.remaining self.old.file)
+            (option_and_then F.remaining self.new.file) result buf.new }
+        ensures cause { HasCause self.old.faults self.new.faults result }
+        ensures counted { CountsFaults self.old.faults self.new.faults result }
+    {
         let Some(file) = &mut self.file else {
             return Err(failure(&mut self.faults));
         };
@@ -116,7 +136,8 @@ impl<F: Read + Drop> Source for FileSource<F> {
     }
 }
 
-/// A file as a sink. It is made, or emptied, at the first write. Where it can't be, each call fails.
+/// A file as a sink. It is made, or emptied, at the first write. Where it can't be, each call
+/// fails.
 #[derive(Drop)]
 pub struct FileSink<'a, R: Files> {
     rt: &'a R,
@@ -156,7 +177,12 @@ impl<R: Files> Sink for FileSink<'_, R> {
 
     ghost faults = { λ s. s.faults };
 
-    fn write(&mut self, piece: &[u8]) -> Result<usize, Failed> {
+    fn write(&mut self, piece: &[u8]) -> Result<usize, Failed>
+        ensures bound { IfOk result (λ n. (0 < n) × (n ≤ length piece.now)) }
+        ensures bytes { WriteAppends None None result piece.now }
+        ensures cause { HasCause self.old.faults self.new.faults result }
+        ensures counted { CountsFaults self.old.faults self.new.faults result }
+    {
         if let Target::Unmade = self.target {
             self.target = match fs::create(self.rt, self.path) {
                 Ok(file) => Target::Made { file },
@@ -175,8 +201,8 @@ impl<R: Files> Sink for FileSink<'_, R> {
 
 // A failure, which is counted.
 fn failure(faults: &mut u64) -> Failed
-    ensures later { faults.old ≤ faults.new }
-    ensures counted { Rose faults.old faults.new }
+    ensures cause { HasCause {T = ℕ} faults.old faults.new (Err result) }
+    ensures counted { CountsFaults {T = ℕ} faults.old faults.new (Err result) }
 {
     *faults = faults.saturating_add(1);
     Failed

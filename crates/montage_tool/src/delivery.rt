@@ -1,17 +1,17 @@
 // Writing a whole text to a device that takes it piece by piece.
-ghost use Rattle.std.specs.Prelude.{◌≤◌, OnOk, OnErr};
+ghost use Rattle.std.specs.Prelude.{OnOk, OnErr};
 ghost use Rattle.std.specs.Io.KnownBytes.{Appends};
-ghost use Rattle.mont_base.specs.Faults.{Rose};
+ghost use Rattle.mont_base.specs.Faults.{HasCause};
 ghost use Rattle.montage_tool.specs.Delivery.{AppendsPrefix};
 
 use mont_base::{Failed, Sink};
 
-// Writes all the bytes, by as many calls as it takes. After a failure the device may have taken some of them.
+// Writes all the bytes, by as many calls as it takes. After a failure the device may have taken
+// some of them.
 pub(crate) fn deliver<O: Sink>(out: &mut O, bytes: &[u8]) -> Result<(), Failed>
     ensures all { OnOk result (Appends (O.taken out.old) (O.taken out.new) bytes.now) }
     ensures part { OnErr result (AppendsPrefix (O.taken out.old) (O.taken out.new) bytes.now) }
-    ensures later { O.faults out.old ≤ O.faults out.new }
-    ensures cause { OnErr result (Rose (O.faults out.old) (O.faults out.new)) }
+    ensures cause { HasCause (O.faults out.old) (O.faults out.new) result }
 {
     let mut rest = bytes;
     while !rest.is_empty() {
@@ -29,10 +29,10 @@ mod tests {
 
     #[test]
     fn all_is_delivered_in_pieces_of_any_size(rt: HostRuntime) -> Result<(), Fail> {
-        let text = b"montage-report 1 1 8 1\n";
-        for piece in [1, 10, 23] {
+        let text = b"montage-report 3 mqg 8 1\n";
+        for piece in [1u64, 10, 25] {
             assert!(rt; piece > 0);
-            let mut sink = MemSink::new(rt.alloc(), 23, piece, Vec::new(rt.alloc()))?;
+            let mut sink = MemSink::new(rt.alloc(), 25, piece, Vec::new(rt.alloc()))?;
             assert_eq!(rt; deliver(&mut sink, text), Ok(()));
             assert_eq!(rt; sink.taken(), text.as_slice());
         }

@@ -2,7 +2,7 @@
 ghost use Rattle.std.specs.Prelude.{◌≡◌, IfOk, Some, string_bytes};
 ghost use Rattle.montage_tool.specs.Status.{exit_code_of, status_bytes, fault_word, source_word, sink_word};
 
-use mont_base::JobFault;
+use job_text::JobFault;
 use std::alloc::{AllocError, Global};
 use std::fmt;
 
@@ -109,65 +109,5 @@ fn word_of_fault(fault: JobFault) -> &'static str
         JobFault::Header => "header",
         JobFault::Stop => "stop",
         JobFault::Operation => "operation",
-    }
-}
-
-#[cfg(test)]
-mod tests {
-    use super::*;
-    use std::test::Fail;
-
-    #[test]
-    fn each_status_has_its_code_and_its_line(rt: HostRuntime) -> Result<(), Fail> {
-        let job = |fault| Status::BadJob { line: 7, fault };
-        let table = [
-            (Status::Done, 0, ""),
-            (Status::BadWords, 2, "montage: bad words"),
-            (job(JobFault::Many), 3, "montage: job line 7: many"),
-            (job(JobFault::Long), 3, "montage: job line 7: long"),
-            (job(JobFault::Unended), 3, "montage: job line 7: unended"),
-            (job(JobFault::Header), 3, "montage: job line 7: header"),
-            (job(JobFault::Stop), 3, "montage: job line 7: stop"),
-            (
-                job(JobFault::Operation),
-                3,
-                "montage: job line 7: operation",
-            ),
-            (
-                Status::ReadFault {
-                    which: SourceName::Job,
-                },
-                5,
-                "montage: read fault: job",
-            ),
-            (
-                Status::ReadFault {
-                    which: SourceName::Image,
-                },
-                5,
-                "montage: read fault: image",
-            ),
-            (
-                Status::WriteFault {
-                    which: SinkName::Report,
-                },
-                6,
-                "montage: write fault: report",
-            ),
-            (
-                Status::WriteFault {
-                    which: SinkName::Image,
-                },
-                6,
-                "montage: write fault: image",
-            ),
-            (Status::Memory, 7, "montage: out of memory"),
-        ];
-        for (status, code, text) in table {
-            assert_eq!(rt; exit_code(&status), code, "{status:?}");
-            let told = status_text(rt.alloc(), &status)?;
-            assert_eq!(rt; told.as_str(), text);
-        }
-        Ok(())
     }
 }

@@ -1,14 +1,20 @@
-//! The words of a slot: how a label and a body are written, and how what stands in a slot is read.
+//! The words of a slot: how a label and a body are written, how what stands in a slot is read, and
+//! what the bodies of maps, queues and graphs say.
 #![tactic(auto)]
 
+mod graph_body;
+mod map_body;
+mod queue_body;
 mod read;
+mod spare;
 #[cfg(test)]
 mod tests;
 mod write;
 
+pub use graph_body::{edge_body, edge_in, is_edge_body, is_vertex_body, vertex_body, vertex_in};
+pub use map_body::{pair_body, pair_in};
 pub use mont_base::SlotFault;
+pub use queue_body::{item_body, item_in};
 pub use read::read_words;
+pub use spare::no_body;
 pub use write::write_words;
-
-// A slot's words before its body.
-const LABEL_FIELDS: usize = 4;

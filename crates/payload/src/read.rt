@@ -3,11 +3,10 @@ ghost use Rattle.std.specs.Prelude.{◌≡◌, ◌==◌, ◌&&◌, ◌≤◌, �
 ghost use Rattle.mont_base.specs.Record.{IsLabel, IsBody, slot_words, kind_of_number, reading, is_version_of, body_at};
 ghost use Rattle.mont_base.specs.declared.record.Label.{Label};
 
-use crate::LABEL_FIELDS;
-use mont_base::{BODY, FIELDS, Kind, LAST, Label, SlotFault, Unit};
+use mont_base::{BODY, FIELDS, Kind, LABEL, LAST, Label, SlotFault, Unit};
 
-/// Reads a slot of a unit: nothing where the slot is closed, else its label and its body, or the first
-/// fault of its words.
+/// Reads a slot of a unit: nothing where the slot is closed, else its label and its body, or the
+/// first fault of its words.
 pub fn read_words(
     unit: Unit,
     words: &[u64; FIELDS],
@@ -15,8 +14,10 @@ pub fn read_words(
     requires { slice_index words.now 0 ≤ LAST }
     ensures exact { result ≡ reading unit words.now }
     ensures closed { (result ≡ Ok None) ↔ (slice_index words.now 0 ≡ 0) }
-    ensures found { IfOk result (λ r. IfSome r (λ p. IsLabel p.0 × (p.0.unit ≡ unit) × (words.now ≡ slot_words p.0 p.1))) }
-    ensures only { (l : Label) (b : List ℕ) → IsLabel l → l.unit ≡ unit → IsBody b → words.now ≡ slot_words l b → result ≡ Ok (Some (l, b)) }
+    ensures found { IfOk result (λ r. IfSome r (λ p.
+        IsLabel p.0 × (p.0.unit ≡ unit) × (words.now ≡ slot_words p.0 p.1))) }
+    ensures only { (l : Label) (b : List ℕ) → IsLabel l → l.unit ≡ unit → IsBody b
+        → words.now ≡ slot_words l b → result ≡ Ok (Some (l, b)) }
 {
     let [epoch, word, identity, version, ..] = *words;
     if epoch == 0 {
@@ -41,7 +42,7 @@ fn body_of(words: &[u64; FIELDS]) -> [u64; BODY]
     ensures { result ≡ body_at words.now }
 {
     let mut body = [0; BODY];
-    body.copy_from_slice(&words[LABEL_FIELDS..]);
+    body.copy_from_slice(&words[LABEL..]);
     body
 }
 
@@ -70,7 +71,8 @@ fn check_unit(unit: Unit, word: u64) -> Result<(), SlotFault>
 
 // Refuses what is no identity.
 fn check_identity(word: u64) -> Result<(), SlotFault>
-    ensures { result ≡ (if nat_le 1 word && nat_le word LAST then Ok tt else Err (SlotFault.Identity word)) }
+    ensures { result ≡ (if nat_le 1 word && nat_le word LAST then Ok tt
+        else Err (SlotFault.Identity word)) }
 {
     if (1..=LAST).contains(&word) {
         Ok(())

@@ -2,8 +2,7 @@
 ghost use Rattle.std.specs.Prelude.{◌≡◌};
 ghost use Rattle.mont_base.specs.Record.{IsLabel, slot_words, number_of_kind};
 
-use crate::LABEL_FIELDS;
-use mont_base::{BODY, FIELDS, Kind, Label};
+use mont_base::{BODY, FIELDS, Kind, LABEL, Label};
 
 /// The words of a slot that holds this label and this body.
 pub fn write_words(label: &Label, body: [u64; BODY]) -> [u64; FIELDS]
@@ -15,7 +14,7 @@ pub fn write_words(label: &Label, body: [u64; BODY]) -> [u64; FIELDS]
     words[1] = 256 * number_of_kind(label.kind) + label.unit;
     words[2] = label.identity;
     words[3] = label.version;
-    words[LABEL_FIELDS..].copy_from_slice(&body);
+    words[LABEL..].copy_from_slice(&body);
     words
 }
 

@@ -1,8 +1,11 @@
-pub mod Keys
+pub mod Acceptable
+pub mod Each
+pub mod Items
+pub mod Graphs
 pub mod Legal
 pub mod Lists
 pub mod Maps
-pub mod SameEntries
+pub mod Named
+pub mod Order
 pub mod Recovered
 pub mod Single
-pub mod Sound

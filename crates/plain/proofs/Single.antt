@@ -1,28 +1,27 @@
--- Objects make one structure at most.
+-- Objects make one structure, or they have one first fault.
 use Rattle.std.proofs.Common.{◌≡◌, ℕ, List, sym, ap, ◌∙◌}
-use Rattle.mont_base.specs.declared.layout.UnitKind.{UnitKind}
-use Rattle.mont_base.specs.declared.layout.UnitKind.TheVariants as unit_kinds
+use Rattle.std.specs.Prelude.{Option, Some}
+use Rattle.mont_base.specs.declared.kinds.UnitKind.{UnitKind}
 use Rattle.mont_base.specs.declared.record.Object.{Object}
+use Rattle.mont_base.specs.declared.record.ObjectFault.{ObjectFault}
 use Rattle.mont_base.specs.Layout.{Shape}
-use Rattle.mont_base.specs.State.{State, MapOf, QueueOf, GraphOf}
-use Rattle.mont_base.specs.Objects.{IsStructure}
+use Rattle.mont_base.specs.State.{State}
+use Rattle.mont_base.specs.Structure.{IsStructure, object_fault, structure_of}
+use Rattle.plain.specs.Built.{IsFirstFault}
 
-map_queue : (k : UnitKind) → k ≡ unit_kinds.Map → k ≡ unit_kinds.Queue → ⊥
-map_queue k a b = cc
+-- a unit has one kind
+one_kind : (k : Option UnitKind) (a b : UnitKind) → k ≡ Some a → k ≡ Some b → a ≡ b
+one_kind k a b x y = cc
 
-map_graph : (k : UnitKind) → k ≡ unit_kinds.Map → k ≡ unit_kinds.Graph → ⊥
-map_graph k a b = cc
+module _ (s : Shape) (unit : ℕ) (os : List Object) where
+  pub same_structure : (a b : State) → IsStructure s unit os a → IsStructure s unit os b → a ≡ b
+  same_structure a b x y = x.made ∙ ap (λ (kind : UnitKind). structure_of kind os) (one_kind _ x.kind y.kind x.of_unit y.of_unit)
+      ∙ sym y.made
 
-queue_graph : (k : UnitKind) → k ≡ unit_kinds.Queue → k ≡ unit_kinds.Graph → ⊥
-queue_graph k a b = cc
-
-pub same_structure : (s : Shape) (unit : ℕ) (os : List Object) (a b : State) → IsStructure s unit os a → IsStructure s unit os b → a ≡ b
-same_structure s unit os (MapOf m) (MapOf n) x y = ap (λ p. MapOf p) (x.2 ∙ sym y.2)
-same_structure s unit os (MapOf m) (QueueOf items) x y = absurd (map_queue _ x.0 y.0)
-same_structure s unit os (MapOf m) (GraphOf g) x y = absurd (map_graph _ x.0 y.0)
-same_structure s unit os (QueueOf items) (MapOf n) x y = absurd (map_queue _ y.0 x.0)
-same_structure s unit os (QueueOf items) (QueueOf others) x y = x.2 ∙ sym y.2
-same_structure s unit os (QueueOf items) (GraphOf g) x y = absurd (queue_graph _ x.0 y.0)
-same_structure s unit os (GraphOf g) (MapOf n) x y = absurd (map_graph _ y.0 x.0)
-same_structure s unit os (GraphOf g) (QueueOf others) x y = absurd (queue_graph _ y.0 x.0)
-same_structure s unit os (GraphOf g) (GraphOf h) x y = x.2 ∙ sym y.2
+  -- what has a fault makes no structure
+  pub no_structure : (slot : ℕ) (fault : ObjectFault) → IsFirstFault s unit os slot fault → (state : State) × IsStructure s unit os state
+      → ⊥
+  no_structure slot fault x y =
+      let kind = one_kind _ x.kind y.1.kind x.of_unit y.1.of_unit in
+      let first = sym x.first ∙ ap (λ (k : UnitKind). object_fault s unit k os) kind ∙ y.1.sound in
+      cc

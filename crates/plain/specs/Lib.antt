@@ -1,5 +1,7 @@
-pub mod Follows
+pub mod Acceptable
+pub mod Built
+pub mod Callers
+pub mod Continues
 pub mod GraphCode
 pub mod Newest
-pub mod Sound
 pub mod States

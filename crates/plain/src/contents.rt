@@ -1,6 +1,6 @@
 // The structures of all units in memory.
 ghost use Rattle.std.specs.Prelude.{◌≡◌, IfOk};
-ghost use Rattle.mont_base.specs.Report.{empty_states};
+ghost use Rattle.mont_base.specs.Image.{empty_states};
 ghost use Rattle.plain.specs.States.{states_of};
 
 use crate::unit_state::UnitState;
@@ -19,8 +19,8 @@ impl Contents {
         ensures { IfOk result (λ c. states_of c ≡ empty_states layout) }
     {
         let mut units = Sequence::new(alloc);
-        for unit in 0..layout.units() {
-            units.push(UnitState::empty(alloc, layout.kind(unit)))?;
+        for kind in layout.kinds().as_slice() {
+            units.push(UnitState::empty(alloc, *kind))?;
         }
         Ok(Contents { units })
     }

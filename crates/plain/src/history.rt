@@ -1,8 +1,7 @@
 // What a history of a unit leads to, and whether it is legal.
 ghost use Rattle.std.specs.Prelude.{◌≡◌, ◌↔◌, IsTrue, IfOk};
-ghost use Rattle.mont_base.specs.State.{unit_of_op};
 ghost use Rattle.mont_base.specs.History.{state_after, cut_at, IsLegal};
-ghost use Rattle.plain.specs.Follows.{MayFollow};
+ghost use Rattle.plain.specs.Continues.{ContinuesHistory};
 ghost use Rattle.plain.specs.States.{state_of};
 
 use crate::unit_state::UnitState;
@@ -31,8 +30,9 @@ pub fn cut_at(alloc: Global, epoch: Epoch, entries: &[Entry]) -> Result<Vec<Entr
         .collect(alloc)
 }
 
-/// Whether a history of a unit is legal from a state at a clock: each operation is the unit's and has the
-/// reply that the structure gives, and the epochs begin at the clock or later, never fall and stay in range.
+/// Whether a history of a unit is legal from a state at a clock: each operation is the unit's and
+/// has the reply that the structure gives, and the epochs begin at the clock or later, never fall
+/// and stay in range.
 pub fn is_legal(
     layout: Layout,
     unit: Unit,
@@ -46,7 +46,7 @@ pub fn is_legal(
     let mut newest = clock;
     for entry in entries {
         let reply = state.apply(&entry.op)?;
-        if !may_follow(&layout, unit, newest, reply, entry) {
+        if !continues_history(&layout, unit, newest, reply, entry) {
             return Ok(false);
         }
         newest = entry.epoch;
@@ -54,11 +54,18 @@ pub fn is_legal(
     Ok(true)
 }
 
-// Whether an entry may come next, where the structure gives this reply and the newest epoch is this one.
-fn may_follow(layout: &Layout, unit: Unit, newest: Epoch, reply: Reply, entry: &Entry) -> bool
-    ensures { IsTrue result ↔ MayFollow layout.now unit newest reply entry.now }
+// Whether an entry may come next, where the structure gives this reply and the newest epoch is
+// this one.
+fn continues_history(
+    layout: &Layout,
+    unit: Unit,
+    newest: Epoch,
+    reply: Reply,
+    entry: &Entry,
+) -> bool
+    ensures { IsTrue result ↔ ContinuesHistory layout.now unit newest reply entry.now }
 {
-    entry.op.unit(*layout) == unit
+    entry.op.unit(*layout) == Some(unit)
         && entry.reply == reply
         && newest <= entry.epoch
         && entry.epoch <= LAST

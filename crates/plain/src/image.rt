@@ -1,14 +1,15 @@
 // The records that an image holds.
 ghost use Rattle.std.specs.Prelude.{◌≡◌, ◌<◌, ◌≤◌, length, IfOk};
+ghost use Rattle.mont_base.specs.declared.constants.TheConstants.{LAST};
 ghost use Rattle.mont_base.specs.Layout.{units_of, total_of, words_of};
-ghost use Rattle.mont_base.specs.Image.{clock_of, is_within, words_at, record_at, records_of};
+ghost use Rattle.mont_base.specs.Image.{clock_of, is_in_cut, words_at, record_at, records_of};
 
 use mont_base::{FIELDS, Held, LAST, Layout, Slot, Unit};
 use payload::read_words;
 use std::alloc::{AllocError, Global};
 
-/// The records of a unit that end at least two epochs before the image's clock, by rising slot. Slots that
-/// can't be read are passed over.
+/// The records of a unit that end at least two epochs before the image's clock, by rising slot.
+/// Slots that can't be read are passed over.
 pub fn records(
     alloc: Global,
     layout: Layout,
@@ -23,24 +24,24 @@ pub fn records(
     let first = unit * layout.slots();
     let mut found = Vec::new(alloc);
     for place in 0..layout.slots() {
-        if let Some(held) = record_in(&layout, image, first + place) {
+        if let Some(held) = record_at(&layout, image, first + place) {
             found.push(held)?;
         }
     }
     Ok(found)
 }
 
-// The record of a slot, if it is within the cut and can be read.
-fn record_in(layout: &Layout, image: &[u64], slot: Slot) -> Option<Held>
+/// The record of a slot, if it ends at least two epochs before the image's clock and can be read.
+pub fn record_at(layout: &Layout, image: &[u64], slot: Slot) -> Option<Held>
     requires size { length image.now ≡ words_of layout.now }
     requires clock { clock_of image.now ≤ LAST }
     requires slot { slot < total_of layout.now }
     ensures { result ≡ record_at layout.now image.now slot }
 {
-    if !is_within(layout, image, slot) {
+    if !is_in_cut(layout, image, slot) {
         return None;
     }
-    match read_words(layout.unit_of_slot(slot), &words_in(layout, image, slot)) {
+    match read_words(layout.unit_of_slot(slot), &words_at(layout, image, slot)) {
         Ok(Some(read)) => {
             let (label, body) = read;
             Some(Held { slot, label, body })
@@ -50,17 +51,17 @@ fn record_in(layout: &Layout, image: &[u64], slot: Slot) -> Option<Held>
 }
 
 // Whether a slot's epoch is one that recovery from the image keeps.
-pub(crate) fn is_within(layout: &Layout, image: &[u64], slot: Slot) -> bool
+pub(crate) fn is_in_cut(layout: &Layout, image: &[u64], slot: Slot) -> bool
     requires size { length image.now ≡ words_of layout.now }
     requires slot { slot < total_of layout.now }
-    ensures { result ≡ is_within image.now slot }
+    ensures { result ≡ is_in_cut image.now slot }
 {
-    let epoch = words_in(layout, image, slot)[0];
+    let epoch = words_at(layout, image, slot)[0];
     1 <= epoch && epoch <= image[0].saturating_sub(2)
 }
 
 // The words of a slot.
-pub(crate) fn words_in(layout: &Layout, image: &[u64], slot: Slot) -> [u64; FIELDS]
+pub(crate) fn words_at(layout: &Layout, image: &[u64], slot: Slot) -> [u64; FIELDS]
     requires size { length image.now ≡ words_of layout.now }
     requires slot { slot < total_of layout.now }
     ensures { result ≡ words_at image.now slot }

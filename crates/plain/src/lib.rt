@@ -1,34 +1,52 @@
-//! The structures kept plainly in memory, and plain programs of the definitions: the live objects among
-//! records, the structure that objects make, what a history leads to, which images recovery accepts, and
-//! what it rebuilds.
+//! The structures kept plainly in memory, and plain programs of the definitions: what operations
+//! do, what histories lead to and use, what callers have seen, the live objects among records, the
+//! structure that objects make, which images recovery accepts, and what it rebuilds.
 #![tactic(auto)]
 
+mod acceptance;
+#[cfg(test)]
+mod caller_tests;
+mod callers;
 mod contents;
+mod effects;
+mod gather;
+mod graph_parts;
 mod graph_state;
 mod history;
+#[cfg(test)]
+mod history_tests;
 mod image;
+#[cfg(test)]
+mod image_tests;
+mod item_row;
 mod map_state;
 mod objects;
-mod pair;
+mod pair_table;
 mod queue_state;
 mod recovery;
+mod replies;
+mod room;
 mod same;
-mod soundness;
+#[cfg(test)]
+mod state_tests;
 mod structure;
 #[cfg(test)]
-mod tests;
+mod structure_tests;
 mod unit_state;
+mod view;
 
+pub use acceptance::is_well_formed;
+pub use callers::{continues_view, fits_histories, is_callers_order};
 pub use contents::Contents;
 pub use graph_state::GraphState;
 pub use history::{cut_at, is_legal, state_after};
-pub use image::records;
+pub use image::{record_at, records};
 pub use map_state::MapState;
 pub use objects::live_objects;
-pub use pair::{pair_body, pair_of};
 pub use queue_state::QueueState;
 pub use recovery::recover;
+pub use room::used_slots;
 pub use same::same_state;
-pub use soundness::is_well_formed;
 pub use structure::{BuildRefusal, build, one_structure};
 pub use unit_state::UnitState;
+pub use view::View;

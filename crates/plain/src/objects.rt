@@ -2,15 +2,15 @@
 ghost use Rattle.std.specs.Prelude.{◌≡◌, ℕ, ◌==◌, ◌&&◌, ◌||◌, not, nat_lt, IfOk, OnOk};
 ghost use Rattle.std.specs.Ordering.{nat_cmp};
 ghost use Rattle.std.specs.BTreeMap as tree;
-ghost use Rattle.mont_base.specs.Objects.{live_objects, object_of};
+ghost use Rattle.mont_base.specs.Versions.{live_objects, object_of};
 ghost use Rattle.plain.specs.Newest.{HasNewest, is_above};
 
 use mont_base::{Held, Kind, Object};
 use std::alloc::{AllocError, Global};
 use std::collections::BTreeMap;
 
-/// The live objects of a unit: of each identity the record with the greatest version, unless that is an
-/// anti-payload. They stand in the order of the records.
+/// The live objects of a unit: of each identity the record with the greatest version, unless that
+/// is an anti-payload. They stand in the order of the records.
 pub fn live_objects(alloc: Global, records: &[Held]) -> Result<Vec<Object>, AllocError>
     ensures { IfOk result (λ v. v.items ≡ live_objects records.now) }
 {
@@ -37,7 +37,8 @@ fn newest_versions(alloc: Global, records: &[Held]) -> Result<BTreeMap<u64, u64>
 
 // Makes a version the newest of its identity, unless a newer one is known.
 fn raise(newest: &mut BTreeMap<u64, u64>, identity: u64, version: u64) -> Result<(), AllocError>
-    ensures { OnOk result ((q v : ℕ) → is_above v (tree.get nat_cmp newest.new q) ≡ (is_above v (tree.get nat_cmp newest.old q) || ((identity == q) && nat_lt v version))) }
+    ensures { OnOk result ((q v : ℕ) → is_above v (tree.get nat_cmp newest.new q)
+        ≡ (is_above v (tree.get nat_cmp newest.old q) || ((identity == q) && nat_lt v version))) }
 {
     let known = newest.get(&identity).copied();
     if known.is_none_or(|other| other < version) {
@@ -48,7 +49,8 @@ fn raise(newest: &mut BTreeMap<u64, u64>, identity: u64, version: u64) -> Result
 
 // Whether no version of the record's identity is above its own.
 fn is_newest(newest: &BTreeMap<u64, u64>, held: &Held) -> bool
-    ensures { result ≡ not (is_above held.now.label.version (tree.get nat_cmp newest.now held.now.label.identity)) }
+    ensures { result ≡ not (is_above held.now.label.version
+        (tree.get nat_cmp newest.now held.now.label.identity)) }
 {
     match newest.get(&held.label.identity) {
         Some(version) => *version <= held.label.version,

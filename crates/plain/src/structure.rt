@@ -1,17 +1,22 @@
 // The structure that the live objects of a unit make.
-ghost use Rattle.std.specs.Prelude.{◌≡◌, ◌≢◌, ◌<◌, ◌⊎◌, ℕ, List, [], Some, None, Err, IfOk, IsTrue, ◌↔◌};
+ghost use Rattle.std.specs.Prelude.{◌≡◌, ◌<◌, ◌⊎◌, ℕ, List, Some, None, Ok, Err, IfOk, IsTrue, ◌↔◌};
 ghost use Rattle.mont_base.specs.declared.record.Object.{Object};
 ghost use Rattle.mont_base.specs.declared.record.ObjectFault.{ObjectFault};
-ghost use Rattle.mont_base.specs.declared.layout.UnitKind.{UnitKind};
-ghost use Rattle.mont_base.specs.Layout.{Shape, units_of, kind_of};
+ghost use Rattle.mont_base.specs.declared.kinds.UnitKind.TheVariants as kinds;
+ghost use Rattle.mont_base.specs.Layout.{Shape, units_of};
 ghost use Rattle.mont_base.specs.State.{State};
-ghost use Rattle.mont_base.specs.Objects.{IsStructure, first_fault, map_fault, pairs_of};
+ghost use Rattle.mont_base.specs.Structure.{IsStructure};
 ghost use Rattle.plain.specs.declared.structure.BuildRefusal.TheVariants.{Memory};
-ghost use Rattle.plain.specs.Sound.{MakesStructure};
+ghost use Rattle.plain.specs.Built.{IsFirstFault, MakesStructure, BuildsKind};
 ghost use Rattle.plain.specs.States.{state_of};
 
+use crate::gather::gather_all;
+use crate::graph_parts::{GraphParts, lacking_end};
+use crate::graph_state::GraphState;
+use crate::item_row::ItemRow;
 use crate::map_state::MapState;
-use crate::pair::{has_spare, pair_of};
+use crate::pair_table::PairTable;
+use crate::queue_state::QueueState;
 use crate::unit_state::UnitState;
 use mont_base::{Layout, Object, ObjectFault, Slot, Unit, UnitKind};
 use std::alloc::{AllocError, AllocFailed, Global};
@@ -47,24 +52,26 @@ pub fn build(
     unit: Unit,
     objects: &[Object],
 ) -> Result<UnitState, BuildRefusal>
-    requires unit { unit < units_of layout }
-    requires objects { kind_of layout unit ≢ UnitKind.Map → objects.now ≡ [] }
+    requires { unit < units_of layout }
     ensures built { IfOk result (λ s. IsStructure layout unit objects.now (state_of s)) }
-    ensures refused { (slot : ℕ) (fault : ObjectFault) → result ≡ Err (BuildRefusal.Object slot fault) → first_fault (map_fault layout unit) [] objects.now ≡ Some (slot, fault) }
-    ensures found { kind_of layout unit ≡ UnitKind.Map → (slot : ℕ) (fault : ObjectFault) → first_fault (map_fault layout unit) [] objects.now ≡ Some (slot, fault) → (result ≡ Err (BuildRefusal.Object slot fault)) ⊎ (result ≡ Err BuildRefusal.Memory) }
+    ensures refused { (slot : ℕ) (fault : ObjectFault)
+        → result ≡ Err (BuildRefusal.Object slot fault)
+        → IsFirstFault layout unit objects.now slot fault }
+    ensures found { (slot : ℕ) (fault : ObjectFault)
+        → IsFirstFault layout unit objects.now slot fault
+        → (result ≡ Err (BuildRefusal.Object slot fault)) ⊎ (result ≡ Err Memory) }
 {
     match layout.kind(unit) {
-        UnitKind::Map => {
-            let state = build_map(alloc, layout, unit, objects)?;
-            Ok(UnitState::Map { state })
-        }
-        kind => Ok(UnitState::empty(alloc, kind)),
+        UnitKind::Map => build_map(alloc, layout, unit, objects),
+        UnitKind::Queue => build_queue(alloc, layout, unit, objects),
+        UnitKind::Graph => build_graph(alloc, layout, unit, objects),
     }
 }
 
 /// The law that objects make one structure at most.
 pub fn one_structure()
-    ensures { (s : Shape) (unit : ℕ) (objects : List Object) (a b : State) → IsStructure s unit objects a → IsStructure s unit objects b → a ≡ b }
+    ensures { (s : Shape) (unit : ℕ) (objects : List Object) (a b : State)
+        → IsStructure s unit objects a → IsStructure s unit objects b → a ≡ b }
 {}
 
 // Whether the objects make a structure of the unit.
@@ -77,13 +84,10 @@ pub(crate) fn makes_structure(
     requires { unit < units_of layout }
     ensures { IfOk result (λ b. IsTrue b ↔ MakesStructure layout unit objects.now) }
 {
-    match layout.kind(unit) {
-        UnitKind::Map => match build_map(alloc, layout, unit, objects) {
-            Ok(_state) => Ok(true),
-            Err(BuildRefusal::Object { .. }) => Ok(false),
-            Err(BuildRefusal::Memory) => Err(AllocError),
-        },
-        UnitKind::Queue | UnitKind::Graph => Ok(objects.is_empty()),
+    match build(alloc, layout, unit, objects) {
+        Ok(_state) => Ok(true),
+        Err(BuildRefusal::Object { .. }) => Ok(false),
+        Err(BuildRefusal::Memory) => Err(AllocError),
     }
 }
 
@@ -93,37 +97,52 @@ fn build_map(
     layout: Layout,
     unit: Unit,
     objects: &[Object],
-) -> Result<MapState, BuildRefusal>
-    ensures sound { IfOk result (λ m. first_fault (map_fault layout unit) [] objects.now ≡ None) }
-    ensures pairs { IfOk result (λ m. m ≡ pairs_of objects.now) }
-    ensures refused { (slot : ℕ) (fault : ObjectFault) → result ≡ Err (BuildRefusal.Object slot fault) → first_fault (map_fault layout unit) [] objects.now ≡ Some (slot, fault) }
+) -> Result<UnitState, BuildRefusal>
+    ensures { BuildsKind layout unit kinds.Map objects.now result }
 {
-    let mut state = MapState::new(alloc);
-    for object in objects {
-        if let Some(fault) = fault_of(&layout, unit, &state, object) {
-            return Err(BuildRefusal::Object {
-                slot: object.slot,
-                fault,
-            });
-        }
-        let (key, value) = pair_of(&object.body);
-        state.insert(key, value)?;
+    let mut table = PairTable::new(alloc, layout, unit);
+    if let Some((slot, fault)) = gather_all(&mut table, objects)? {
+        return Err(BuildRefusal::Object { slot, fault });
     }
-    Ok(state)
+    let state = MapState::from_map(table.pairs);
+    Ok(UnitState::Map { state })
 }
 
-// What is wrong with an object, where the map has the pairs of those in lower slots.
-fn fault_of(layout: &Layout, unit: Unit, state: &MapState, object: &Object) -> Option<ObjectFault>
-    ensures { (lower : List Object) → state.now ≡ pairs_of lower → result ≡ map_fault layout.now unit lower object.now }
+// The queue of the objects, unless one of them has a fault.
+fn build_queue(
+    alloc: Global,
+    layout: Layout,
+    unit: Unit,
+    objects: &[Object],
+) -> Result<UnitState, BuildRefusal>
+    ensures { BuildsKind layout unit kinds.Queue objects.now result }
 {
-    let (key, _) = pair_of(&object.body);
-    if has_spare(&object.body) {
-        Some(ObjectFault::Spare)
-    } else if layout.unit_of_key(key) != unit {
-        Some(ObjectFault::Shard)
-    } else if state.get(key).is_some() {
-        Some(ObjectFault::Key)
-    } else {
-        None
+    let mut row = ItemRow::new(alloc);
+    if let Some((slot, fault)) = gather_all(&mut row, objects)? {
+        return Err(BuildRefusal::Object { slot, fault });
     }
+    let items = row.items.values().copied().collect(alloc)?;
+    let state = QueueState::from_items(items);
+    Ok(UnitState::Queue { state })
+}
+
+// The graph of the objects, unless one of them has a fault.
+fn build_graph(
+    alloc: Global,
+    layout: Layout,
+    unit: Unit,
+    objects: &[Object],
+) -> Result<UnitState, BuildRefusal>
+    ensures { BuildsKind layout unit kinds.Graph objects.now result }
+{
+    let mut parts = GraphParts::new(alloc);
+    let found = match gather_all(&mut parts, objects)? {
+        None => lacking_end(&parts.vertices, objects),
+        found => found,
+    };
+    if let Some((slot, fault)) = found {
+        return Err(BuildRefusal::Object { slot, fault });
+    }
+    let state = GraphState::from_maps(parts.vertices, parts.edges);
+    Ok(UnitState::Graph { state })
 }

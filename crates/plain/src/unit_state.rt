@@ -1,12 +1,13 @@
 // The structure of one unit in memory.
 ghost use Rattle.std.specs.Prelude.{◌≡◌, IfOk, OnOk, OnErr};
-ghost use Rattle.mont_base.specs.State.{empty_state, step};
+ghost use Rattle.mont_base.specs.State.{empty_state, size_of, step};
 ghost use Rattle.plain.specs.States.{state_of};
 
+use crate::effects;
 use crate::graph_state::GraphState;
 use crate::map_state::MapState;
 use crate::queue_state::QueueState;
-use mont_base::{Op, Reply, UnitKind};
+use mont_base::{Effect, Op, Reply, UnitKind};
 use std::alloc::{AllocError, Global};
 
 /// The state of a unit of each kind.
@@ -35,8 +36,8 @@ impl UnitState {
         }
     }
 
-    /// Carries an operation out, and answers it. An operation of another kind of unit changes nothing, and
-    /// neither does want of memory.
+    /// Carries an operation out, and answers it. An operation on another kind of unit changes
+    /// nothing, and neither does want of memory.
     pub fn apply(&mut self, op: &Op) -> Result<Reply, AllocError>
         ensures reply { IfOk result (λ r. r ≡ (step (state_of self.old) op.now).reply) }
         ensures state { OnOk result (state_of self.new ≡ (step (state_of self.old) op.now).state) }
@@ -44,7 +45,31 @@ impl UnitState {
     {
         match self {
             UnitState::Map { state } => state.apply(op),
-            UnitState::Queue { .. } | UnitState::Graph { .. } => Ok(Reply::Nothing),
+            UnitState::Queue { state } => state.apply(op),
+            UnitState::Graph { state } => state.apply(op),
+        }
+    }
+
+    /// The things that an operation inserts, replaces and removes, in their order. It carries
+    /// nothing out.
+    pub fn effects(&self, alloc: Global, op: &Op) -> Result<Vec<Effect>, AllocError>
+        ensures { IfOk result (λ v. v.items ≡ (step (state_of self.now) op.now).effects) }
+    {
+        match self {
+            UnitState::Map { state } => effects::on_map(alloc, state, op),
+            UnitState::Queue { state } => effects::on_queue(alloc, state, op),
+            UnitState::Graph { state } => effects::on_graph(alloc, state, op),
+        }
+    }
+
+    /// How many things are in it: pairs, items, or vertices and edges.
+    pub fn size(&self) -> u64
+        ensures { result ≡ size_of (state_of self.now) }
+    {
+        match self {
+            UnitState::Map { state } => state.len(),
+            UnitState::Queue { state } => state.len(),
+            UnitState::Graph { state } => { state.vertices_len() + state.edges_len() }
         }
     }
 }

@@ -1,8 +1,8 @@
 use Rattle.std.proofs.Common.{◌∙◌, sym, ap, map, arith}
 use Rattle.std.proofs.lemmas.List.{get_or-map, length-map}
 use Rattle.std.specs.List.{enumerate_from}
-use Rattle.mont_base.specs.Text.{text_of}
-use Rattle.mont_base.specs.ReportText.{state_lines}
+use Rattle.job_text.specs.Lines.{text_of}
+use Rattle.job_text.specs.ReportText.{state_lines}
 use Rattle.plain.specs.States.{state_of}
 use Rattle.job_text.proofs.Written.{numbered_item, parts_written, numbered_past}
 use Rattle.job_text.proofs.contents_writer.write_units.Goals as goal
@@ -11,11 +11,13 @@ pub loop-unit-preserved : goal.loop-unit-preserved
 loop-unit-preserved c =
     let units = c.args.units.now in
     let unit = c.index-units-unit.result in
-    numbered_item (λ p. text_of (state_lines p.0 p.1)) (map state_of units) c.loop-unit.unit (state_of unit) (state_of unit) _ _ _ (omega (arith, length-map units state_of))
+    numbered_item (λ p. text_of (state_lines p.0 p.1)) (map state_of units) c.loop-unit.unit (state_of unit) (state_of unit) _ _ _
+    (omega (arith, length-map units state_of))
     (ap state_of c.index-units-unit.is ∙ sym (get_or-map state_of units c.loop-unit.unit unit (state_of unit) (omega arith)))
     c.loop-unit.invariant c.in_ok-write_unit.ensures
 
 pub returns : goal.returns
 returns c =
     let units = c.args.units.now in
-    parts_written (λ p. state_lines p.0 p.1) (enumerate_from 0 (map state_of units)) c.loop-unit.unit _ _ (numbered_past (map state_of units) _ (omega (arith, length-map units state_of))) c.loop-unit.invariant
+    parts_written (λ p. state_lines p.0 p.1) (enumerate_from 0 (map state_of units)) c.loop-unit.unit _ _
+    (numbered_past (map state_of units) _ (omega (arith, length-map units state_of))) c.loop-unit.invariant

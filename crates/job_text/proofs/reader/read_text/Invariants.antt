@@ -1,10 +1,14 @@
 use Rattle.std.proofs.Common.{◌≡◌, ◌≤◌, ◌-◌, length, vec_len}
 use Rattle.std.specs.Io.KnownBytes.{Consumes}
+use Rattle.job_text.specs.declared.limits.TheConstants.{READ_BYTES}
+use Rattle.job_text.specs.declared.reader.TheConstants.{CHUNK}
 use Rattle.job_text.proofs.reader.read_text.Given as goal
 
--- the bytes so far are the front of what the source had left
+-- the bytes so far are the front of what the source had left, and it didn't fail
 abbrev pub invariant-loop-chunk : goal.invariant-loop-chunk
-invariant-loop-chunk g l = Consumes (g.S.Source.left l.initial.source) (g.S.Source.left l.source) l.bytes.items × (g.S.Source.faults l.initial.source ≤ g.S.Source.faults l.source) × (vec_len l.bytes ≤ 16200001) × (length l.chunk ≡ 4096)
+invariant-loop-chunk g l =
+    Consumes (g.S.Source.left l.initial.source) (g.S.Source.left l.source) l.bytes.items
+    × (g.S.Source.faults l.source ≡ g.S.Source.faults l.initial.source) × (vec_len l.bytes ≤ READ_BYTES) × (length l.chunk ≡ CHUNK)
 
 abbrev pub decreases-loop-chunk : goal.decreases-loop-chunk
-decreases-loop-chunk g l = 16200001 - vec_len l.bytes
+decreases-loop-chunk g l = READ_BYTES - vec_len l.bytes

@@ -8,9 +8,12 @@ use Rattle.montage_tool.specs.Delivery.{AppendsPrefix}
 use Rattle.montage_tool.proofs.delivery.deliver.Goals as goal
 
 -- the bytes in front of what a write left
-front_more : (bytes front rest : List ℕ) (count : ℕ) → bytes ≡ front ++ rest → bytes ≡ (front ++ take count rest) ++ take (length rest - count) (drop count rest)
+front_more :
+    (bytes front rest : List ℕ) (count : ℕ) → bytes ≡ front ++ rest
+    → bytes ≡ (front ++ take count rest) ++ take (length rest - count) (drop count rest)
 front_more bytes front rest count is =
-    let left : take (length rest - count) (drop count rest) ≡ drop count rest = take_all (length rest - count) (drop count rest) (omega (arith, length-drop count rest)) in
+    let left : take (length rest - count) (drop count rest) ≡ drop count rest =
+    take_all (length rest - count) (drop count rest) (omega (arith, length-drop count rest)) in
     is ∙ ap (λ (xs : List ℕ). front ++ xs) (sym (take-append-drop count rest))
     ∙ sym (append_assoc front (take count rest) (drop count rest))
     ∙ ap (λ (xs : List ℕ). (front ++ take count rest) ++ xs) (sym left)
@@ -24,13 +27,15 @@ loop-rest-preserved g c =
       sent = (
         sent.0 ++ take count rest,
         front_more c.args.bytes.now sent.0 rest count sent.1,
-        Appends-trans (g.O.Sink.taken c.args.out.now) (g.O.Sink.taken c.loop-rest.out) (g.O.Sink.taken c.write.new.self) sent.0 (take count rest) sent.2 c.in_ok-count.ensures.bytes,
+        Appends-trans (g.O.Sink.taken c.args.out.now) (g.O.Sink.taken c.loop-rest.out) (g.O.Sink.taken c.write.new.self) sent.0
+            (take count rest) sent.2 c.in_ok-count.ensures.bytes,
       );
-      later = omega (arith, c.write.ensures.cause.later);
+      kept = c.in_ok-count.ensures.cause.kept ∙ c.loop-rest.invariant.kept;
     }
 
 -- bytes in front of others are a prefix
-prefix_taken : (old new : Option (List ℕ)) (bytes front rest : List ℕ) → bytes ≡ front ++ rest → Appends old new front → AppendsPrefix old new bytes
+prefix_taken :
+    (old new : Option (List ℕ)) (bytes front rest : List ℕ) → bytes ≡ front ++ rest → Appends old new front → AppendsPrefix old new bytes
 prefix_taken old new bytes front rest is taken =
     let same : front ≡ take (length front) bytes = sym (ap (take (length front)) is ∙ take-append_seam front rest) in
     (length front, omega (arith, ap length is, length-append front rest), subst (Appends old new) same taken)

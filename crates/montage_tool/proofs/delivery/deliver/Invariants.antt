@@ -1,4 +1,4 @@
-use Rattle.std.proofs.Common.{◌≡◌, ◌≤◌, List, ℕ, ◌++◌, length}
+use Rattle.std.proofs.Common.{◌≡◌, List, ℕ, ◌++◌, length}
 use Rattle.std.specs.Io.KnownBytes.{Appends}
 use Rattle.montage_tool.proofs.delivery.deliver.Given as goal
 
@@ -6,7 +6,7 @@ use Rattle.montage_tool.proofs.delivery.deliver.Given as goal
 abbrev pub invariant-loop-rest : goal.invariant-loop-rest
 invariant-loop-rest g l = record {
   sent : (front : List ℕ) × (l.bytes ≡ front ++ l.rest) × Appends (g.O.Sink.taken l.initial.out) (g.O.Sink.taken l.out) front;
-  later : g.O.Sink.faults l.initial.out ≤ g.O.Sink.faults l.out;
+  kept : g.O.Sink.faults l.out ≡ g.O.Sink.faults l.initial.out;
 }
 
 abbrev pub decreases-loop-rest : goal.decreases-loop-rest

@@ -1,11 +1,10 @@
-use Rattle.std.proofs.Common.{◌+◌, List, [], ◌∷◌, ◌++◌, take, sym, ap, ◌∙◌, subst, arith}
+use Rattle.std.proofs.Common.{◌≡◌, ℕ, ◌+◌, List, [], ◌∷◌, ◌++◌, take, sym, ap, ◌∙◌, subst, arith, true}
+use Rattle.std.specs.Prelude.{count_by, if◌then◌else◌}
 use Rattle.std.proofs.lemmas.List.{take_more}
-use Rattle.mont_base.specs.declared.job.Line.{Line}
-use Rattle.mont_base.specs.declared.job.Deed.TheVariants.{Call}
-use Rattle.mont_base.specs.declared.operation.Op.TheVariants.{Put}
-use Rattle.mont_base.specs.declared.job.Outcome.{Outcome}
 use Rattle.mont_base.specs.Layout.{Shape}
-use Rattle.mont_base.specs.JobText.{is_put}
+use Rattle.job_text.specs.declared.job.Line.{Line}
+use Rattle.job_text.specs.declared.outcome.Outcome.{Outcome}
+use Rattle.job_text.specs.JobText.{is_put}
 use Rattle.montage_tool.specs.Run.{Played}
 use Rattle.montage_tool.proofs.Lines.{puts_before_one, puts_with}
 use Rattle.montage_tool.proofs.run.play.Goals as goal
@@ -13,7 +12,10 @@ use Rattle.montage_tool.proofs.run.play.Goals as goal
 pub play_line-requires-clause-room : goal.play_line-requires-clause-room
 play_line-requires-clause-room c = λ put.
     let i = c.loop-line.invariant in
-    let before = puts_before_one is_put c.args.lines.now c.loop-line.line-index _ c.loop-line-test.true put in
+    let lines = c.args.lines.now in
+    let at = c.loop-line.line-index in
+    let there = puts_before_one is_put lines at c.line-item.result c.loop-line-test.true
+    (subst (λ (l : Line). is_put l ≡ true) c.line-item.is put) in
     let few = c.requires.few_puts in
     let same = ap (λ (s : Shape). s.slots) i.layout in
     let records = i.records in
@@ -26,12 +28,22 @@ loop-line-preserved c =
     let done = c.in_ok-outcome.ensures.done in
     let lines = c.args.lines.now in
     let at = c.loop-line.line-index in
+    let l : Line = c.line-item.result in
+    let os : List Outcome = c.loop-line.outcomes.items in
+    let more : take (at + 1) lines ≡ take at lines ++ l ∷ [] =
+    take_more lines at l c.loop-line-test.true ∙ ap (λ (k : Line). take at lines ++ k ∷ []) (sym c.line-item.is) in
     record {
-      sound = c.in_ok-outcome.ensures.sound;
+      ready = c.in_ok-outcome.ensures.ready;
       layout = done.layout ∙ i.layout;
-      played = subst (λ (os : List Outcome). Played n.layout n.history.items n.clock (take (at + 1) lines) os) (sym c.in_ok-push.ensures.items)
-          (subst (λ (ls : List Line). Played n.layout n.history.items n.clock ls (c.loop-line.outcomes.items ++ c.in_ok-outcome.outcome ∷ [])) (sym (take_more lines at _ c.loop-line-test.true)) (done.played (take at lines) c.loop-line.outcomes.items i.played));
+      played =
+          subst (λ (qs : List Outcome). Played n.layout n.history.items n.clock (take (at + 1) lines) qs) (sym c.in_ok-push.ensures.items)
+          (subst (λ (ls : List Line). Played n.layout n.history.items n.clock ls (os ++ c.in_ok-outcome.outcome ∷ []))
+          (sym more) (done.played (take at lines) os i.played));
       clock = let a = done.clock in let b = i.clock in omega arith;
       history = let a = done.history in let b = i.history in omega arith;
-      records = let e = done.records in let f = i.records in omega (arith, puts_with is_put lines at (record { caller = 0; deed = Call (Put 0 0) }) c.loop-line-test.true);
+      records =
+          done.records
+          ∙ ap (λ (k : ℕ). k + (if is_put l then 1 else 0)) i.records
+          ∙ ap (λ (k : Line). count_by is_put (take at lines) + (if is_put k then 1 else 0)) c.line-item.is
+          ∙ sym (puts_with is_put lines at l c.loop-line-test.true);
     }

@@ -12,6 +12,8 @@ returns-clause-bytes c =
     let copied = c.copy_from_slice.new.self in
     let tail = drop count c.args.buf.now in (
       sym (ap (λ (r : Readable). r.left) c.self.view_is)
-          ∙ left_before bytes at count copied tail c.deref-2.result.now c.deref-2.ensures.value c.copy_from_slice.ensures.after (omega (arith, length-drop at bytes, ap length c.deref-2.ensures.value)),
-      λ none room. empty_of_length (drop (at + count) bytes) (omega (arith, length-drop (at + count) bytes, ap length c.deref-2.ensures.value)),
+          ∙ left_before bytes at count copied tail c.deref-2.result.now c.deref-2.ensures.value c.copy_from_slice.ensures.after
+          (omega (arith, length-drop at bytes, ap length c.deref-2.ensures.value)),
+      λ none room. empty_of_length (drop (at + count) bytes)
+          (omega (arith, length-drop (at + count) bytes, ap length c.deref-2.ensures.value)),
     )

@@ -1,10 +1,8 @@
-use Rattle.std.proofs.Common.{◌≡◌, map}
-use Rattle.std.specs.List.{range_with_len}
+use Rattle.std.proofs.Common.{◌≡◌, map, take}
 use Rattle.mont_base.specs.State.{empty_state}
-use Rattle.mont_base.specs.Layout.{kind_of}
 use Rattle.plain.specs.States.{state_of}
 use Rattle.plain.proofs.contents.Contents.empty.Given as goal
 
 -- the units so far have nothing in them
-abbrev pub invariant-loop-unit : goal.invariant-loop-unit
-invariant-loop-unit l = map state_of l.units ≡ map (λ unit. empty_state (kind_of l.layout unit)) (range_with_len 0 l.unit)
+abbrev pub invariant-loop-kind : goal.invariant-loop-kind
+invariant-loop-kind l = map state_of l.units ≡ map empty_state (take l.kind-index l.kind-items)

@@ -1,7 +1,8 @@
-use Rattle.std.proofs.Common.{sym, ap, ◌∙◌}
-use Rattle.std.specs.FinMap.{len}
-use Rattle.plain.proofs.Maps.{len-sorted, edges_total}
+use Rattle.std.proofs.Common.{ap}
+use Rattle.plain.proofs.Maps.{edges_total, kept_len}
 use Rattle.plain.proofs.graph_state.GraphState.edges_len.Goals as goal
 
-pub returns : goal.returns
-returns c = c.len.ensures.len ∙ sym (len-sorted edges_total c.self.inside.edges.entries c.len.ensures.ordered) ∙ ap (λ g. len g.edges) c.self.view_is
+pub returns-clause-value : goal.returns-clause-value
+returns-clause-value c =
+    kept_len edges_total c.self.inside.edges.entries c.args.self.now.edges (ap (λ g. g.edges) c.self.view_is) c.len.result
+    c.len.ensures.ordered c.len.ensures.len

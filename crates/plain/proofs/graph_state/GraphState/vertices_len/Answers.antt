@@ -1,8 +1,9 @@
-use Rattle.std.proofs.Common.{sym, ap, ◌∙◌}
+use Rattle.std.proofs.Common.{ap}
 use Rattle.std.specs.Cmp.{nat_cmp_total}
-use Rattle.std.specs.FinMap.{len}
-use Rattle.plain.proofs.Maps.{len-sorted}
+use Rattle.plain.proofs.Maps.{kept_len}
 use Rattle.plain.proofs.graph_state.GraphState.vertices_len.Goals as goal
 
-pub returns : goal.returns
-returns c = c.len.ensures.len ∙ sym (len-sorted nat_cmp_total c.self.inside.vertices.entries c.len.ensures.ordered) ∙ ap (λ g. len g.vertices) c.self.view_is
+pub returns-clause-value : goal.returns-clause-value
+returns-clause-value c =
+    kept_len nat_cmp_total c.self.inside.vertices.entries c.args.self.now.vertices (ap (λ g. g.vertices) c.self.view_is) c.len.result
+    c.len.ensures.ordered c.len.ensures.len

@@ -1,8 +1,7 @@
-use Rattle.std.proofs.Common.{sym, ap, ◌∙◌}
-use Rattle.std.specs.Cmp.{nat_cmp_total}
-use Rattle.std.specs.FinMap.{entries}
-use Rattle.plain.proofs.Maps.{entries-sorted}
+use Rattle.plain.proofs.Maps.{keys_total, kept_entries}
 use Rattle.plain.proofs.map_state.MapState.iter.Goals as goal
 
 pub returns : goal.returns
-returns c = c.iter.ensures.rest ∙ sym (entries-sorted nat_cmp_total c.self.inside.pairs.entries c.iter.ensures.ordered) ∙ ap (λ m. entries m) c.self.view_is
+returns c =
+    kept_entries keys_total c.self.inside.pairs.entries c.args.self.now c.self.view_is c.iter.result c.iter.ensures.ordered
+    c.iter.ensures.rest

@@ -1,8 +1,6 @@
-use Rattle.std.proofs.Common.{sym, ap, ◌∙◌}
-use Rattle.std.specs.Cmp.{nat_cmp_total}
-use Rattle.std.specs.FinMap.{len}
-use Rattle.plain.proofs.Maps.{len-sorted}
+use Rattle.plain.proofs.Maps.{keys_total, kept_len}
 use Rattle.plain.proofs.map_state.MapState.len.Goals as goal
 
 pub returns : goal.returns
-returns c = c.len.ensures.len ∙ sym (len-sorted nat_cmp_total c.self.inside.pairs.entries c.len.ensures.ordered) ∙ ap (λ m. len m) c.self.view_is
+returns c =
+    kept_len keys_total c.self.inside.pairs.entries c.args.self.now c.self.view_is c.len.result c.len.ensures.ordered c.len.ensures.len

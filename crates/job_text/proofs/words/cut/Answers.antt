@@ -1,8 +1,0 @@
-use Rattle.job_text.proofs.Cuts.{Lacks-from_none, IsCut-from_some}
-use Rattle.job_text.proofs.words.cut.Goals as goal
-
-pub returns-in_err-at : goal.returns-in_err-at
-returns-in_err-at c = rw c.from_residual.ensures (Lacks-from_none c.args.byte c.args.bytes.now (cc c.in_err-at.ensures))
-
-pub returns : goal.returns
-returns c = IsCut-from_some c.args.byte c.args.bytes.now c.in_ok-at.at (cc c.in_ok-at.ensures)

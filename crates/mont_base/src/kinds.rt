@@ -1,0 +1,167 @@
+// The kinds of a store's units.
+ghost use Rattle.std.specs.Prelude.{◌≡◌, ◌≢◌, ◌<◌, ◌≤◌, ◌+◌, ◌-◌, ℕ, List, length, slice_get, Some, None, IfSome, MatchOption, MatchResult};
+ghost use Rattle.mont_base.specs.declared.kinds.UnitKind.{UnitKind};
+
+use crate::constants::MOST_UNITS;
+use std::marker::Model;
+
+/// What kind of structure a unit is.
+#[derive(Clone, Copy, Debug, PartialEq, Eq)]
+pub enum UnitKind {
+    Map,
+    Queue,
+    Graph,
+}
+
+impl UnitKind {
+    ghost use Rattle.mont_base.specs.Layout.{letter_of, code_of, same_kind};
+
+    /// The letter that spells the kind in texts.
+    pub fn letter(self) -> u8
+        ensures { result ≡ letter_of self }
+    {
+        match self {
+            UnitKind::Map => b'm',
+            UnitKind::Queue => b'q',
+            UnitKind::Graph => b'g',
+        }
+    }
+
+    /// The kind that a letter spells.
+    pub fn of_letter(letter: u8) -> Option<UnitKind>
+        ensures { MatchOption result ((kind : UnitKind) → letter ≢ letter_of kind)
+            (λ kind. letter ≡ letter_of kind) }
+    {
+        match letter {
+            b'm' => Some(UnitKind::Map),
+            b'q' => Some(UnitKind::Queue),
+            b'g' => Some(UnitKind::Graph),
+            _ => None,
+        }
+    }
+
+    /// The number that stands for the kind in images.
+    pub fn code(self) -> u64
+        ensures { result ≡ code_of self }
+    {
+        match self {
+            UnitKind::Map => 1,
+            UnitKind::Queue => 2,
+            UnitKind::Graph => 3,
+        }
+    }
+
+    /// The kind that a number stands for.
+    pub fn of_code(code: u64) -> Option<UnitKind>
+        ensures { MatchOption result ((kind : UnitKind) → code ≢ code_of kind)
+            (λ kind. code ≡ code_of kind) }
+    {
+        match code {
+            1 => Some(UnitKind::Map),
+            2 => Some(UnitKind::Queue),
+            3 => Some(UnitKind::Graph),
+            _ => None,
+        }
+    }
+}
+
+/// Letters that spell no kinds of a store: none, more than sixteen, or another than `m`, `q` and
+/// `g`.
+#[derive(Clone, Copy, Debug, PartialEq, Eq)]
+pub struct BadKinds;
+
+/// The kinds of a store's units, in the order of the units, of which there are 1 to 16.
+///
+/// They are kept in place. Contracts see them as a list.
+#[derive(Clone, Copy, Debug, PartialEq, Eq)]
+pub struct Kinds {
+    // behind the last unit stand maps
+    of_units: [UnitKind; MOST_UNITS],
+    units: usize,
+}
+
+impl Model for Kinds {
+    ghost use Rattle.std.specs.Prelude.{List, length, take};
+    ghost use Rattle.mont_base.specs.declared.kinds.UnitKind.{UnitKind};
+
+    ghost Value = { List UnitKind };
+
+    ghost use Rattle.mont_base.specs.Kinds.{padded, KindsStand};
+
+    ghost view = { λ k. take k.units k.of_units };
+
+    ghost invariant = { λ k. KindsStand k.units k.of_units };
+
+    ghost inverse = { λ ks. record { of_units = padded ks; units = length ks } };
+
+    ghost use Rattle.mont_base.specs.Kinds.{inverse_of_view};
+
+    ghost inverse_ok = { λ k h. inverse_of_view k h };
+}
+
+impl Kinds {
+    ghost use Rattle.mont_base.specs.Layout.{IsKinds, letters_of, same_kind, units_from};
+    ghost use Rattle.mont_base.specs.Kinds.{old_kinds};
+
+    /// The kinds that letters spell, one letter for each unit.
+    pub fn of_letters(letters: &[u8]) -> Result<Kinds, BadKinds>
+        ensures { MatchResult result (λ kinds. letters.now ≡ letters_of kinds)
+            (λ _. (kinds : List UnitKind) → IsKinds kinds → letters.now ≢ letters_of kinds) }
+    {
+        let mut of_units = [UnitKind::Map; MOST_UNITS];
+        let units = letters.len();
+        if units == 0 || units > MOST_UNITS {
+            return Err(BadKinds);
+        }
+        for (unit, letter) in letters.iter().enumerate() {
+            match UnitKind::of_letter(*letter) {
+                Some(kind) => of_units[unit] = kind,
+                None => return Err(BadKinds),
+            }
+        }
+        Ok(Kinds { of_units, units })
+    }
+
+    /// So many maps, then a queue and a graph, which older images have.
+    pub fn old(maps: u64) -> Kinds
+        requires some { 1 ≤ maps }
+        requires few { maps ≤ 8 }
+        ensures { result ≡ old_kinds maps }
+    {
+        let units = maps as usize;
+        let mut of_units = [UnitKind::Map; MOST_UNITS];
+        of_units[units] = UnitKind::Queue;
+        of_units[units + 1] = UnitKind::Graph;
+        Kinds {
+            of_units,
+            units: units + 2,
+        }
+    }
+
+    /// How many units there are.
+    pub fn len(&self) -> u64
+        ensures value { result ≡ length self.now }
+        ensures kinds { IsKinds self.now }
+    {
+        self.units as u64
+    }
+
+    /// The kinds in the order of the units.
+    pub fn as_slice(&self) -> &[UnitKind]
+        ensures value { result.now ≡ self.now }
+        ensures kinds { IsKinds self.now }
+    {
+        &self.of_units[..self.units]
+    }
+
+    /// The kind of a unit, if there is one of this number.
+    pub fn get(&self, unit: u64) -> Option<UnitKind>
+        ensures { result ≡ slice_get self.now unit }
+    {
+        if unit < self.units as u64 {
+            Some(self.of_units[unit as usize])
+        } else {
+            None
+        }
+    }
+}

@@ -1,0 +1,4 @@
+pub mod Places
+pub mod Entries
+pub mod FaithfulParts
+pub mod Layouts

@@ -1,0 +1,8 @@
+use Rattle.std.proofs.Common.{ℕ, ◌<◌}
+use Rattle.plain.specs.States.{states_of}
+use Rattle.job_text.specs.PlainReport.{report_of}
+use Rattle.mont_check.specs.Faithful.{CutAt}
+use Rattle.mont_check.proofs.faithful.are_cut.Given as goal
+
+abbrev pub invariant-loop-unit : goal.invariant-loop-unit
+invariant-loop-unit l = (u : ℕ) → u < l.unit → CutAt (report_of l.report) (states_of l.base) u

@@ -1,0 +1,7 @@
+use Rattle.std.proofs.Common.{ℕ, ◌<◌}
+use Rattle.plain.specs.States.{states_of}
+use Rattle.mont_check.specs.Faithful.{LegalAt}
+use Rattle.mont_check.proofs.faithful.are_legal.Given as goal
+
+abbrev pub invariant-loop-unit : goal.invariant-loop-unit
+invariant-loop-unit l = (u : ℕ) → u < l.unit → LegalAt l.layout l.clock (states_of l.base) l.histories u

@@ -1,0 +1,10 @@
+pub mod Records
+pub mod Shows
+pub mod Structures
+pub mod Effects
+pub mod Retiring
+pub mod SlotWords
+pub mod SlotReadings
+pub mod SlotImages
+pub mod UnitRecords
+pub mod SettledWords

@@ -1,0 +1,57 @@
+// What the program says of itself.
+ghost use Rattle.std.specs.Prelude.{◌≡◌, ◌↔◌, Some, map, string_bytes};
+ghost use Rattle.montage_tool.specs.Forms.{AreHelp, AreVersion};
+
+/// The answer to `--help`.
+pub(crate) const HELP: &str = "\
+montage: runs jobs over buffered durable structures
+
+usage:
+  montage run         runs the job on standard input and writes its report
+  montage --help      this text
+  montage --version   the version
+
+A job is lines of text. The first is
+  montage-job 3 mqg S 1 0 0000000000000000
+with S from 8 to 4096, the slots of a unit. The others are
+  0 put KEY VALUE     0 get KEY     0 tick
+A key or a value has at most 24 bytes. A byte from ! to ~ other than % stands for
+itself, any other is % and two digits 0 to 9, a to f. The empty text is % alone.
+
+exit status: 0 done, 2 bad words, 3 bad job, 5 read fault, 6 write fault, 7 out of memory
+";
+
+/// The answer to `--version`.
+pub(crate) const VERSION: &str = "montage 0.2.0\n";
+
+// What the program may be asked of itself.
+#[derive(Clone, Copy, Debug, PartialEq, Eq)]
+pub(crate) enum Question {
+    Help,
+    Version,
+}
+
+// What the words ask of the program itself.
+pub(crate) fn question_of(words: &[String]) -> Option<Question>
+    ensures help { (result ≡ Some Question.Help) ↔ AreHelp (map string_bytes words.now) }
+    ensures version { (result ≡ Some Question.Version) ↔ AreVersion (map string_bytes words.now) }
+{
+    match words {
+        [word] if word.as_str() == "--help" => Some(Question::Help),
+        [word] if word.as_str() == "--version" => Some(Question::Version),
+        _ => None,
+    }
+}
+
+impl Question {
+    // What is said.
+    pub(crate) fn text(self) -> &'static str
+        ensures help { self ≡ Question.Help → result.now ≡ HELP.now }
+        ensures version { self ≡ Question.Version → result.now ≡ VERSION.now }
+    {
+        match self {
+            Question::Help => HELP,
+            Question::Version => VERSION,
+        }
+    }
+}
