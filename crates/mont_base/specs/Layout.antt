@@ -74,8 +74,7 @@ abbrev pub map_units : Shape → List ℕ
 map_units s = units_from 0 kinds.Map s.kinds
 
 -- A key's bytes as digits in base 10, modulo the number of map units. The digits 0 to 9 count as
--- these numbers,
--- so a number is kept by the same map unit as its decimal digits.
+-- these numbers, so a number is kept by the same map unit as its decimal digits.
 abbrev pub next_digit : ℕ → ℕ → ℕ → ℕ
 next_digit maps number byte = (number * 10 + (byte + 208) % 256) % maps
 

@@ -21,8 +21,7 @@ abbrev pub same_text : List ℕ → List ℕ → Bool
 same_text = eq_by_cmp text_cmp
 
 -- The three words that hold the bytes of a text, eight to a word and the lowest byte of a word
--- first. Behind the end of
--- the text their bytes are 0.
+-- first. Behind the end of the text their bytes are 0.
 unfoldable pub byte_words : List ℕ → List ℕ
 byte_words text =
     from_le_bytes w64 text ∷ from_le_bytes w64 (drop 8 text) ∷ from_le_bytes w64 (drop 16 text) ∷ []

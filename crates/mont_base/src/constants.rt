@@ -49,3 +49,7 @@ const _: () = prove!(LEAST_SLOTS == 8);
 const _: () = prove!(MOST_SLOTS == 4096);
 
 const _: () = prove!(TEXT_BYTES == 24);
+
+const _: () = prove!(VERTEX_TAG == 1);
+
+const _: () = prove!(EDGE_TAG == 2);

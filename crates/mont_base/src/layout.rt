@@ -125,9 +125,8 @@ impl Layout {
         maps
     }
 
-    /// The map unit that keeps a key. The digits of a number belong to the map unit that the number
-    /// modulo their
-    /// count names.
+    /// The map unit that keeps a key. The decimal digits of a number are kept by the map unit at the
+    /// number modulo the count of map units, which are counted from 0.
     pub fn unit_of_key(&self, key: &Text) -> Unit
         requires { 0 < length (map_units self.now) }
         ensures { unit_of_key self.now key.now ≡ Some result }

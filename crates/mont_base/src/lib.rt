@@ -1,7 +1,6 @@
 //! The types, traits and definitions of buffered durable structures: kinds of units and layouts,
-//! texts, slots,
-//! records, operations and what they do, gates, and the devices that bytes are read from and
-//! written to.
+//! texts, slots, records, operations and what they do, gates, and the devices that bytes are read
+//! from and written to.
 //!
 //! The definitions that contracts cite stand in `specs/`, one file for each subject.
 #![tactic(auto)]

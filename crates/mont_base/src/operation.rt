@@ -7,8 +7,7 @@ use crate::layout::{Epoch, Layout, Unit};
 use crate::text::Text;
 
 /// An operation on a structure. Those on a queue or a graph name its unit; a map operation is of
-/// the map unit that
-/// keeps its key.
+/// the map unit that keeps its key.
 #[derive(Clone, Copy, Debug, PartialEq, Eq)]
 pub enum Op {
     /// Sets the value of a key.
@@ -112,8 +111,7 @@ impl Op {
     ghost use Rattle.mont_base.specs.State.{unit_of_op};
 
     /// The unit that the operation belongs to. There is none for a map operation where no unit is a
-    /// map, and for one
-    /// that names a unit of another kind or a number of no unit.
+    /// map, and for one that names a unit of another kind or a number of no unit.
     pub fn unit(&self, layout: Layout) -> Option<Unit>
         ensures { result ≡ unit_of_op layout self.now }
     {

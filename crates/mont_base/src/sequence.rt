@@ -7,8 +7,7 @@ use std::alloc::{AllocError, Global};
 use std::marker::Model;
 
 /// A vector that contracts see as the list of its items, so that values which hold one can be
-/// compared with
-/// what a definition computes.
+/// compared with what a definition computes.
 #[derive(Debug, Drop)]
 pub struct Sequence<T> {
     items: Vec<T>,

@@ -1,6 +1,8 @@
 // Where bytes are written to.
-ghost use Rattle.std.specs.Prelude.{◌≡◌, ◌<◌, ◌≤◌, ◌+◌, ◌-◌, ℕ, List, [], length, Option, Some, IfOk};
+ghost use Rattle.std.specs.Prelude.{◌≡◌, ◌<◌, ◌≤◌, ℕ, List, [], length, false, Option, Some, IfOk};
 ghost use Rattle.std.specs.Io.KnownBytes.{WriteAppends};
+ghost use Rattle.std.specs.Result.{OkIff};
+ghost use Rattle.mont_base.specs.Devices.{calls_from_start, behind_next, fails_next, room_left, takes_next};
 ghost use Rattle.mont_base.specs.Faults.{HasCause, CountsFaults};
 
 use crate::source::Failed;
@@ -25,12 +27,10 @@ pub trait Sink {
 }
 
 /// A sink in memory whose room is reserved when it is made. It takes at most a stated number of
-/// bytes a
-/// call. A call past its room fails, and so do the calls whose numbers are listed; the first call
-/// has
-/// number 0.
+/// bytes a call. A call fails where no room is left and where its number is listed, and no other
+/// does; the first call has number 0.
 ///
-/// Contracts see the bytes that it took, its room and the count of faults.
+/// Contracts see the bytes that it took, its room, the calls and the count of faults.
 #[derive(Debug, Drop)]
 pub struct MemSink {
     taken: Vec<u8>,
@@ -43,6 +43,7 @@ pub struct MemSink {
 
 impl Model for MemSink {
     ghost use Rattle.std.specs.Prelude.{◌<◌, ◌≤◌, length};
+    ghost use Rattle.std.specs.Vec.{vec_capacity};
     ghost use Rattle.mont_base.specs.Devices.{Writable};
 
     ghost Value = { Writable };
@@ -50,10 +51,12 @@ impl Model for MemSink {
     ghost view = { λ s. record {
       taken = s.taken.items;
       reserved = s.reserved;
+      calls = record { piece = s.piece; failing = s.fail_calls.items; next = s.calls };
       faults = s.faults;
     } };
 
-    ghost invariant = { λ s. (0 < s.piece) × (length s.taken.items ≤ s.reserved) };
+    ghost invariant = { λ s. (0 < s.piece) × (length s.taken.items ≤ s.reserved)
+        × (s.reserved ≤ vec_capacity s.taken) };
 }
 
 impl MemSink {
@@ -65,7 +68,12 @@ impl MemSink {
         fail_calls: Vec<u64>,
     ) -> Result<MemSink, AllocError>
         requires { 0 < piece }
-        ensures { IfOk result (λ s. s ≡ record { taken = []; reserved = reserved; faults = 0 }) }
+        ensures { IfOk result (λ s. s ≡ record {
+          taken = [];
+          reserved = reserved;
+          calls = calls_from_start piece fail_calls.items;
+          faults = 0;
+        }) }
     {
         Ok(MemSink {
             taken: Vec::with_capacity(alloc, reserved as usize)?,
@@ -96,6 +104,10 @@ impl Sink for MemSink {
         ensures bytes { WriteAppends (Some self.old.taken) (Some self.new.taken) result piece.now }
         ensures cause { HasCause self.old.faults self.new.faults result }
         ensures counted { CountsFaults self.old.faults self.new.faults result }
+        ensures answer { OkIff result
+            ((fails_next self.old.calls ≡ false) × (0 < room_left self.old))
+            (takes_next self.old (length piece.now)) }
+        ensures calls { self.new.calls ≡ behind_next self.old.calls }
         ensures room { length self.new.taken ≤ self.new.reserved }
         ensures reserved { self.new.reserved ≡ self.old.reserved }
     {

@@ -1,6 +1,8 @@
 // Where bytes are read from.
-ghost use Rattle.std.specs.Prelude.{◌≡◌, ◌<◌, ◌≤◌, ◌+◌, ℕ, List, length, drop, Option, Some, IfOk};
+ghost use Rattle.std.specs.Prelude.{◌≡◌, ◌<◌, ◌≤◌, ◌++◌, ℕ, List, length, take, drop, false, Option, Some, IfOk, MatchResult};
 ghost use Rattle.std.specs.Io.KnownBytes.{ReadConsumes};
+ghost use Rattle.std.specs.Result.{OkIff};
+ghost use Rattle.mont_base.specs.Devices.{calls_from_start, behind_next, fails_next, gives_next};
 ghost use Rattle.mont_base.specs.Faults.{HasCause, CountsFaults};
 
 use std::marker::Model;
@@ -26,11 +28,10 @@ pub trait Source {
         ensures cause { HasCause (faults self.old) (faults self.new) result };
 }
 
-/// Bytes in memory, given in pieces of a stated size. The calls whose numbers are listed fail; the
-/// first
-/// call has number 0.
+/// Bytes in memory, given in pieces of a stated size. The calls whose numbers are listed fail, and
+/// no others; the first call has number 0.
 ///
-/// Contracts see the bytes that are left and the count of faults.
+/// Contracts see the bytes that are left, the calls and the count of faults.
 #[derive(Debug, Drop)]
 pub struct MemSource {
     bytes: Vec<u8>,
@@ -47,7 +48,11 @@ impl Model for MemSource {
 
     ghost Value = { Readable };
 
-    ghost view = { λ s. record { left = drop s.at s.bytes.items; faults = s.faults } };
+    ghost view = { λ s. record {
+      left = drop s.at s.bytes.items;
+      calls = record { piece = s.piece; failing = s.fail_calls.items; next = s.calls };
+      faults = s.faults;
+    } };
 
     ghost invariant = { λ s. (0 < s.piece) × (s.at ≤ length s.bytes.items) };
 }
@@ -56,7 +61,11 @@ impl MemSource {
     /// A source of these bytes, of which a call gives at most `piece`.
     pub fn new(bytes: Vec<u8>, piece: u64, fail_calls: Vec<u64>) -> MemSource
         requires { 0 < piece }
-        ensures { result ≡ record { left = bytes.items; faults = 0 } }
+        ensures { result ≡ record {
+          left = bytes.items;
+          calls = calls_from_start piece fail_calls.items;
+          faults = 0;
+        } }
     {
         MemSource {
             bytes,
@@ -79,6 +88,11 @@ impl Source for MemSource {
         ensures bytes { ReadConsumes (Some self.old.left) (Some self.new.left) result buf.new }
         ensures cause { HasCause self.old.faults self.new.faults result }
         ensures counted { CountsFaults self.old.faults self.new.faults result }
+        ensures answer { OkIff result (fails_next self.old.calls ≡ false)
+            (gives_next self.old (length buf.old)) }
+        ensures calls { self.new.calls ≡ behind_next self.old.calls }
+        ensures buffer { MatchResult result
+            (λ n. buf.new ≡ take n self.old.left ++ drop n buf.old) (λ _. buf.new ≡ buf.old) }
     {
         let call = self.calls;
         self.calls = call.saturating_add(1);
