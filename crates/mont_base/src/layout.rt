@@ -125,8 +125,8 @@ impl Layout {
         maps
     }
 
-    /// The map unit that keeps a key. The decimal digits of a number are kept by the map unit at the
-    /// number modulo the count of map units, which are counted from 0.
+    /// The map unit that keeps a key. The decimal digits of a number are kept by the map unit at
+    /// the number modulo the count of map units, which are counted from 0.
     pub fn unit_of_key(&self, key: &Text) -> Unit
         requires { 0 < length (map_units self.now) }
         ensures { unit_of_key self.now key.now ≡ Some result }
