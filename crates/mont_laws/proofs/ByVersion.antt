@@ -8,7 +8,8 @@ use Rattle.std.proofs.lemmas.Option.{same_Some}
 use Rattle.mont_base.specs.declared.record.Held.{Held}
 use Rattle.mont_base.specs.Versions.{newest_of}
 use Rattle.mont_laws.specs.Records.{AreApart, IsLaterVersion, without_slot}
-use Rattle.mont_laws.specs.Retiring.{Retired, IsDue, Retires, IsIn, StandsBefore, IsRetireEpoch, IsRetiredRecord, AreRetired}
+use Rattle.mont_laws.specs.declared.retiring.Retired.{Retired}
+use Rattle.mont_laws.specs.Retiring.{IsDue, Retires, IsIn, StandsBefore, IsRetireEpoch, IsRetiredRecord, AreRetired}
 use Rattle.mont_laws.proofs.Newest.{IsNewest, newest_is, newest_at, identity_of, version_of, slot_of}
 use Rattle.mont_laws.proofs.Apart.{same_slot, same_version, apart_filter, stays, stayed}
 

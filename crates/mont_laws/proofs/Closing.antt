@@ -5,7 +5,8 @@ use Rattle.mont_base.specs.declared.record.Held.{Held}
 use Rattle.mont_base.specs.Layout.{Shape}
 use Rattle.mont_laws.specs.Records.{AreApart, cut_records, without_slot}
 use Rattle.mont_laws.specs.Structures.{HasStructure}
-use Rattle.mont_laws.specs.Retiring.{Retired, Retires, ShowSameAt}
+use Rattle.mont_laws.specs.declared.retiring.Retired.{Retired}
+use Rattle.mont_laws.specs.Retiring.{Retires, ShowSameAt}
 use Rattle.mont_laws.proofs.Apart.{apart_filter}
 use Rattle.mont_laws.proofs.Shown.{without_obsolete}
 use Rattle.mont_laws.proofs.Due.{due_obsolete}

@@ -12,6 +12,7 @@ use Rattle.mont_base.specs.Image.{IsPermitted, cut_of, words_at, is_in_cut, reco
 use Rattle.mont_laws.specs.Records.{AreSameRecords, cut_records, without_slot}
 use Rattle.mont_laws.specs.UnitRecords.{HasLowerSlot, HasNone, HasOne, AreInSlots, IsCutOf, ImagesHaveCuts}
 use Rattle.mont_laws.proofs.Members.{kept_element, element_kept, pair_cases}
+use Rattle.mont_laws.proofs.Apart.{stays, stayed}
 use Rattle.mont_laws.proofs.SlotReadings.{reading-slot_words}
 use Rattle.mont_laws.proofs.SlotImages.{some_inside, lies_outside, slots_outside_are_unread, words_inside, read_inside, low_inside, open_inside}
 use Rattle.mont_laws.proofs.UnitRecords.{read_of_listed, listed_of_read, records_are_listed}
@@ -26,17 +27,6 @@ pub cut_records_from : (cut : ℕ) (records : List Held) (r : Held) → Contains
     → Contains (cut_records cut records) r
 cut_records_from cut records r h low =
     element_kept (λ (q : Held). nat_le q.label.epoch cut) r records h (le-leb r.label.epoch cut low)
-
-pub in_without_slot : (slot : ℕ) (records : List Held) (r : Held) → Contains (without_slot slot records) r
-    → Contains records r × (r.slot ≢ slot)
-in_without_slot slot records r h =
-    let parts = kept_element (λ (q : Held). not (q.slot == slot)) r records h in
-    (parts.0, eqb-false r.slot slot (not-true (r.slot == slot) parts.1))
-
-pub without_slot_from : (slot : ℕ) (records : List Held) (r : Held) → Contains records r → r.slot ≢ slot
-    → Contains (without_slot slot records) r
-without_slot_from slot records r h other =
-    element_kept (λ (q : Held). not (q.slot == slot)) r records h (not_from_false (r.slot == slot) (ne_eqb r.slot slot other))
 
 -- ---- the records of an image
 module _ (s : Shape) (records : List Held) (closing : Option ℕ) (cur dur image : List ℕ) (unit : ℕ)
@@ -101,10 +91,10 @@ module _ (s : Shape) (records : List Held) (closing : Option ℕ) (cur dur image
   others_read slot out inside r = (
     λ h. let is = record_of_read r h in
         let other : r.slot ≢ slot = λ e. both_ways (is_in_cut image slot) out (subst (λ (n : ℕ). is_in_cut image n ≡ true) e is.2) in
-        cut_records_from (cut_of image) (without_slot slot records) r (without_slot_from slot records r is.0 other) is.1,
+        cut_records_from (cut_of image) (without_slot slot records) r (stays r slot records is.0 other) is.1,
     λ h. let is = in_cut_records (cut_of image) (without_slot slot records) r h in
-        let stays = in_without_slot slot records r is.0 in
-        listed_inside r stays.0 (inside r stays.0 is.1 stays.1),
+        let apart = stayed r slot records is.0 in
+        listed_inside r apart.0 (inside r apart.0 is.1 apart.1),
   )
 
   by_closing : (o : Option ℕ) → closing ≡ o → IsCutOf (cut_of image) records closing (records_of s image unit)

@@ -8,7 +8,8 @@ use Rattle.std.proofs.lemmas.Option.{same_Some}
 use Rattle.mont_base.specs.declared.record.Held.{Held}
 use Rattle.mont_base.specs.Versions.{is_delete, newest_of}
 use Rattle.mont_laws.specs.Records.{AreApart, IsObsolete, without_slot}
-use Rattle.mont_laws.specs.Retiring.{Retired, IsDue, IsDueAt, AreAllLive, Retires, retired_by}
+use Rattle.mont_laws.specs.declared.retiring.Retired.{Retired}
+use Rattle.mont_laws.specs.Retiring.{IsDue, IsDueAt, AreAllLive, Retires, retired_by}
 use Rattle.mont_laws.proofs.Apart.{same_slot, apart_filter, stays, stayed}
 use Rattle.mont_laws.proofs.Newest.{IsNewest, no_newest, newest_is, newest_same, identity_of, version_of, slot_of}
 

@@ -6,7 +6,8 @@ use Rattle.std.proofs.lemmas.List.Elements.{All-head, All-tail}
 use Rattle.mont_base.specs.declared.record.Held.{Held}
 use Rattle.mont_base.specs.Versions.{is_delete, is_live, newest_of}
 use Rattle.mont_laws.specs.Records.{AreApart}
-use Rattle.mont_laws.specs.Retiring.{Retired, IsIn, IsRetireEpoch, IsRetiredRecord, AreRetired, Retires}
+use Rattle.mont_laws.specs.declared.retiring.Retired.{Retired}
+use Rattle.mont_laws.specs.Retiring.{IsIn, IsRetireEpoch, IsRetiredRecord, AreRetired, Retires}
 use Rattle.mont_laws.proofs.Apart.{same_slot}
 use Rattle.mont_laws.proofs.Newest.{newest_is, identity_of, version_of}
 use Rattle.mont_laws.proofs.Edits.{live_facts, live_from}

@@ -14,7 +14,8 @@ use Rattle.mont_base.specs.Room.{retires}
 use Rattle.mont_base.specs.Versions.{is_delete, newest_of}
 use Rattle.mont_laws.specs.Records.{AreApart}
 use Rattle.mont_laws.specs.Effects.{IsNextVersion, IsEffect, AreEffects}
-use Rattle.mont_laws.specs.Retiring.{Retired, Retires, retired_by, retired_by_all, HaveNewSlots, is_late, count_late}
+use Rattle.mont_laws.specs.declared.retiring.Retired.{Retired}
+use Rattle.mont_laws.specs.Retiring.{Retires, retired_by, retired_by_all, HaveNewSlots, is_late, count_late}
 use Rattle.mont_laws.proofs.Members.{no_element, first_element, later_element, element_cases, pairs_head, pairs_tail}
 use Rattle.mont_laws.proofs.Apart.{apart_push}
 use Rattle.mont_laws.proofs.Newest.{newest_past}

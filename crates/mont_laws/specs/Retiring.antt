@@ -2,6 +2,7 @@
 use Rattle.std.specs.Prelude.{◌≡◌, ◌≢◌, ◌↔◌, ℕ, ◌+◌, ◌<◌, ◌≤◌, ◌⊎◌, ◌==◌, nat_lt, Bool, true, false, List, [], ◌∷◌, ◌++◌, Option, Some, None, All, AllPairs, sum_by, count_by, if◌then◌else◌}
 use Rattle.std.specs.List.{Contains, flat_map}
 use Rattle.mont_base.specs.declared.record.Held.{Held}
+use Rattle.mont_laws.specs.declared.retiring.Retired.{Retired}
 use Rattle.mont_base.specs.declared.effect.Effect.{Effect}
 use Rattle.mont_base.specs.declared.operation.Op.{Op}
 use Rattle.mont_base.specs.Layout.{Shape}
@@ -11,11 +12,6 @@ use Rattle.mont_base.specs.Versions.{is_delete, is_live, newest_of}
 use Rattle.mont_laws.specs.Records.{AreApart, AreSameRecords, IsAlone, IsLaterVersion, cut_records, without_slot}
 use Rattle.mont_laws.specs.Structures.{HasStructure}
 use Rattle.mont_laws.specs.Effects.{AreEffects}
-
--- a slot that waits to be closed, and the epoch from which on its record isn't needed
-pub record Retired : Type 0 where
-  pub slot : ℕ
-  pub epoch : ℕ
 
 -- ---- by the order of closing
 -- a record is the least version of its identity, and this one is the next

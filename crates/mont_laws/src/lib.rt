@@ -13,3 +13,5 @@ pub mod slot_readings;
 pub mod slot_words;
 pub mod structures;
 pub mod unit_records;
+
+pub use retiring::Retired;

@@ -1,6 +1,15 @@
 // The order in which the slots of records that aren't needed can be closed.
 ghost use Rattle.mont_laws.specs.Retiring.{FirstCanClose, WrittenRetire, FoundRetire, RetireByVersion, LiveAreLeft, RetireAsMany};
 
+use mont_base::{Epoch, Slot};
+
+/// A slot that waits to be closed, with the epoch from which on its record isn't needed.
+#[derive(Clone, Copy, Debug, PartialEq, Eq)]
+pub struct Retired {
+    pub slot: Slot,
+    pub epoch: Epoch,
+}
+
 /// The first retired slot can be closed from its epoch on.
 pub fn first_retired_can_close()
     ensures { FirstCanClose }
