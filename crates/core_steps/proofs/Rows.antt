@@ -6,7 +6,8 @@ use Rattle.core_steps.specs.Places.{EachAt}
 
 module _ {A : Type 0} where
   -- what stands at a place after a change of one place
-  row_set : (l : List A) (i j : ℕ) (a b : A) → slice_get (set l i a) j ≡ Some b → ((j ≡ i) × (a ≡ b)) ⊎ ((j ≢ i) × (slice_get l j ≡ Some b))
+  pub row_set : (l : List A) (i j : ℕ) (a b : A) → slice_get (set l i a) j ≡ Some b
+      → ((j ≡ i) × (a ≡ b)) ⊎ ((j ≢ i) × (slice_get l j ≡ Some b))
   row_set [] i j a b e = absurd (cc)
   row_set (x ∷ xs) zero zero a b e = inl (refl, same_Some a b e)
   row_set (x ∷ xs) zero (suc j) a b e = inr ((λ h. omega arith), e)

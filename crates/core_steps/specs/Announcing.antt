@@ -1,6 +1,6 @@
 -- What a unit needs to announce an epoch, to be registered in it, and to take the announcement back
 -- or leave it behind, and the core after each of these steps.
-use Rattle.std.specs.Prelude.{ℕ, ◌+◌, ◌*◌, ◌/◌, Bool, true, false, ◌&&◌, ◌||◌, not, ◌==◌, nat_le, List, [], ◌∷◌, ◌++◌, slice_set, slice_index, if◌then◌else◌, Some, is_none}
+use Rattle.std.specs.Prelude.{ℕ, ◌+◌, ◌*◌, ◌/◌, Bool, ◌&&◌, ◌||◌, not, ◌==◌, nat_le, [], ◌∷◌, ◌++◌, slice_set, slice_index, if◌then◌else◌, Some, is_none}
 use Rattle.mont_base.specs.declared.constants.TheConstants.{FIRST_CLOCK, LAST}
 use Rattle.core_steps.specs.declared.parts.Core.{Core}
 use Rattle.core_steps.specs.declared.parts.UnitPart.{UnitPart}
@@ -8,27 +8,7 @@ use Rattle.core_steps.specs.declared.parts.CallerPart.{CallerPart}
 use Rattle.core_steps.specs.declared.parts.UnitStage.{UnitStage}
 use Rattle.core_steps.specs.declared.parts.UnitStage.TheVariants.{Idle, Told, Within}
 use Rattle.core_steps.specs.Clock.{clock}
-
--- the stages of a unit
-abbrev pub is_idle : UnitStage → Bool
-is_idle Idle = true
-is_idle _ = false
-
-abbrev pub is_told : UnitStage → Bool
-is_told (Told e) = true
-is_told _ = false
-
-abbrev pub is_within : UnitStage → Bool
-is_within (Within e) = true
-is_within _ = false
-
--- a unit in which a caller was cut makes no step
-abbrev pub is_unfrozen : UnitPart → Bool
-is_unfrozen p = is_none p.frozen
-
-abbrev pub is_empty : {A : Type 0} → List A → Bool
-is_empty [] = true
-is_empty (x ∷ xs) = false
+use Rattle.core_steps.specs.Stages.{is_idle, is_told, is_within, is_unfrozen, is_empty}
 
 -- Look: the clock is loaded, and nothing changes.
 abbrev pub can_look : UnitPart → Bool

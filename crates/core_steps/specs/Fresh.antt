@@ -45,5 +45,6 @@ fresh s callers = record {
   told = replicate (units_of s) 0;
   units = replicate (units_of s) fresh_unit;
   advancer = Rest;
+  odd = [];
   callers = replicate callers (fresh_caller (units_of s));
 }

@@ -1,7 +1,6 @@
 // The core of an empty store.
 ghost use Rattle.std.specs.Prelude.{◌≡◌, IfOk, replicate};
 ghost use Rattle.core_steps.specs.Fresh.{fresh, fresh_words, fresh_unit, fresh_caller};
-ghost use Rattle.core_steps.specs.Sound.{IsSound};
 
 use crate::parts::{AdvPart, CallerPart, Core, UnitPart, UnitStage};
 use mont_base::{FIRST_CLOCK, Layout, Sequence};
@@ -11,8 +10,7 @@ impl Core {
     /// The core of an empty store: every slot is closed, nothing is announced, and nobody has seen
     /// anything.
     pub fn fresh(alloc: Global, layout: Layout, callers: u64) -> Result<Core, AllocError>
-        ensures core { IfOk result (λ c. c ≡ fresh layout callers) }
-        ensures sound { IfOk result (λ c. IsSound FIRST_CLOCK c) }
+        ensures { IfOk result (λ c. c ≡ fresh layout callers) }
     {
         Ok(Core {
             layout,
@@ -21,6 +19,7 @@ impl Core {
             told: zeros(alloc, layout.units())?,
             units: fresh_units(alloc, layout.units())?,
             advancer: AdvPart::Rest,
+            odd: Sequence::new(alloc),
             callers: fresh_callers(alloc, callers, layout.units())?,
         })
     }

@@ -1,5 +1,6 @@
 // The parts of the machine.
 use mont_base::{Entry, Epoch, Held, Layout, Receipt, Sequence, Slot, Unit};
+use mont_laws::Retired;
 
 /// How far a unit's operation is.
 #[derive(Clone, Copy, Debug, PartialEq, Eq)]
@@ -12,13 +13,6 @@ pub enum UnitStage {
     Within { epoch: Epoch },
     /// The label of a slot is closed, but not yet durably.
     Closing { slot: Slot },
-}
-
-/// A slot whose record was superseded, with the epoch in which that was.
-#[derive(Clone, Copy, Debug, PartialEq, Eq)]
-pub struct Retired {
-    pub slot: Slot,
-    pub epoch: Epoch,
 }
 
 /// A slot that is being written.
@@ -58,14 +52,11 @@ pub enum AdvPart {
     Rest,
     /// It waits for this unit, and has passed those below.
     Checking { unit: Unit },
-    /// It looks at the label of this slot next.
-    Labels { slot: Slot },
-    /// It makes this field of the slot durable next.
-    Fields { slot: Slot, field: u64 },
-    /// It has loaded this value of the field.
-    Holding { slot: Slot, field: u64, value: u64 },
-    /// All is durable that the next clock needs.
-    Ready,
+    /// It has passed all units. So many of the slots to be written back are durable, and of the
+    /// next one the fields below this.
+    Flushing { done: u64, field: u64 },
+    /// The same, and it has loaded this value of the field.
+    Holding { done: u64, field: u64, value: u64 },
     /// The clock has moved, but not yet durably.
     Clocked,
 }
@@ -125,5 +116,7 @@ pub struct Core {
     pub told: Sequence<u64>,
     pub units: Sequence<UnitPart>,
     pub advancer: AdvPart,
+    /// The units whose announcement the advancer has loaded odd, each once.
+    pub odd: Sequence<Unit>,
     pub callers: Sequence<CallerPart>,
 }

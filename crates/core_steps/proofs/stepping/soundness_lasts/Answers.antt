@@ -1,5 +1,0 @@
-use Rattle.core_steps.proofs.Steps.{all_law}
-use Rattle.core_steps.proofs.stepping.soundness_lasts.Goals as goal
-
-pub returns : goal.returns
-returns c = all_law
