@@ -200,7 +200,8 @@ flush_persists s cur dur slots done field value wide far within k = goes (nat_lt
           low = omega arith;
           last = λ e. refl;
           written_back = back_less cur (set dur (word_of n field) value) slots (done + 1) (min (done + 1) greatest_word)
-              (omega arith) (next_back cur (set dur (word_of n field) value) slots done (field + 1) n at (long ∙ sym long') (omega arith) more);
+              (omega arith)
+              (next_back cur (set dur (word_of n field) value) slots done (field + 1) n at (long ∙ sym long') (omega arith) more);
         }
 
 -- ---- SetClock
