@@ -8,7 +8,6 @@ mod acceptance;
 mod caller_tests;
 mod callers;
 mod contents;
-mod effects;
 mod gather;
 mod graph_parts;
 mod graph_state;
@@ -32,8 +31,11 @@ mod state_tests;
 mod structure;
 #[cfg(test)]
 mod structure_tests;
+mod unit_effects;
 mod unit_state;
 mod view;
+#[cfg(test)]
+mod worked;
 
 pub use acceptance::is_well_formed;
 pub use callers::{continues_view, fits_histories, is_callers_order};
@@ -42,7 +44,7 @@ pub use graph_state::GraphState;
 pub use history::{cut_at, is_legal, state_after};
 pub use image::{record_at, records};
 pub use map_state::MapState;
-pub use objects::live_objects;
+pub use objects::{live_objects, newest_of};
 pub use queue_state::QueueState;
 pub use recovery::recover;
 pub use room::used_slots;

@@ -1,8 +1,8 @@
 // The live objects among the records of a unit.
-ghost use Rattle.std.specs.Prelude.{◌≡◌, ℕ, ◌==◌, ◌&&◌, ◌||◌, not, nat_lt, IfOk, OnOk};
+ghost use Rattle.std.specs.Prelude.{◌≡◌, ℕ, ◌==◌, ◌&&◌, ◌||◌, not, nat_lt, Some, IfOk, OnOk};
 ghost use Rattle.std.specs.Ordering.{nat_cmp};
 ghost use Rattle.std.specs.BTreeMap as tree;
-ghost use Rattle.mont_base.specs.Versions.{live_objects, object_of};
+ghost use Rattle.mont_base.specs.Versions.{live_objects, newest_of, later_of, object_of};
 ghost use Rattle.plain.specs.Newest.{HasNewest, is_above};
 
 use mont_base::{Held, Kind, Object};
@@ -55,6 +55,30 @@ fn is_newest(newest: &BTreeMap<u64, u64>, held: &Held) -> bool
     match newest.get(&held.label.identity) {
         Some(version) => *version <= held.label.version,
         None => true,
+    }
+}
+
+/// The record of an identity with the greatest version, if the identity has one. Of several with
+/// that version it is the first.
+pub fn newest_of(identity: u64, records: &[Held]) -> Option<Held>
+    ensures { result ≡ newest_of identity records.now }
+{
+    let mut newest = None;
+    for held in records {
+        if held.label.identity == identity {
+            newest = Some(later_of(newest, held));
+        }
+    }
+    newest
+}
+
+// The later version of a record that may be known and another.
+fn later_of(known: Option<Held>, held: &Held) -> Held
+    ensures { Some result ≡ later_of known (Some held.now) }
+{
+    match known {
+        Some(known) if known.label.version >= held.label.version => known,
+        Some(_) | None => *held,
     }
 }
 

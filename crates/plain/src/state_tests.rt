@@ -1,354 +1,360 @@
 // Worked operations on each kind of unit: what they do to the things in it, their replies, and how
 // many things there are then.
 use super::*;
-use mont_base::{Effect, Kinds, Layout, Op, Reply, Text, Thing, UnitKind};
+use crate::worked::{
+    Asked, Done, Made, Part, Told, effect_of, layout_of, make, op_of, reply_of, spelled, thing_of,
+};
+use mont_base::{Effect, Reply, Text, UnitKind};
 use std::alloc::{AllocError, Global};
 use std::process::Abort;
 use std::test::Fail;
 
-fn text(number: u64) -> Text {
-    Text::of_number(number)
-}
-
-fn put(key: u64, value: u64) -> Op {
-    Op::Put {
-        key: text(key),
-        value: text(value),
-    }
-}
-
-fn pair(key: u64, value: u64) -> Thing {
-    Thing::Pair {
-        key: text(key),
-        value: text(value),
-    }
-}
-
-fn edge(from: u64, to: u64, attribute: u64) -> Thing {
-    Thing::Edge {
-        from,
-        to,
-        attribute,
-    }
-}
-
-fn inserts(thing: Thing) -> Option<Effect> {
-    Some(Effect::Inserts { thing })
-}
-
-fn replaces(thing: Thing) -> Option<Effect> {
-    Some(Effect::Replaces { thing })
-}
-
-fn removes(thing: Thing) -> Option<Effect> {
-    Some(Effect::Removes { thing })
-}
-
-fn was_text(number: u64) -> Reply {
-    Reply::WasText {
-        value: text(number),
-    }
-}
+// An operation, what it does, its reply, and how many things there are then.
+type Row = (Asked, Option<Done>, Told, u64);
 
 // Looks at an operation's one effect, if it has one, and carries it out.
 fn apply(
     rt: &impl Abort,
     alloc: Global,
     state: &mut UnitState,
-    op: Op,
-    effect: Option<Effect>,
+    asked: Asked,
+    done: Option<Done>,
 ) -> Result<Reply, AllocError> {
+    let op = op_of(asked);
     let effects = state.effects(alloc, &op)?;
-    assert_eq!(rt; effects.as_slice(), effect.as_slice(), "at {op:?}");
+    match done {
+        Some(done) => assert_eq!(rt; effects.as_slice(), [effect_of(done)].as_slice()),
+        None => assert_eq!(rt; effects.len(), 0),
+    }
     state.apply(&op)
 }
 
-#[test]
-fn operations_on_a_map(rt: HostRuntime) -> Result<(), Fail> {
-    let mut state = UnitState::empty(rt.alloc(), UnitKind::Map);
-    let get = |key| Op::Get { key: text(key) };
-    let del = |key| Op::Del { key: text(key) };
-    let table = [
-        (put(1, 10), inserts(pair(1, 10)), Reply::Nothing, 1),
-        (put(1, 11), replaces(pair(1, 11)), was_text(10), 1),
-        // the value that is there already
-        (put(1, 11), replaces(pair(1, 11)), was_text(11), 1),
-        (get(1), None, was_text(11), 1),
-        (get(9), None, Reply::Nothing, 1),
-        (del(9), None, Reply::Nothing, 1),
-        (put(9, 1), inserts(pair(9, 1)), Reply::Nothing, 2),
-        (del(1), removes(pair(1, 11)), was_text(11), 1),
-        (get(1), None, Reply::Nothing, 1),
-        // operations on other kinds of units
-        (Op::Enq { unit: 0, item: 5 }, None, Reply::Nothing, 1),
-        (Op::Degree { unit: 0, vertex: 9 }, None, Reply::Nothing, 1),
-    ];
-    for (op, effect, reply, size) in table {
-        assert_eq!(rt;
-            apply(&rt, rt.alloc(), &mut state, op, effect)?,
-            reply,
-            "at {op:?}"
-        );
-        assert_eq!(rt; state.size(), size, "at {op:?}");
-    }
-    Ok(())
-}
-
-#[test]
-fn keys_stand_in_the_order_of_texts(rt: HostRuntime) -> Result<(), Fail> {
-    let rising: [&[u8]; 9] = [
-        b"",
-        b"10",
-        b"9",
-        b"a",
-        b"aaaaaaaa",
-        b"aaaaaaaab",
-        b"aab",
-        b"ab",
-        &[255],
-    ];
-    let mut state = MapState::new(rt.alloc());
-    for place in [4, 0, 8, 2, 6, 1, 7, 3, 5] {
-        let key = Text::of_bytes(rising[place])?;
-        let value = text(place as u64);
-        assert_eq!(rt; state.apply(&Op::Put { key, value })?, Reply::Nothing);
-    }
-    assert_eq!(rt; state.len(), 9);
-    let mut place = 0;
-    for (key, value) in state.iter() {
-        assert!(rt; place < 9);
-        assert_eq!(rt; *key, Text::of_bytes(rising[place])?, "at {place}");
-        assert_eq!(rt; *value, text(place as u64), "at {place}");
-        place += 1;
-    }
-    Ok(())
-}
-
-#[test]
-fn operations_on_a_queue(rt: HostRuntime) -> Result<(), Fail> {
-    let mut state = UnitState::empty(rt.alloc(), UnitKind::Queue);
-    let unit = 1;
-    let enq = |item| Op::Enq { unit: 1, item };
-    let deq = Op::Deq { unit };
-    let len = Op::Len { unit };
-    let item = |item| Thing::Item { item };
-    let table = [
-        (deq, None, Reply::Nothing, 0),
-        (len, None, Reply::Count { number: 0 }, 0),
-        (enq(7), inserts(item(7)), Reply::Nothing, 1),
-        (enq(5), inserts(item(5)), Reply::Nothing, 2),
-        (enq(7), inserts(item(7)), Reply::Nothing, 3),
-        (len, None, Reply::Count { number: 3 }, 3),
-        (deq, removes(item(7)), Reply::Was { value: 7 }, 2),
-        (deq, removes(item(5)), Reply::Was { value: 5 }, 1),
-        // an operation on another kind of unit
-        (put(7, 1), None, Reply::Nothing, 1),
-        (deq, removes(item(7)), Reply::Was { value: 7 }, 0),
-        (deq, None, Reply::Nothing, 0),
-    ];
-    for (op, effect, reply, size) in table {
-        assert_eq!(rt;
-            apply(&rt, rt.alloc(), &mut state, op, effect)?,
-            reply,
-            "at {op:?}"
-        );
-        assert_eq!(rt; state.size(), size, "at {op:?}");
-    }
-    Ok(())
-}
-
-fn add_vertex(vertex: u64, attr: u64) -> Op {
-    Op::AddV {
-        unit: 2,
-        vertex,
-        attr,
-    }
-}
-
-fn add_edge(from: u64, to: u64, attr: u64) -> Op {
-    Op::AddE {
-        unit: 2,
-        from,
-        to,
-        attr,
-    }
-}
-
-fn vertex_thing(vertex: u64, attribute: u64) -> Thing {
-    Thing::Vertex { vertex, attribute }
-}
-
-#[test]
-fn operations_on_a_graph(rt: HostRuntime) -> Result<(), Fail> {
-    let mut state = UnitState::empty(rt.alloc(), UnitKind::Graph);
-    let unit = 2;
-    let dele = |from, to| Op::DelE { unit: 2, from, to };
-    let vertex = |vertex| Op::Vertex { unit: 2, vertex };
-    let degree = |vertex| Op::Degree { unit: 2, vertex };
-    let was = |value| Reply::Was { value };
-    let count = |number| Reply::Count { number };
-    let table = [
-        (
-            add_vertex(1, 10),
-            inserts(vertex_thing(1, 10)),
-            Reply::Nothing,
-            1,
-        ),
-        (add_vertex(1, 11), replaces(vertex_thing(1, 11)), was(10), 1),
-        (
-            add_vertex(2, 20),
-            inserts(vertex_thing(2, 20)),
-            Reply::Nothing,
-            2,
-        ),
-        // a loop, and edges to and from what is no vertex
-        (add_edge(1, 1, 5), None, Reply::NoEnds, 2),
-        (add_edge(1, 9, 5), None, Reply::NoEnds, 2),
-        (add_edge(9, 1, 5), None, Reply::NoEnds, 2),
-        (
-            add_edge(1, 2, 12),
-            inserts(edge(1, 2, 12)),
-            Reply::Nothing,
-            3,
-        ),
-        (add_edge(1, 2, 13), replaces(edge(1, 2, 13)), was(12), 3),
-        (
-            add_edge(2, 1, 21),
-            inserts(edge(2, 1, 21)),
-            Reply::Nothing,
-            4,
-        ),
-        (degree(1), None, count(2), 4),
-        (degree(9), None, Reply::Nothing, 4),
-        (vertex(1), None, was(11), 4),
-        (vertex(9), None, Reply::Nothing, 4),
-        (dele(1, 9), None, Reply::Nothing, 4),
-        (dele(2, 1), removes(edge(2, 1, 21)), was(21), 3),
-        (degree(2), None, count(1), 3),
-        (dele(1, 2), removes(edge(1, 2, 13)), was(13), 2),
-        (Op::DelV { unit, vertex: 9 }, None, Reply::Nothing, 2),
-        // an operation on another kind of unit
-        (Op::Len { unit }, None, Reply::Nothing, 2),
-        (
-            Op::DelV { unit, vertex: 1 },
-            removes(vertex_thing(1, 11)),
-            was(11),
-            1,
-        ),
-        (degree(2), None, count(0), 1),
-    ];
-    for (op, effect, reply, size) in table {
-        assert_eq!(rt;
-            apply(&rt, rt.alloc(), &mut state, op, effect)?,
-            reply,
-            "at {op:?}"
-        );
-        assert_eq!(rt; state.size(), size, "at {op:?}");
-    }
-    Ok(())
-}
-
-#[test]
-fn a_vertex_goes_behind_its_edges(rt: HostRuntime) -> Result<(), Fail> {
-    let mut state = UnitState::empty(rt.alloc(), UnitKind::Graph);
-    for op in [
-        add_vertex(1, 10),
-        add_vertex(2, 20),
-        add_vertex(3, 30),
-        add_edge(3, 2, 32),
-        add_edge(3, 1, 31),
-        add_edge(2, 1, 21),
-        add_edge(2, 3, 23),
-        add_edge(1, 2, 12),
-    ] {
-        assert_eq!(rt; state.apply(&op)?, Reply::Nothing, "at {op:?}");
-    }
-    let op = Op::DelV { unit: 2, vertex: 2 };
-    let effects = state.effects(rt.alloc(), &op)?;
-    let gone = [
-        edge(1, 2, 12),
-        edge(2, 1, 21),
-        edge(2, 3, 23),
-        edge(3, 2, 32),
-        vertex_thing(2, 20),
-    ];
-    assert_eq!(rt; effects.len(), 5);
-    for (place, thing) in gone.iter().enumerate() {
-        assert_eq!(rt; Some(effects[place]), removes(*thing), "at {place}");
-    }
-    assert_eq!(rt; state.apply(&op)?, Reply::Was { value: 20 });
-    assert_eq!(rt; state.size(), 3);
-    let UnitState::Graph { state: graph } = &state else {
-        return Ok(());
-    };
-    assert_eq!(rt; graph.edge((3, 1)), Some(31));
-    assert_eq!(rt; graph.vertices_len(), 2);
-    Ok(())
-}
-
-#[test]
-fn an_empty_store_has_a_state_for_each_unit(rt: HostRuntime) -> Result<(), Fail> {
-    let kinds = Kinds::of_letters(b"gmqqm")?;
-    let layout = Layout::new(kinds, 8)?;
-    let contents = Contents::empty(rt.alloc(), layout)?;
-    assert_eq!(rt; contents.units.len(), 5);
-    for (unit, state) in contents.units.as_slice().iter().enumerate() {
-        let kind = match state {
-            UnitState::Map { .. } => UnitKind::Map,
-            UnitState::Queue { .. } => UnitKind::Queue,
-            UnitState::Graph { .. } => UnitKind::Graph,
-        };
-        assert_eq!(rt; kinds.get(unit as u64), Some(kind), "at {unit}");
-        assert_eq!(rt; state.size(), 0, "at {unit}");
-    }
-    Ok(())
-}
-
-// What two operations leave in a unit that had nothing in it.
-fn left_by(alloc: Global, kind: UnitKind, first: Op, second: Op) -> Result<UnitState, AllocError> {
+fn are_done(rt: &impl Abort, alloc: Global, kind: UnitKind, table: &[Row]) -> Result<(), Fail> {
     let mut state = UnitState::empty(alloc, kind);
-    let _ = state.apply(&first)?;
-    let _ = state.apply(&second)?;
+    for (row, (asked, done, told, size)) in table.iter().enumerate() {
+        let reply = apply(rt, alloc, &mut state, *asked, *done)?;
+        let expected = (reply_of(*told), *size);
+        assert_eq!(rt; (reply, state.size()), expected, "row {row}");
+    }
+    Ok(())
+}
+
+static ON_A_MAP: [Row; 11] = [
+    (
+        Asked::Put(1, 10),
+        Some(Done::Inserts(Part::Pair(1, 10))),
+        Told::Nothing,
+        1,
+    ),
+    (
+        Asked::Put(1, 11),
+        Some(Done::Replaces(Part::Pair(1, 11))),
+        Told::WasText(10),
+        1,
+    ),
+    // the value that is there already
+    (
+        Asked::Put(1, 11),
+        Some(Done::Replaces(Part::Pair(1, 11))),
+        Told::WasText(11),
+        1,
+    ),
+    (Asked::Get(1), None, Told::WasText(11), 1),
+    (Asked::Get(9), None, Told::Nothing, 1),
+    (Asked::Del(9), None, Told::Nothing, 1),
+    (
+        Asked::Put(9, 1),
+        Some(Done::Inserts(Part::Pair(9, 1))),
+        Told::Nothing,
+        2,
+    ),
+    (
+        Asked::Del(1),
+        Some(Done::Removes(Part::Pair(1, 11))),
+        Told::WasText(11),
+        1,
+    ),
+    (Asked::Get(1), None, Told::Nothing, 1),
+    // operations on other kinds of units
+    (Asked::Enq(0, 5), None, Told::Nothing, 1),
+    (Asked::Degree(0, 9), None, Told::Nothing, 1),
+];
+
+static ON_A_QUEUE: [Row; 11] = [
+    (Asked::Deq(1), None, Told::Nothing, 0),
+    (Asked::Len(1), None, Told::Count(0), 0),
+    (
+        Asked::Enq(1, 7),
+        Some(Done::Inserts(Part::Item(7))),
+        Told::Nothing,
+        1,
+    ),
+    (
+        Asked::Enq(1, 5),
+        Some(Done::Inserts(Part::Item(5))),
+        Told::Nothing,
+        2,
+    ),
+    (
+        Asked::Enq(1, 7),
+        Some(Done::Inserts(Part::Item(7))),
+        Told::Nothing,
+        3,
+    ),
+    (Asked::Len(1), None, Told::Count(3), 3),
+    (
+        Asked::Deq(1),
+        Some(Done::Removes(Part::Item(7))),
+        Told::Was(7),
+        2,
+    ),
+    (
+        Asked::Deq(1),
+        Some(Done::Removes(Part::Item(5))),
+        Told::Was(5),
+        1,
+    ),
+    // an operation on another kind of unit
+    (Asked::Put(7, 1), None, Told::Nothing, 1),
+    (
+        Asked::Deq(1),
+        Some(Done::Removes(Part::Item(7))),
+        Told::Was(7),
+        0,
+    ),
+    (Asked::Deq(1), None, Told::Nothing, 0),
+];
+
+static ON_A_GRAPH: [Row; 21] = [
+    (
+        Asked::AddV(2, 1, 10),
+        Some(Done::Inserts(Part::Vertex(1, 10))),
+        Told::Nothing,
+        1,
+    ),
+    (
+        Asked::AddV(2, 1, 11),
+        Some(Done::Replaces(Part::Vertex(1, 11))),
+        Told::Was(10),
+        1,
+    ),
+    (
+        Asked::AddV(2, 2, 20),
+        Some(Done::Inserts(Part::Vertex(2, 20))),
+        Told::Nothing,
+        2,
+    ),
+    // a loop, and edges to and from what is no vertex
+    (Asked::AddE(2, 1, 1, 5), None, Told::NoEnds, 2),
+    (Asked::AddE(2, 1, 9, 5), None, Told::NoEnds, 2),
+    (Asked::AddE(2, 9, 1, 5), None, Told::NoEnds, 2),
+    (
+        Asked::AddE(2, 1, 2, 12),
+        Some(Done::Inserts(Part::Edge(1, 2, 12))),
+        Told::Nothing,
+        3,
+    ),
+    (
+        Asked::AddE(2, 1, 2, 13),
+        Some(Done::Replaces(Part::Edge(1, 2, 13))),
+        Told::Was(12),
+        3,
+    ),
+    (
+        Asked::AddE(2, 2, 1, 21),
+        Some(Done::Inserts(Part::Edge(2, 1, 21))),
+        Told::Nothing,
+        4,
+    ),
+    (Asked::Degree(2, 1), None, Told::Count(2), 4),
+    (Asked::Degree(2, 9), None, Told::Nothing, 4),
+    (Asked::Vertex(2, 1), None, Told::Was(11), 4),
+    (Asked::Vertex(2, 9), None, Told::Nothing, 4),
+    (Asked::DelE(2, 1, 9), None, Told::Nothing, 4),
+    (
+        Asked::DelE(2, 2, 1),
+        Some(Done::Removes(Part::Edge(2, 1, 21))),
+        Told::Was(21),
+        3,
+    ),
+    (Asked::Degree(2, 2), None, Told::Count(1), 3),
+    (
+        Asked::DelE(2, 1, 2),
+        Some(Done::Removes(Part::Edge(1, 2, 13))),
+        Told::Was(13),
+        2,
+    ),
+    (Asked::DelV(2, 9), None, Told::Nothing, 2),
+    // an operation on another kind of unit
+    (Asked::Len(2), None, Told::Nothing, 2),
+    (
+        Asked::DelV(2, 1),
+        Some(Done::Removes(Part::Vertex(1, 11))),
+        Told::Was(11),
+        1,
+    ),
+    (Asked::Degree(2, 2), None, Told::Count(0), 1),
+];
+
+#[test]
+fn operations_do_what_they_say(rt: HostRuntime) -> Result<(), Fail> {
+    are_done(&rt, rt.alloc(), UnitKind::Map, &ON_A_MAP)?;
+    are_done(&rt, rt.alloc(), UnitKind::Queue, &ON_A_QUEUE)?;
+    are_done(&rt, rt.alloc(), UnitKind::Graph, &ON_A_GRAPH)
+}
+
+// Keys by rising text, and an order in which they come.
+static RISING: [&[u8]; 9] = [
+    b"",
+    b"10",
+    b"9",
+    b"a",
+    b"aaaaaaaa",
+    b"aaaaaaaab",
+    b"aab",
+    b"ab",
+    b"\xff",
+];
+
+static COMING: [usize; 9] = [4, 0, 8, 2, 6, 1, 7, 3, 5];
+
+fn rising(place: usize) -> Result<Text, Fail> {
+    match RISING.get(place) {
+        Some(bytes) => spelled(bytes),
+        None => Err(Fail::new("no such key")),
+    }
+}
+
+fn map_of_rising(alloc: Global) -> Result<MapState, Fail> {
+    let mut state = MapState::new(alloc);
+    for place in &COMING {
+        let key = rising(*place)?;
+        state.insert(key, key)?;
+    }
     Ok(state)
 }
 
 #[test]
+fn keys_stand_in_the_order_of_texts(rt: HostRuntime) -> Result<(), Fail> {
+    let state = map_of_rising(rt.alloc())?;
+    assert_eq!(rt; state.len(), 9);
+    for (place, (key, value)) in state.iter().enumerate() {
+        let expected = rising(place)?;
+        assert_eq!(rt; (*key, *value), (expected, expected), "at {place}");
+    }
+    Ok(())
+}
+
+static TRIANGLE: Made = Made::Parts(
+    &[(1, 10), (2, 20), (3, 30)],
+    &[
+        ((3, 2), 32),
+        ((3, 1), 31),
+        ((2, 1), 21),
+        ((2, 3), 23),
+        ((1, 2), 12),
+    ],
+);
+
+static OF_VERTEX_TWO: [Part; 5] = [
+    Part::Edge(1, 2, 12),
+    Part::Edge(2, 1, 21),
+    Part::Edge(2, 3, 23),
+    Part::Edge(3, 2, 32),
+    Part::Vertex(2, 20),
+];
+
+static WITHOUT_TWO: Made = Made::Parts(&[(1, 10), (3, 30)], &[((3, 1), 31)]);
+
+fn removals(alloc: Global, parts: &[Part]) -> Result<Vec<Effect>, AllocError> {
+    let mut effects = Vec::new(alloc);
+    for part in parts {
+        let thing = thing_of(*part);
+        effects.push(Effect::Removes { thing })?;
+    }
+    Ok(effects)
+}
+
+#[test]
+fn a_vertex_goes_behind_its_edges(rt: HostRuntime) -> Result<(), Fail> {
+    let alloc = rt.alloc();
+    let mut state = make(alloc, &TRIANGLE)?;
+    let op = op_of(Asked::DelV(2, 2));
+    let effects = state.effects(alloc, &op)?;
+    assert_eq!(rt; effects, removals(alloc, &OF_VERTEX_TWO)?);
+    assert_eq!(rt; state.apply(&op)?, Reply::Was { value: 20 });
+    assert!(rt; same_state(&state, &make(alloc, &WITHOUT_TWO)?));
+    Ok(())
+}
+
+fn kind_of(state: &UnitState) -> UnitKind {
+    match state {
+        UnitState::Map { .. } => UnitKind::Map,
+        UnitState::Queue { .. } => UnitKind::Queue,
+        UnitState::Graph { .. } => UnitKind::Graph,
+    }
+}
+
+fn empty_store(alloc: Global) -> Result<Contents, Fail> {
+    Ok(Contents::empty(alloc, layout_of(b"gmq")?)?)
+}
+
+#[test]
+fn an_empty_store_has_a_state_for_each_unit(rt: HostRuntime) -> Result<(), Fail> {
+    let contents = empty_store(rt.alloc())?;
+    assert_eq!(rt; contents.units.len(), 3);
+    let kinds = [UnitKind::Graph, UnitKind::Map, UnitKind::Queue];
+    for (state, kind) in contents.units.as_slice().iter().zip(kinds) {
+        assert_eq!(rt; (kind_of(state), state.size()), (kind, 0));
+    }
+    Ok(())
+}
+
+// Two states, told by what came into them one after the other, and whether they are the same.
+static TWO_STATES: [(Made, Made, bool); 9] = [
+    (
+        Made::Pairs(&[(b"1", b"10"), (b"2", b"20")]),
+        Made::Pairs(&[(b"2", b"20"), (b"1", b"10")]),
+        true,
+    ),
+    (
+        Made::Pairs(&[(b"1", b"10"), (b"2", b"20")]),
+        Made::Pairs(&[(b"2", b"20"), (b"1", b"11")]),
+        false,
+    ),
+    (
+        Made::Pairs(&[(b"1", b"10"), (b"2", b"20")]),
+        Made::Pairs(&[(b"2", b"20")]),
+        false,
+    ),
+    (Made::Items(&[1, 2]), Made::Items(&[1, 2]), true),
+    (Made::Items(&[1, 2]), Made::Items(&[2, 1]), false),
+    (
+        Made::Parts(&[(1, 5), (2, 5)], &[]),
+        Made::Parts(&[(2, 5), (1, 5)], &[]),
+        true,
+    ),
+    (
+        Made::Parts(&[(1, 5), (2, 5)], &[]),
+        Made::Parts(&[(2, 5), (1, 6)], &[]),
+        false,
+    ),
+    (
+        Made::Parts(&[(1, 5), (2, 5)], &[((1, 2), 7)]),
+        Made::Parts(&[(1, 5), (2, 5)], &[((2, 1), 7)]),
+        false,
+    ),
+    (Made::Pairs(&[]), Made::Items(&[]), false),
+];
+
+fn are_same(alloc: Global, a: &Made, b: &Made) -> Result<bool, Fail> {
+    Ok(same_state(&make(alloc, a)?, &make(alloc, b)?))
+}
+
+#[test]
 fn states_are_the_same_by_what_is_in_them(rt: HostRuntime) -> Result<(), Fail> {
-    let enq = |item| Op::Enq { unit: 1, item };
-    let (map, queue, graph) = (UnitKind::Map, UnitKind::Queue, UnitKind::Graph);
-    let table = [
-        (map, put(1, 10), put(2, 20), put(2, 20), put(1, 10), true),
-        (map, put(1, 10), put(2, 20), put(2, 20), put(1, 11), false),
-        (map, put(1, 10), put(2, 20), put(2, 20), put(2, 20), false),
-        (queue, enq(1), enq(2), enq(1), enq(2), true),
-        (queue, enq(1), enq(2), enq(2), enq(1), false),
-        (
-            graph,
-            add_vertex(1, 5),
-            add_vertex(2, 5),
-            add_vertex(2, 5),
-            add_vertex(1, 5),
-            true,
-        ),
-        (
-            graph,
-            add_vertex(1, 5),
-            add_vertex(2, 5),
-            add_vertex(2, 5),
-            add_vertex(1, 6),
-            false,
-        ),
-    ];
-    for (kind, a, b, c, d, same) in table {
-        let here = left_by(rt.alloc(), kind, a, b)?;
-        let there = left_by(rt.alloc(), kind, c, d)?;
-        assert_eq!(rt;
-            same_state(&here, &there),
-            same,
-            "at {a:?} {b:?} {c:?} {d:?}"
-        );
-        let other = if kind == map { queue } else { map };
-        assert!(rt; !same_state(&here, &UnitState::empty(rt.alloc(), other)));
+    for (row, (a, b, same)) in TWO_STATES.iter().enumerate() {
+        assert_eq!(rt; are_same(rt.alloc(), a, b)?, *same, "row {row}");
     }
     Ok(())
 }

@@ -3,10 +3,10 @@ ghost use Rattle.std.specs.Prelude.{◌≡◌, IfOk, OnOk, OnErr};
 ghost use Rattle.mont_base.specs.State.{empty_state, size_of, step};
 ghost use Rattle.plain.specs.States.{state_of};
 
-use crate::effects;
 use crate::graph_state::GraphState;
 use crate::map_state::MapState;
 use crate::queue_state::QueueState;
+use crate::unit_effects;
 use mont_base::{Effect, Op, Reply, UnitKind};
 use std::alloc::{AllocError, Global};
 
@@ -56,9 +56,9 @@ impl UnitState {
         ensures { IfOk result (λ v. v.items ≡ (step (state_of self.now) op.now).effects) }
     {
         match self {
-            UnitState::Map { state } => effects::on_map(alloc, state, op),
-            UnitState::Queue { state } => effects::on_queue(alloc, state, op),
-            UnitState::Graph { state } => effects::on_graph(alloc, state, op),
+            UnitState::Map { state } => unit_effects::on_map(alloc, state, op),
+            UnitState::Queue { state } => unit_effects::on_queue(alloc, state, op),
+            UnitState::Graph { state } => unit_effects::on_graph(alloc, state, op),
         }
     }
 

@@ -4,7 +4,7 @@ use Rattle.std.specs.FinMap.{entries}
 use Rattle.mont_base.specs.declared.effect.Effect.{Effect}
 use Rattle.mont_base.specs.declared.effect.Effect.TheVariants.{Removes}
 use Rattle.mont_base.specs.State.{Ends, edge_thing, touches}
-use Rattle.plain.proofs.effects.vertex_removal.Given as goal
+use Rattle.plain.proofs.unit_effects.vertex_removal.Given as goal
 
 abbrev pub removals : ℕ → List (Ends × ℕ) → List Effect
 removals vertex edges = map (λ e. Removes (edge_thing e)) (filter (λ (e : Ends × ℕ). touches vertex e.0) edges)
