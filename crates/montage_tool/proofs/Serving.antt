@@ -1,8 +1,8 @@
 -- A job that was read, and a report that was sent, make a run of the job.
-use Rattle.std.proofs.Common.{◌≡◌, ℕ, List, [], length, inl, inr, refl, sym, ap, subst, arith}
+use Rattle.std.proofs.Common.{◌≡◌, ℕ, List, length, inl, inr, refl, sym, ap, subst, arith}
 use Rattle.std.specs.Prelude.{Option, Some, None, Result, Ok, Err, OnOk, OnErr, IfSome}
 use Rattle.std.specs.Io.KnownBytes.{Appends, IsAtEnd}
-use Rattle.std.proofs.lemmas.List.{append-nil, take_all}
+use Rattle.std.proofs.lemmas.List.{take_all}
 use Rattle.mont_base.specs.Faults.{HasCause}
 use Rattle.job_text.specs.declared.job.Job.{Job}
 use Rattle.job_text.specs.JobText.{IsJob, job_text}
@@ -98,22 +98,14 @@ module _
   run_reported status (inr sent) = run_sent sent.0 sent.1 status sent.2
 
 -- ---- a line that is told
-nothing_taken : (known : Option (List ℕ)) → Appends known known []
-nothing_taken None = tt
-nothing_taken (Some bytes) = sym (append-nil bytes)
-
 module _ {O : Type 0} (taken : O → Option (List ℕ)) (faults : O → ℕ) (out told : O) (line : List ℕ) where
-  pub told_nothing : told ≡ out → IsTold taken faults out told line
-  told_nothing same = record {
-    front = (0, omega arith, subst (λ (o : O). Appends (taken out) (taken o) []) (sym same) (nothing_taken (taken out)));
-    whole = λ none. inr same;
-  }
-
   pub told_line : {E : Type 0} (result : Result (Unit {0}) E) → OnOk result (Appends (taken out) (taken told) line)
       → OnErr result (AppendsPrefix (taken out) (taken told) line) → HasCause (faults out) (faults told) result
       → IsTold taken faults out told line
   told_line (Ok done) all part cause = record {
     front = (length line, omega arith, subst (Appends (taken out) (taken told)) (sym (take_all (length line) line (omega arith))) all);
-    whole = λ none. inl all;
+    later = cause.later;
+    whole = λ none. all;
   }
-  told_line (Err failed) all part cause = record { front = part; whole = λ none. absurd (none cause.failed) }
+  told_line (Err failed) all part cause =
+      record { front = part; later = cause.later; whole = λ none. absurd (none cause.failed) }

@@ -7,3 +7,4 @@ pub mod Status
 pub mod Forms
 pub mod Montage
 pub mod Program
+pub mod CommandLine

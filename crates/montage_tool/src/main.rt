@@ -1,8 +1,12 @@
 //! Runs jobs over buffered durable structures.
 #![tactic(auto)]
 
+ghost use Rattle.std.specs.Prelude.{map, string_bytes};
+ghost use Rattle.montage_tool.specs.Program.{Answers};
+
 mod about;
 mod adapters;
+mod command_line;
 mod delivery;
 mod forms;
 mod machine;
@@ -15,54 +19,37 @@ mod stopped;
 mod tests;
 
 use adapters::{FileSink, FileSource, StdSink, StdSource};
+use command_line::{file_word, words_of};
 use forms::files_of;
-use program::{answer, end};
+use mont_base::{Sink, Source};
+use program::{answer, exit_of, tell};
 use status::Status;
 use std::fs::File;
 use std::process::ExitCode;
 use std::{env, io};
 
-// The words of the command line behind the program's name.
-fn words_of(rt: &HostRuntime) -> Result<Vec<String>, Status> {
-    let mut words = Vec::new(rt.alloc());
-    let all = env::args(rt).map_err(|fault| status_of_fault(&fault))?;
-    for word in all.skip(1) {
-        words.push(word).map_err(|_| Status::Memory)?;
-    }
-    Ok(words)
-}
-
-// What a fault of the command line comes to: memory ran out, or a word isn't UTF-8.
-fn status_of_fault(fault: &io::Error) -> Status {
-    match fault.kind() {
-        io::ErrorKind::OutOfMemory => Status::Memory,
-        _ => Status::BadWords,
-    }
-}
-
-// The file that a word names, if there is one.
-fn file_word(words: &[String], at: Option<usize>) -> Option<&str> {
-    let word = words.get(at?)?;
-    Some(word.as_str())
-}
-
-// Answers the words with the devices of the process.
-fn serve(rt: &HostRuntime, words: &[String]) -> Status {
+// Answers the words with these devices, and with the files that the words name.
+fn serve<J: Source, O: Sink>(rt: &HostRuntime, words: &[String], job: &mut J, out: &mut O) -> Status
+    ensures { Answers J.left J.faults O.taken O.faults (map string_bytes words.now)
+        job.old job.new out.old out.new result }
+{
     let files = files_of(words);
-    let mut job = StdSource::new(rt.reader());
     let mut image: FileSource<File> = match file_word(words, files.image) {
         Some(path) => FileSource::open(rt, path),
         None => FileSource::closed(),
     };
-    let mut out = StdSink::new(io::writer(rt));
     let mut image_out = FileSink::new(rt, file_word(words, files.image_out).unwrap_or(""));
-    answer(rt, words, &mut job, &mut image, &mut out, &mut image_out)
+    answer(rt, words, job, &mut image, out, &mut image_out)
 }
 
 fn main(rt: HostRuntime) -> ExitCode {
-    let status = match words_of(&rt) {
-        Ok(words) => serve(&rt, words.as_slice()),
+    let mut job = StdSource::new(rt.reader());
+    let mut out = StdSink::new(io::writer(&rt));
+    let status = match words_of(rt.alloc(), env::args(&rt)) {
+        Ok(words) => serve(&rt, &words, &mut job, &mut out),
         Err(status) => status,
     };
-    end(rt.alloc(), &mut StdSink::new(io::writer(&rt)), &status)
+    // Where there is no memory for its line, the exit status alone tells it.
+    let _ = tell(rt.alloc(), &mut out, &status);
+    exit_of(&status)
 }

@@ -1,12 +1,11 @@
 // What the program does with the devices of its process, whichever they are.
-ghost use Rattle.std.specs.Prelude.{◌≡◌, IfOk, map, string_bytes};
+ghost use Rattle.std.specs.Prelude.{◌≡◌, Ok, IfOk, OnOk, OnErr, map, string_bytes};
 ghost use Rattle.std.specs.Process.{exit_status};
-ghost use Rattle.montage_tool.specs.Forms.{AreRun, AreHelp, AreVersion};
-ghost use Rattle.montage_tool.specs.Montage.{IsSent, RunsJob};
-ghost use Rattle.montage_tool.specs.Program.{IsTold};
+ghost use Rattle.montage_tool.specs.Montage.{IsSent};
+ghost use Rattle.montage_tool.specs.Program.{Answers, IsTold};
 ghost use Rattle.montage_tool.specs.Status.{exit_code_of, status_line};
 
-use crate::about::{HELP, VERSION, question_of};
+use crate::about::question_of;
 use crate::delivery::deliver;
 use crate::montage::{montage, send};
 use crate::status::{Status, exit_code, status_text};
@@ -23,16 +22,8 @@ pub(crate) fn answer<R: AllocGlobal, J: Source, I: Source, O: Sink, K: Sink>(
     out: &mut O,
     image_out: &mut K,
 ) -> Status
-    ensures help { AreHelp (map string_bytes words.now)
-        → IsSent O.taken O.faults out.old out.new HELP.now result }
-    ensures version { AreVersion (map string_bytes words.now)
-        → IsSent O.taken O.faults out.old out.new VERSION.now result }
-    ensures run { AreRun (map string_bytes words.now)
-        → RunsJob J.left J.faults O.taken O.faults job.old job.new out.old out.new result }
-    ensures bad_words { ¬ AreHelp (map string_bytes words.now)
-        → ¬ AreVersion (map string_bytes words.now) → ¬ AreRun (map string_bytes words.now)
-        → (result ≡ Status.BadWords) × (out.new ≡ out.old) }
-    ensures unasked { ¬ AreRun (map string_bytes words.now) → job.new ≡ job.old }
+    ensures answered { Answers J.left J.faults O.taken O.faults (map string_bytes words.now)
+        job.old job.new out.old out.new result }
     ensures image { image.new ≡ image.old }
     ensures image_out { image_out.new ≡ image_out.old }
 {
@@ -49,23 +40,26 @@ fn say<O: Sink>(out: &mut O, text: &str) -> Status
     send(out, text.as_bytes())
 }
 
-// Tells a status other than `Done`, and gives the exit status.
-pub(crate) fn end<O: Sink>(alloc: Global, out: &mut O, status: &Status) -> ExitCode
-    ensures exit { exit_status result ≡ exit_code_of status.now }
-    ensures told { IsTold O.taken O.faults out.old out.new (status_line status.now) }
+// The exit status of the process.
+pub(crate) fn exit_of(status: &Status) -> ExitCode
+    ensures { exit_status result ≡ exit_code_of status.now }
 {
-    tell(alloc, out, status);
     ExitCode::from(exit_code(status))
 }
 
-// Tells a status, if there is memory for its line.
-fn tell<O: Sink>(alloc: Global, out: &mut O, status: &Status)
-    ensures { IsTold O.taken O.faults out.old out.new (status_line status.now) }
+// Tells a status other than `Done` by its line. Without memory for the line nothing is written.
+pub(crate) fn tell<O: Sink>(alloc: Global, out: &mut O, status: &Status) -> Result<(), AllocError>
+    ensures told { OnOk result
+        (IsTold O.taken O.faults out.old out.new (status_line status.now)) }
+    ensures untold { OnErr result (out.new ≡ out.old) }
+    ensures done { status.now ≡ Status.Done → (result ≡ Ok tt) × (out.new ≡ out.old) }
 {
-    match line_of(alloc, status) {
-        Ok(line) => tell_line(out, &line),
-        Err(AllocError) => {}
+    if *status == Status::Done {
+        return Ok(());
     }
+    let line = line_of(alloc, status)?;
+    tell_line(out, &line);
+    Ok(())
 }
 
 // Writes a line. Where the sink fails there is nobody left to tell.
