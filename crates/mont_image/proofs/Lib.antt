@@ -1,0 +1,10 @@
+pub mod WordBytes
+pub mod Filling
+pub mod Headers
+pub mod Codes
+pub mod Layouts
+pub mod Slots
+pub mod Spelled
+pub mod WholeTexts
+pub mod Reading
+pub mod Texts
