@@ -1,0 +1,11 @@
+mod Rising
+mod SortedEntries
+mod Round
+mod Marks
+mod Held
+mod Walk
+mod Close
+mod Seated
+mod Numbering
+mod Indexed
+mod Renumber
