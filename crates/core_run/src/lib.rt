@@ -1,0 +1,27 @@
+//! The abstract machine of a store as a program: whether a core allows a step, the step itself,
+//! what a part shows, and which slots an advance writes back.
+#![tactic(auto)]
+
+mod advancing;
+mod allowing;
+mod announcing;
+mod answering;
+mod closing;
+mod core_words;
+mod flushing;
+mod hearing;
+mod judging;
+mod lists;
+mod newest;
+mod notes;
+mod stages;
+mod stepping;
+mod storing;
+mod superseding;
+mod unfinished;
+mod written;
+
+pub use allowing::allowed;
+pub use flushing::flush_list;
+pub use notes::note_of;
+pub use stepping::{StepRefusal, step};
