@@ -180,6 +180,6 @@ module _ (base : Base) (c : Core) (sound : IsSound base c) where
   steps_grow (events.Join part note) may = join_step c part note
   steps_grow (events.Exchange part) may = grows_itself (moment_of c)
 
-  -- a note that is true of a core is true of the core after every step that it allows
+  -- no allowed step makes a true note untrue
   pub notes_last : (e : Event) (note : Note) → IsAllowed c e → IsTrueNote c note → IsTrueNote (after c e) note
   notes_last e note may t = note_lasts (moment_of c) (moment_of (after c e)) note (steps_grow e may) t

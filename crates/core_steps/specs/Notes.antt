@@ -142,7 +142,7 @@ after_hear q note = record q {
 abbrev pub hear : Core → ℕ → CallerPart → Note → Core
 hear c k q note = record c { callers = slice_set c.callers k (after_hear q note) }
 
--- Join: a unit or the advancer that takes a note keeps it and changes nothing of the core.
+-- Join: what a unit or the advancer hears leaves the core as it is.
 abbrev pub join : Core → Part → Note → Core
 join c (parts.Unit u) note = c
 join c parts.Advancer note = c
