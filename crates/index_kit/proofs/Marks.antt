@@ -1,7 +1,34 @@
 -- Cells that are kept as a list of marks and one of numbers.
-use Rattle.std.proofs.Common.{◌≡◌, ◌≢◌, ℕ, zero, suc, ◌<◌, List, [], ◌∷◌, length, get_or, set, replicate, Some, None, refl, sym, ap, ◌∙◌, arith}
-use Rattle.std.proofs.lemmas.Bool.{eq-eqb, ne_eqb}
+use Rattle.std.proofs.Common.{◌≡◌, ◌≢◌, ℕ, zero, suc, ◌+◌, ◌-◌, ◌/◌, ◌^◌, ◌<◌, ◌≤◌, ◌⊎◌, inl, inr, List, [], ◌∷◌, length, get_or, set, replicate, Some, None, refl, sym, ap, subst, ◌∙◌, arith}
+use Rattle.std.specs.Prelude.{bit_and}
+use Rattle.std.proofs.lemmas.Bool.{cases_lt, eq-eqb, ne_eqb}
+use Rattle.std.proofs.lemmas.Nat.{and_le_l, and_le_r, and_mask, and_shr}
+use Rattle.index_kit.specs.declared.cells.TheConstants.{HELD}
 use Rattle.index_kit.specs.Cells.{Cell, Cells, cell_at, cell_of, cells_of, mark_in, number_in}
+
+-- the highest bits of two bytes, in both at once
+both_high : (a b : ℕ) → a < 256 → b < 256 → HELD ≤ a → HELD ≤ b → HELD ≤ bit_and a b
+both_high a b ha hb a_high b_high =
+    let shifted = and_shr a b 7 in
+    let one : b / 2 ^ 7 ≡ 2 ^ 1 - 1 = omega arith in
+    let lowest = ap (λ (n : ℕ). bit_and (a / 2 ^ 7) n) one ∙ and_mask (a / 2 ^ 7) 1 in
+    omega (arith, shifted, lowest)
+
+-- both at once tell whether one of two marks is below those of held cells
+abbrev pub Tells : ℕ → ℕ → ℕ → ℕ → Type 0
+Tells a b m n = (bit_and a b < HELD → (m < HELD) ⊎ (n < HELD)) × ((m < HELD) ⊎ (n < HELD) → bit_and a b < HELD)
+
+gap_told : (a b : ℕ) → a < 256 → b < 256 → Tells a b a b
+gap_told a b ha hb = (one_low (cases_lt a HELD) (cases_lt b HELD), low_of)
+  where
+    low_of : (a < HELD) ⊎ (b < HELD) → bit_and a b < HELD
+    low_of (inl l) = omega (arith, and_le_l a b)
+    low_of (inr l) = omega (arith, and_le_r a b)
+
+    one_low : (a < HELD) ⊎ (HELD ≤ a) → (b < HELD) ⊎ (HELD ≤ b) → bit_and a b < HELD → (a < HELD) ⊎ (b < HELD)
+    one_low (inl l) d low = inl l
+    one_low (inr n) (inl l) low = inr l
+    one_low (inr n) (inr m) low = absurd (let high = both_high a b ha hb n m in omega arith)
 
 length-cells_of : (marks numbers : List ℕ) → length numbers ≡ length marks → length (cells_of marks numbers) ≡ length marks
 length-cells_of [] numbers same = refl
@@ -59,6 +86,15 @@ module _ (marks numbers : List ℕ) (cells : Cells) (same : length numbers ≡ l
   pub mark_read : (at m : ℕ) → at < length cells → m ≡ get_or marks at m → m ≡ mark_in (cell_at cells at)
   mark_read at m within h = mark_of_cell m (get_or numbers at 0) ∙ ap mark_in (ap (λ (x : ℕ). cell_of x (get_or numbers at 0)) h ∙ sym
       (read at m 0 within))
+
+  -- two marks that were read as one number
+  module _ (at a b : ℕ) (within : at + 1 < length cells) (ha : a < 256) (hb : b < 256) (first : a ≡ get_or marks at a)
+      (second : b ≡ get_or marks (at + 1) b) where
+    pub gap_read : Tells a b (mark_in (cell_at cells at)) (mark_in (cell_at cells (at + 1)))
+    gap_read =
+        let x = mark_read at a (omega arith) first in
+        let y = mark_read (at + 1) b within second in
+        subst (λ (m : ℕ). Tells a b m (mark_in (cell_at cells (at + 1)))) x (subst (Tells a b a) y (gap_told a b ha hb))
 
   pub no_number_read : (at m : ℕ) → at < length cells → m ≡ get_or marks at m → m ≡ 0 → None ≡ number_in (cell_at cells at)
   no_number_read at m within h free = ap number_in (sym (free_cell m (get_or numbers at 0) free) ∙ ap (λ (x : ℕ). cell_of x

@@ -1,26 +1,27 @@
 -- Cells, and the keys that sit in them by their numbers.
 use Rattle.std.proofs.Common.{◌≡◌, ◌≢◌, ℕ, ◌<◌, [], length, get_or, set, Option, Some, None, ◌⊎◌, inl, inr, refl, sym, ap, subst, ◌∙◌, arith, length-set}
-use Rattle.std.specs.Prelude.{IfSome, IsSomeAnd, Bool, true, false, not, nat_eq}
+use Rattle.std.specs.Prelude.{◌+◌, ◌≤◌, IfSome, IsSomeAnd, Bool, true, false, not, nat_eq}
 use Rattle.std.specs.Bool.{OnTrue, OnFalse}
 use Rattle.std.specs.Cmp.Lexicographic.{pointwise, same_text, other_text}
 use mathlib.Core.Bool.{true≢false}
 use Rattle.std.proofs.Math.ListN.{get_or-map}
-use Rattle.std.proofs.lemmas.Bool.{cases_eq}
+use Rattle.std.proofs.lemmas.Bool.{cases_eq, cond-false, ne_eqb}
 use Rattle.std.proofs.lemmas.List.{length-map, map-set, get_or-set_same, get_or-set_other, get_or_default}
 use Rattle.mont_base.specs.State.{Key}
 use Rattle.index_kit.specs.Index.{Entries}
 use Rattle.index_kit.specs.Ring.{place_behind}
 use Rattle.index_kit.specs.Home.{mark_of}
-use Rattle.index_kit.specs.Cells.{Cell, Cells, cell_at, mark_in, number_in}
+use Rattle.index_kit.specs.declared.cells.TheConstants.{HELD}
+use Rattle.index_kit.specs.Cells.{Cell, Cells, HasGap, cell_at, mark_in, number_in}
 use Rattle.std.specs.FinMap as finite
 use Rattle.index_kit.specs.Table.{Numbers, Seat, Seats, HasFree, IsMarked, IsSeat, IsTable, IsTableBut, distance, key_at, numbers_in, seat_of, seats_of}
 use Rattle.index_kit.proofs.Held.{not_none, same_entry, number_of}
 use Rattle.index_kit.proofs.Close.{IsClosing, closing_moves, numbers_moved}
-use Rattle.index_kit.proofs.Walk.{table_filled, table_cleared, get_seated, set_seated, taken_seated}
+use Rattle.index_kit.proofs.Walk.{IsWalked, walked_past, seated, table_filled, table_cleared, get_seated, set_seated, taken_seated}
 
-pub mark_of-some : (key : Key) → 0 < mark_of key
+pub mark_of-held : (key : Key) → HELD ≤ mark_of key
 unfolding mark_of
-mark_of-some key = omega arith
+mark_of-held key = omega arith
 
 same_number : (x y : ℕ) → Some x ≡ Some y → x ≡ y
 same_number x y e = cc
@@ -74,12 +75,24 @@ module _ (entries : Entries) (cells : Cells) where
       own_free None is free = tt
       own_free (Some held) is free =
           let mark = marked.mark at held is in
-          let some = mark_of-some (key_at entries held.1) in absurd (omega arith)
+          let some = mark_of-held (key_at entries held.1) in absurd (omega arith)
 
       pub other_mark : (c : Cell) (mark : ℕ) → cell_at cells at ≡ c → mark ≡ mark_in c → mark ≢ 0 → mark ≢ mark_of key
           → IsSomeAnd (seat_of entries c) (λ held. held.0 ≢ key)
       other_mark None mark is m some other = some m
       other_mark (Some held) mark is m some other = λ same. other (m ∙ marked.mark at held is ∙ ap mark_of same)
+
+      -- a cell with the mark of the key isn't free
+      pub like_mark : (c : Cell) (mark : ℕ) → cell_at cells at ≡ c → mark ≡ mark_in c → mark ≡ mark_of key → seat_of entries c ≢ None
+      like_mark None mark is m same none = let some = mark_of-held key in absurd (omega arith)
+      like_mark (Some held) mark is m same none = not_none _ (sym none)
+
+      -- a low mark is that of a free cell
+      pub low_free : (c : Cell) → cell_at cells at ≡ c → mark_in c < HELD → c ≡ None
+      low_free None is low = refl
+      low_free (Some held) is low =
+          let mark = marked.mark at held is in
+          let some = mark_of-held (key_at entries held.1) in absurd (omega arith)
 
       -- the number of a cell tells it
       pub number_within : (c : Cell) (number : ℕ) → cell_at cells at ≡ c → Some number ≡ number_in c → number < length entries
@@ -91,6 +104,17 @@ module _ (entries : Entries) (cells : Cells) where
           (key_at entries number, number)
       seat_numbered None number is n = absurd (not_none _ (sym n))
       seat_numbered (Some held) number is n = ap (λ (x : ℕ). Some (key_at entries x, x)) (sym (same_number number held.1 n))
+
+-- a seat that holds a key
+pub own_told : (s : Seat) (key : Key) → s ≢ None → (another : Bool) → OnFalse another (IfSome s (λ held. held.0 ≡ key))
+    → OnTrue (not another) (IsSomeAnd s (λ held. held.0 ≡ key))
+own_told None key some another h = absurd (some refl)
+own_told (Some held) key some true h = tt
+own_told (Some held) key some false h = h
+
+pub own_seat : (s : Seat) (key : Key) → IsSomeAnd s (λ held. held.0 ≡ key) → IfSome s (λ held. held.0 ≡ key)
+own_seat None key own = tt
+own_seat (Some held) key own = own
 
 -- two keys by their comparison
 another_told : (k key : Key) (same : Bool) → same ≡ pointwise nat_eq k key → (differ : Bool) → differ ≡ not same → OnTrue differ
@@ -135,6 +159,34 @@ module _ (entries : Entries) (cells : Cells) (marked : IsMarked entries cells) (
     pub numbers_set : numbers_in (seats_of entries (set cells at (Some (mark, number)))) ≡ finite.insert (numbers_in
         (seats_of entries cells)) (key_at entries number) number
     numbers_set = ap numbers_in (seats-filled entries cells at mark number) ∙ set_seated _ _ _ seat number
+
+-- where a key isn't in its home, and there or behind is a gap, it isn't there
+module _ (entries : Entries) (cells : Cells) (marked : IsMarked entries cells) (table : IsTable (seats_of entries cells)) (key : Key)
+    (at : ℕ)
+    (walk : IsWalked (seats_of entries cells) key at)
+    (other : IfSome (cell_at (seats_of entries cells) at) (λ held. held.0 ≢ key)) where
+  free_seat : (i : ℕ) → mark_in (cell_at cells i) < HELD → cell_at (seats_of entries cells) i ≡ None
+  free_seat i low = seat_read entries cells i ∙ ap (seat_of entries) (low_free entries cells marked i key _ refl low)
+
+  none_from : (i : ℕ) → IsWalked (seats_of entries cells) key i → cell_at (seats_of entries cells) i ≡ None
+      → None ≡ finite.get (numbers_in (seats_of entries cells)) key
+  none_from i walked free = get_seated _ key i (seated _ key i walked None free tt table) None free
+
+  next_is : at + 1 < length cells → place_behind (length (seats_of entries cells)) at ≡ at + 1
+  next_is more = cond-false _ _ _ (ne_eqb _ _ (λ (e : at + 1 ≡ length (seats_of entries cells)). omega
+      (arith, e, length-seats entries cells)))
+
+  past_home : (s : Seat) → cell_at (seats_of entries cells) at ≡ s → IfSome s (λ held. held.0 ≢ key) → at + 1 < length cells
+      → cell_at (seats_of entries cells) (at + 1) ≡ None → None ≡ finite.get (numbers_in (seats_of entries cells)) key
+  past_home None is other more free = none_from at walk is
+  past_home (Some held) is other more free =
+      none_from (at + 1) (subst (IsWalked (seats_of entries cells) key) (next_is more) (walked_past _ key at walk _ is other)) free
+
+  pub gap_absent : at + 1 < length cells → HasGap cells at → None ≡ finite.get (numbers_in (seats_of entries cells)) key
+  gap_absent more gap = elim gap [
+    | inl low ↦ none_from at walk (free_seat at low)
+    | inr low ↦ past_home _ refl other more (free_seat (at + 1) low)
+  ]
 
 -- to clear a seat leaves a hole
 module _ (entries : Entries) (cells : Cells) (marked : IsMarked entries cells) (table : IsTable (seats_of entries cells)) (key : Key)

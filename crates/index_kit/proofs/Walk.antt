@@ -43,6 +43,12 @@ walk_begins seats key some =
     let none = steps-self (length seats) (home_of (length seats) key) in
     record { within = home_of-lt (length seats) key some; no_free = λ f free. omega arith; not_key = λ i e held same. omega arith }
 
+pub walk_home : (seats : Seats) (key : Key) (size at : ℕ) → at ≡ home_of size key → size ≡ length seats → HasFree seats
+    → IsWalked seats key at
+walk_home seats key size at is sized some =
+    subst (IsWalked seats key) (sym (is ∙ ap (λ (n : ℕ). home_of n key) sized)) (walk_begins seats key
+    (some_seats seats some.0 some.1.within))
+
 -- two seats hold other entries
 pub other_seats : (seats : Seats) (i j : ℕ) (d e : Key × ℕ) → Holds seats i d → Holds seats j e → d.0 ≢ e.0 → i ≢ j
 other_seats seats i j d e held held_too differs same =

@@ -1,9 +1,10 @@
 -- The hash of a key, and what it chooses: the cell in which a search for the key begins, and its
 -- mark.
-use Rattle.std.specs.Prelude.{ℕ, ◌+◌, ◌*◌, ◌/◌, ◌%◌, ◌^◌, max, List, [], ◌∷◌}
+use Rattle.std.specs.Prelude.{ℕ, ◌+◌, ◌*◌, ◌/◌, ◌%◌, ◌^◌, List, [], ◌∷◌}
 use Rattle.mont_base.specs.State.{Key}
 use Rattle.mont_base.specs.Texts.{text_words}
 use Rattle.index_kit.specs.declared.home.TheConstants.{WEIGHTS}
+use Rattle.index_kit.specs.declared.cells.TheConstants.{HELD}
 
 -- the sum of words by their weights
 abbrev pub weighed : List ℕ → List ℕ → ℕ
@@ -19,6 +20,6 @@ hash_of key = weighed (text_words key) WEIGHTS % 2 ^ 64
 unfoldable pub home_of : ℕ → Key → ℕ
 home_of cells key = hash_of key * cells / 2 ^ 64
 
--- a byte of the hash, which is no 0
+-- seven bits of the hash, in a byte whose highest bit says that a cell isn't free
 unfoldable pub mark_of : Key → ℕ
-mark_of key = max (hash_of key / 2 ^ 32 % 256) 1
+mark_of key = HELD + hash_of key / 2 ^ 32 % HELD

@@ -1,6 +1,6 @@
 // Cells in a row, each of which is free or holds a mark and a number.
-ghost use Rattle.std.specs.Prelude.{◌≡◌, ◌<◌, ◌^◌, [], length, IfOk, Some, None, slice_set, replicate};
-ghost use Rattle.index_kit.specs.Cells.{cell_at, mark_in, number_in};
+ghost use Rattle.std.specs.Prelude.{◌≡◌, ◌<◌, ◌+◌, ◌^◌, ◌↔◌, [], length, IsTrue, IfOk, Some, None, slice_set, replicate};
+ghost use Rattle.index_kit.specs.Cells.{HasGap, cell_at, mark_in, number_in};
 
 use std::alloc::{AllocError, Global};
 use std::marker::Model;
@@ -8,9 +8,11 @@ use std::marker::Model;
 // The mark of a free cell.
 pub(crate) const FREE: u8 = 0;
 
+// The least mark of a cell that isn't free.
+pub(crate) const HELD: u8 = 128;
+
 // Contracts see the list of cells. Marks and numbers lie apart, since most cells that a search
-// passes
-// are told by their marks alone.
+// passes are told by their marks alone.
 #[derive(Debug, Drop)]
 pub(crate) struct Cells {
     marks: Vec<u8>,
@@ -61,6 +63,15 @@ impl Cells {
         ensures { result ≡ mark_in (cell_at self.now at) }
     {
         self.marks[at]
+    }
+
+    // Whether this cell or the next is free. Two marks are tested as one number, since a branch on
+    // each would be guessed wrong too often.
+    pub(crate) fn has_gap(&self, at: usize) -> bool
+        requires { at + 1 < length self.now }
+        ensures { IsTrue result ↔ HasGap self.now at }
+    {
+        self.marks[at] & self.marks[at + 1] < HELD
     }
 
     // The number in a cell, if it isn't free.

@@ -1,35 +1,34 @@
 // The hash of a key, and what it chooses: the cell in which a search for the key begins, and its
 // mark.
-ghost use Rattle.std.specs.Prelude.{◌≡◌, ◌+◌, ◌*◌, ◌%◌, ◌^◌, ◌<◌};
+ghost use Rattle.std.specs.Prelude.{◌≡◌, ◌+◌, ◌*◌, ◌%◌, ◌^◌, ◌<◌, ◌≤◌};
 ghost use Rattle.index_kit.specs.Home.{hash_of, home_of, mark_of};
 
+use crate::cells::HELD;
 use mont_base::Text;
 
-// Odd numbers without a pattern, one for each word of a text.
+// One for each word of a text: odd numbers without a pattern, and 1 for its length, by which alone
+// few keys differ.
 const WEIGHTS: [u64; 4] = [
-    0xd6e8_feb8_6659_fd93,
+    1,
     0x9e37_79b9_7f4a_7c15,
     0xc2b2_ae3d_27d4_eb4f,
     0x1656_67b1_9e37_79f9,
 ];
 
-// The home of a key among so many cells. The high bits of the hash choose it, which depend on all
-// bits
-// of the words, so texts of digits spread as well as long ones.
-pub(crate) fn home(cells: usize, key: Text) -> usize
+// The home of a key among so many cells, and its mark, by which most other keys are told from it.
+// The high bits of the hash choose the home, which depend on all bits of the words, so texts of
+// digits spread as well as long ones.
+pub(crate) fn home_and_mark(cells: usize, key: Text) -> (usize, u8)
     requires { 0 < cells }
-    ensures value { result ≡ home_of cells key }
-    ensures within { result < cells }
+    ensures home { result.0 ≡ home_of cells key }
+    ensures within { result.0 < cells }
+    ensures mark { result.1 ≡ mark_of key }
+    ensures held { HELD ≤ result.1 }
 {
-    ((u128::from(hash(key)) * cells as u128) >> 64) as usize
-}
-
-// The mark of a key, by which most other keys are told from it.
-pub(crate) fn mark(key: Text) -> u8
-    ensures value { result ≡ mark_of key }
-    ensures some { 0 < result }
-{
-    ((hash(key) >> 32) % 256).max(1) as u8
+    let hash = hash(key);
+    let home = (u128::from(hash) * cells as u128) >> 64;
+    let mark = HELD + ((hash >> 32) % u64::from(HELD)) as u8;
+    (home as usize, mark)
 }
 
 fn hash(key: Text) -> u64

@@ -1,24 +1,22 @@
 // An index by open addressing: entries in a list, and a table that numbers them by their keys.
-ghost use Rattle.std.specs.Prelude.{◌≡◌, ◌<◌, length, IfOk};
+ghost use Rattle.std.specs.Prelude.{◌≡◌, ◌<◌, length, OnOk, OnErr};
 ghost use Rattle.std.specs.FinMap as finite;
 ghost use Rattle.index_kit.specs.Table.{IsKeyed};
 ghost use Rattle.index_kit.specs.ProbeIndex.{limit_of, IsIndexed};
 
 use crate::cells::Cells;
-use crate::home::mark;
 use crate::index::Index;
-use crate::table::{seat, set, set_all, take};
+use crate::table::{number_of, seat_and_mark, set, set_all, take};
 use mont_base::Text;
 use std::alloc::{AllocError, Global};
 use std::marker::Model;
 use std::mem;
 
 // How many cells the first table has.
-const FIRST_CELLS: usize = 48;
+const FIRST_CELLS: usize = 40;
 
 /// An index that finds a key by its hash, from its home on cell by cell (linear probing). It
-/// stays fast
-/// after many removals, since a key that is taken out leaves no mark in its cell.
+/// stays fast after many removals, since a key that is taken out leaves no mark in its cell.
 #[derive(Debug, Drop)]
 pub struct ProbeIndex {
     entries: Vec<(Text, u64)>,
@@ -70,26 +68,25 @@ impl Index for ProbeIndex {
         if self.entries.is_empty() {
             return None;
         }
-        let at = seat(&self.cells, &self.entries, key);
-        let number = self.cells.number(at)?;
+        let number = number_of(&self.cells, &self.entries, key)?;
         Some(self.entries[number as usize].1)
     }
 
     fn reserve(&mut self) -> Result<(), AllocError> {
         self.entries.reserve(1)?;
-        let size = self.cells.len();
-        if self.entries.len() >= limit(size) {
-            self.cells = larger(size, &self.entries, *self.entries.allocator())?;
+        if self.entries.len() >= limit(self.cells.len()) {
+            let alloc = *self.entries.allocator();
+            return enlarge(&mut self.cells, &self.entries, alloc);
         }
         Ok(())
     }
 
     fn put(&mut self, key: Text, place: u64) -> Option<u64> {
-        let at = seat(&self.cells, &self.entries, key);
+        let (at, mark) = seat_and_mark(&self.cells, &self.entries, key);
         match self.cells.number(at) {
             Some(number) => Some(mem::replace(&mut self.entries[number as usize].1, place)),
             None => {
-                self.cells.fill(at, mark(key), self.entries.len() as u32);
+                self.cells.fill(at, mark, self.entries.len() as u32);
                 match self.entries.push((key, place)) {
                     Ok(()) => None,
                     Err(_) => unreachable!(),
@@ -114,19 +111,27 @@ impl Index for ProbeIndex {
     }
 }
 
-// A larger table for these entries, with room for one more.
-fn larger(size: usize, entries: &[(Text, u64)], alloc: Global) -> Result<Cells, AllocError>
+// Makes a larger table for these entries, with room for one more. It is seldom called, and stays
+// apart so that `reserve` is short where there is room.
+#[inline(never)]
+fn enlarge(cells: &mut Cells, entries: &[(Text, u64)], alloc: Global) -> Result<(), AllocError>
     requires { IsKeyed entries.now }
-    ensures indexed { IfOk result (λ cells. IsIndexed entries.now cells) }
-    ensures room { IfOk result (λ cells. length entries.now < limit_of (length cells)) }
+    ensures indexed { OnOk result (IsIndexed entries.now cells.new) }
+    ensures room { OnOk result (length entries.now < limit_of (length cells.new)) }
+    ensures err { OnErr result (cells.new ≡ cells.old) }
 {
-    let size = size.checked_mul(2).ok_or(AllocError)?.max(FIRST_CELLS);
+    let size = cells
+        .len()
+        .checked_mul(2)
+        .ok_or(AllocError)?
+        .max(FIRST_CELLS);
     if entries.len() >= limit(size) {
         return Err(AllocError);
     }
-    let mut cells = Cells::with_len(alloc, size)?;
-    set_all(&mut cells, entries);
-    Ok(cells)
+    let mut larger = Cells::with_len(alloc, size)?;
+    set_all(&mut larger, entries);
+    *cells = larger;
+    Ok(())
 }
 
 // How many keys so many cells number at most.

@@ -1,30 +1,61 @@
 // A table of cells in a ring, which numbers entries by their keys. A search goes from a key's
-// home cell
-// by cell, and ends at the key or at a free cell.
+// home cell by cell, and ends at the key or at a free cell.
 ghost use Rattle.std.specs.Prelude.{◌≡◌, ◌≢◌, ◌<◌, ◌≤◌, ◌^◌, ℕ, None, length, IfSome, IsSomeAnd};
 ghost use Rattle.std.specs.Bool.{OnTrue, OnFalse};
 ghost use Rattle.std.specs.FinMap as finite;
 ghost use Rattle.index_kit.specs.Cells.{cell_at};
+ghost use Rattle.index_kit.specs.Home.{mark_of};
 ghost use Rattle.index_kit.specs.Table.{HasFree, IsKeyed, IsMarked, IsNumbering, IsSeat, IsTable, IsTableBut, key_at, numbers_in, seats_of};
 
-use crate::cells::{Cells, FREE};
-use crate::home::{home, mark};
+use crate::cells::{Cells, FREE, HELD};
+use crate::home::home_and_mark;
 use crate::ring::{place_behind, steps};
 use mont_base::Text;
 
+// The number of a key's entry, if there is one. Most keys that are there stand in their home, and
+// most others have a free cell there or behind it.
+pub(crate) fn number_of(cells: &Cells, entries: &[(Text, u64)], key: Text) -> Option<u32>
+    requires marked { IsMarked entries.now cells.now }
+    requires table { IsTable (seats_of entries.now cells.now) }
+    requires room { HasFree (seats_of entries.now cells.now) }
+    ensures { result ≡ finite.get (numbers_in (seats_of entries.now cells.now)) key }
+{
+    let (at, mark) = home_and_mark(cells.len(), key);
+    if holds_own(cells, entries, at, key, mark) {
+        return cells.number(at);
+    }
+    if at + 1 < cells.len() && cells.has_gap(at) {
+        return None;
+    }
+    cells.number(seat(cells, entries, key))
+}
+
 // The seat of a key: the cell that numbers its entry, or else the first free one from its home on.
-pub(crate) fn seat(cells: &Cells, entries: &[(Text, u64)], key: Text) -> usize
+fn seat(cells: &Cells, entries: &[(Text, u64)], key: Text) -> usize
     requires marked { IsMarked entries.now cells.now }
     requires table { IsTable (seats_of entries.now cells.now) }
     requires room { HasFree (seats_of entries.now cells.now) }
     ensures { IsSeat (seats_of entries.now cells.now) key result }
 {
+    let (at, _) = seat_and_mark(cells, entries, key);
+    at
+}
+
+// The seat of a key, and its mark.
+pub(crate) fn seat_and_mark(cells: &Cells, entries: &[(Text, u64)], key: Text) -> (usize, u8)
+    requires marked { IsMarked entries.now cells.now }
+    requires table { IsTable (seats_of entries.now cells.now) }
+    requires room { HasFree (seats_of entries.now cells.now) }
+    ensures seat { IsSeat (seats_of entries.now cells.now) key result.0 }
+    ensures mark { result.1 ≡ mark_of key }
+    ensures held { HELD ≤ result.1 }
+{
     let size = cells.len();
-    let mut at = home(size, key);
-    while holds_another(cells, entries, at, key) {
+    let (mut at, mark) = home_and_mark(size, key);
+    while holds_another(cells, entries, at, key, mark) {
         at = place_behind(size, at);
     }
-    at
+    (at, mark)
 }
 
 // Numbers an entry, whose key may be numbered already.
@@ -41,8 +72,8 @@ pub(crate) fn set(cells: &mut Cells, entries: &[(Text, u64)], number: u32)
     ensures len { length cells.new ≡ length cells.old }
 {
     let (key, _) = entries[number as usize];
-    let at = seat(cells, entries, key);
-    cells.fill(at, mark(key), number);
+    let (at, mark) = seat_and_mark(cells, entries, key);
+    cells.fill(at, mark, number);
 }
 
 // Numbers all entries in cells that are free.
@@ -83,8 +114,7 @@ pub(crate) fn take(cells: &mut Cells, entries: &[(Text, u64)], key: Text) -> Opt
 }
 
 // Closes the hole that a key left: numbers behind it move back, each to a hole that lies between
-// the
-// home of its key and its cell, up to the next free cell.
+// the home of its key and its cell, up to the next free cell.
 fn close(cells: &mut Cells, entries: &[(Text, u64)], start: usize)
     requires marked { IsMarked entries.now cells.old }
     requires table { IsTableBut (seats_of entries.now cells.old) start }
@@ -99,20 +129,38 @@ fn close(cells: &mut Cells, entries: &[(Text, u64)], start: usize)
     let mut at = place_behind(size, start);
     while let Some(number) = cells.number(at) {
         let (key, _) = entries[number as usize];
-        let from = home(size, key);
+        let (from, mark) = home_and_mark(size, key);
         if steps(size, from, hole) < steps(size, from, at) {
             cells.clear(at);
-            cells.fill(hole, mark(key), number);
+            cells.fill(hole, mark, number);
             hole = at;
         }
         at = place_behind(size, at);
     }
 }
 
-// Whether a cell numbers the entry of another key.
-fn holds_another(cells: &Cells, entries: &[(Text, u64)], at: usize, key: Text) -> bool
+// Whether a cell numbers the entry of this key. Its mark is looked at first, and alone, so that a
+// free cell and one of another key go the same way.
+fn holds_own(cells: &Cells, entries: &[(Text, u64)], at: usize, key: Text, mark: u8) -> bool
     requires within { at < length cells.now }
     requires marked { IsMarked entries.now cells.now }
+    requires mark { mark ≡ mark_of key }
+    ensures own { OnTrue result (IsSomeAnd
+        (cell_at (seats_of entries.now cells.now) at) (λ held. held.0 ≡ key)) }
+    ensures another { OnFalse result (IfSome
+        (cell_at (seats_of entries.now cells.now) at) (λ held. held.0 ≢ key)) }
+{
+    if cells.mark(at) != mark {
+        return false;
+    }
+    !holds_another(cells, entries, at, key, mark)
+}
+
+// Whether a cell numbers the entry of another key.
+fn holds_another(cells: &Cells, entries: &[(Text, u64)], at: usize, key: Text, mark: u8) -> bool
+    requires within { at < length cells.now }
+    requires marked { IsMarked entries.now cells.now }
+    requires mark { mark ≡ mark_of key }
     ensures another { OnTrue result (IsSomeAnd
         (cell_at (seats_of entries.now cells.now) at) (λ held. held.0 ≢ key)) }
     ensures own { OnFalse result (IfSome
@@ -122,7 +170,7 @@ fn holds_another(cells: &Cells, entries: &[(Text, u64)], at: usize, key: Text) -
     if held == FREE {
         return false;
     }
-    if held != mark(key) {
+    if held != mark {
         return true;
     }
     match cells.number(at) {

@@ -35,14 +35,14 @@ loop-number-preserved c =
     let held = held_here _ _ kept.marked _ _ _ _ kept.walk _ c.in-Some.ensures in
     let within = number_within _ _ kept.marked c.loop-number.at [] _ _ refl c.in-Some.ensures in
     let key = key_read c.args.entries.now c.in-Some.number c.index-entries-number.result within in
-    let home = c.home-from.ensures.value ∙ (λ i. home_of c.len-size.result (sym key i)) in
+    let home = c.home_and_mark-from.ensures.home ∙ (λ i. home_of c.len-size.result (sym key i)) in
     let to_hole = distance_counted _ _ _ home _ _ c.steps.ensures in
     let to_cell = distance_counted _ _ _ home _ _ c.steps-in-Some.ensures in
     elim c.if-steps.branch [
       | then-steps w ↦
-          let mark = rw (← key) at w.mark.ensures.value in
+          let mark = rw (← key) at c.home_and_mark-from.ensures.mark in
           let cells = w.cells-is ∙ w.fill.ensures ∙ ap (λ (cs : Cells). set cs c.loop-number.hole (Some
-          (w.mark.result, c.in-Some.number))) w.clear.ensures in
+          (c.home_and_mark-from.result.1, c.in-Some.number))) w.clear.ensures in
           rw (cells, w.hole-is, c.place_behind-at-in-Some.ensures.value) (record {
             marked = marked_moved _ _ kept.marked _ _ _ _ kept.walk _ c.in-Some.ensures _ mark;
             walk = walk_moved _ _ kept.marked _ _ _ _ kept.walk _ c.in-Some.ensures _ mark (rw (← to_hole, ← to_cell) w.if-steps.true);

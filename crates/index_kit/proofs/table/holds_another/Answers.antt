@@ -14,7 +14,7 @@ pub returns-then-held-mark-clause-another : goal.returns-then-held-mark-clause-a
 returns-then-held-mark-clause-another c =
     rw (seat_read c.args.entries.now c.args.cells.now c.args.at)
     (other_mark _ _ c.requires.marked c.args.at c.args.key _ _ refl c.mark-held.ensures c.if-held-eq-FREE.false
-    (λ e. c.if-held-mark.true (e ∙ sym c.mark.ensures.value)))
+    (λ e. c.if-held-mark.true (e ∙ sym c.requires.mark)))
 
 pub bounds-entries-number : goal.bounds-entries-number
 bounds-entries-number c = number_within _ _ c.requires.marked c.args.at c.args.key _ _ refl c.in-Some.ensures

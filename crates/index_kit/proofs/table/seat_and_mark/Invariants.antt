@@ -1,7 +1,7 @@
 use Rattle.std.proofs.Common.{◌-◌}
 use Rattle.index_kit.specs.Table.{seats_of, distance}
 use Rattle.index_kit.proofs.Walk.{IsWalked}
-use Rattle.index_kit.proofs.table.seat.Given as goal
+use Rattle.index_kit.proofs.table.seat_and_mark.Given as goal
 
 abbrev pub invariant-loop-key : goal.invariant-loop-key
 invariant-loop-key l = IsWalked (seats_of l.entries l.cells) l.key l.at

@@ -1,18 +1,14 @@
-use Rattle.std.proofs.Common.{refl, subst, sym, ◌∙◌, arith}
-use Rattle.index_kit.specs.Home.{home_of}
+use Rattle.std.proofs.Common.{refl, subst, sym, ◌∙◌}
 use Rattle.index_kit.specs.Ring.{place_behind}
 use Rattle.index_kit.specs.Table.{seats_of}
 use Rattle.index_kit.proofs.Seated.{length-seats}
-use Rattle.index_kit.proofs.Walk.{IsWalked, walk_begins, walked_past, nearer_past}
-use Rattle.index_kit.proofs.table.seat.Goals as goal
+use Rattle.index_kit.proofs.Walk.{IsWalked, walk_home, walked_past, nearer_past}
+use Rattle.index_kit.proofs.table.seat_and_mark.Goals as goal
 
 pub loop-key-init : goal.loop-key-init
 loop-key-init c =
-    let some = c.requires.room.1.within in
-    let seats = seats_of c.args.entries.now c.args.cells.now in
     let size = c.len-size.ensures ∙ sym (length-seats c.args.entries.now c.args.cells.now) in
-    subst (IsWalked seats c.args.key) (sym (c.home-at.ensures.value ∙ (λ i. home_of (size i) c.args.key))) (walk_begins seats c.args.key
-    (omega arith))
+    walk_home (seats_of c.args.entries.now c.args.cells.now) c.args.key _ _ c.home_and_mark-at.ensures.home size c.requires.room
 
 pub loop-key-smaller : goal.loop-key-smaller
 loop-key-smaller c =
