@@ -1,187 +1,222 @@
--- Texts that begin with a header and lines of the one caller.
-use Rattle.std.proofs.Common.{◌≡◌, ℕ, ◌+◌, ◌<◌, ◌≤◌, inl, inr, Bool, true, false, cond, List, [], ◌∷◌, ◌++◌, length, map, take, drop, get_or, All, sym, ap, zero-add, ◌∙◌, refl, subst, arith, lit<}
-use Rattle.std.specs.List.{count_by}
-use Rattle.std.proofs.lemmas.List.{append_assoc, append-nil, length-append, length-map, get_or-append-add, take_at, take-append-drop, drop_more, length-take-le, map-append}
+-- Texts that begin with a job's.
+use Rattle.std.proofs.Common.{◌≡◌, ℕ, suc, ◌+◌, ◌-◌, ◌<◌, ◌≤◌, inl, inr, List, [], ◌∷◌, ◌++◌, length, map, take, drop, get_or, All, sym, ap, ◌∙◌, refl, subst, arith, add-one}
+use Rattle.std.proofs.Math.Seq.{take-append-add}
+use Rattle.std.specs.List.{take-map}
+use Rattle.std.proofs.lemmas.List.{append_assoc, append-nil, length-append, length-map, get_or-append-add, take_at, take-append-le, length-take-le, map-append}
 use Rattle.std.proofs.lemmas.List.Concat.{flat_map-append}
-use Rattle.std.proofs.lemmas.List.Elements.{All-take, All-nil, All-tail, All-cons, All-map, All-push, All-weaker}
-use Rattle.std.proofs.lemmas.List.Sums.{sum_by_push, sum_by-take-le, sum_by-cons}
-use Rattle.std.proofs.lemmas.Bool.{cases_eq}
+use Rattle.std.proofs.lemmas.List.Elements.{All-cons, All-map, All-append, All-weaker}
+use Rattle.std.proofs.lemmas.Bool.{cases_eq, cases_lt}
+use Rattle.job_text.specs.declared.grammar.Grammar.{Grammar}
+use Rattle.job_text.specs.declared.header.Head.{Head}
+use Rattle.job_text.specs.declared.job.Job.{Job}
 use Rattle.job_text.specs.declared.job.Line.{Line}
-use Rattle.mont_base.specs.Layout.{Shape, IsLayout}
+use Rattle.job_text.specs.declared.job.Stop.{Stop}
 use Rattle.job_text.specs.declared.limits.TheConstants.{MOST_LINES, LINE_BYTES}
-use Rattle.job_text.specs.Lines.{spaced, text_of, parts_of, line_at, IsEnded, HasLine}
-use Rattle.job_text.specs.JobText.{header_words, line_words, is_put, begins_put, puts_before, job_kinds, IsHeader, IsLine}
+use Rattle.job_text.specs.Lines.{spaced, line_of, text_of, parts_of, line_at, IsEnded, HasLine}
+use Rattle.job_text.specs.Grammar.{head_of, job_of, IsHead, IsStop, IsLine, IsJob, Takes, TakesHead}
+use Rattle.job_text.specs.JobText.{head_words, stop_words, line_words, job_lines, job_text, MayStand}
 use Rattle.job_text.specs.Parts.{Lacks, IsSplit}
-use Rattle.job_text.specs.Refused.{BeginsWithHeader}
-use Rattle.job_text.proofs.HeaderLines.{header_spelled, header_lacks, header_short}
-use Rattle.job_text.proofs.DeedLines.{line_short, line_head}
+use Rattle.job_text.specs.Refused.{BeginsWithHead}
+use Rattle.job_text.proofs.SeenWords.{IsShortLine, head_short, stop_short, line_short}
+use Rattle.job_text.proofs.Grammars.{takes_job, takes_begun, stops_cut, lines_cut}
 use Rattle.job_text.proofs.Parted.{whole_line, parts_front, parts_split, some_part}
 
-abbrev pub first_lines : Shape → List Line → List (List (List ℕ))
-first_lines s lines = header_words s 1 0 0 ∷ map line_words lines
+-- each line of a job is short and has no line feed
+pub job_short : (j : Job) → IsJob j → All (λ (w : List (List ℕ)). IsShortLine (spaced w)) (job_lines j)
+job_short j h =
+    let P : List (List ℕ) → Type 0 = λ w. IsShortLine (spaced w) in
+    All-cons P (head_words (head_of j)) (map stop_words j.stops ++ map line_words j.lines) (head_short (head_of j) h.head)
+    (All-append P (map stop_words j.stops) (map line_words j.lines)
+    (All-map P stop_words j.stops
+    (All-weaker (IsStop (head_of j)) (λ (s : Stop). P (stop_words s)) (λ s is. stop_short (head_of j) s h.head is) j.stops h.stops))
+    (All-map P line_words j.lines
+    (All-weaker (IsLine (head_of j)) (λ (l : Line). P (line_words l)) (λ l is. line_short (head_of j) l h.head is) j.lines h.lines)))
 
--- a text that begins with the header of a layout and then with these lines
-pub record IsFront (text : List ℕ) (s : Shape) (lines : List Line) (rest : List ℕ) : Type 0 where
-  pub layout : IsLayout s
-  pub kinds : s.kinds ≡ job_kinds
-  pub joined : text ≡ text_of (first_lines s lines) ++ rest
-  pub are_lines : All IsLine lines
-  pub few_lines : length lines < MOST_LINES
-  pub few_puts : count_by is_put lines ≤ s.slots
+pub job_long : (j : Job) → length (job_lines j) ≡ 1 + length j.stops + length j.lines
+job_long j = omega (
+  arith,
+  length-append (map stop_words j.stops) (map line_words j.lines),
+  length-map j.stops stop_words,
+  length-map j.lines line_words,
+)
 
-pub first_header : (s : Shape) → IsLayout s → s.kinds ≡ job_kinds → IsHeader s (spaced (header_words s 1 0 0))
-first_header s layout kinds = record { layout = layout; kinds = kinds; spelled = refl }
+pub few_job_lines : (j : Job) → IsJob j → length (job_lines j) ≤ MOST_LINES
+few_job_lines j h = omega (arith, job_long j, h.few_lines)
 
--- each of these lines lacks a line feed, and is short
-first_fine : (P : List ℕ → Type 0) (s : Shape) (lines : List Line) → P (spaced (header_words s 1 0 0))
-    → ((l : Line) → IsLine l → P (spaced (line_words l))) → All IsLine lines → All (λ w. P (spaced w)) (first_lines s lines)
-first_fine P s lines header line are =
-    All-cons (λ w. P (spaced w)) (header_words s 1 0 0) (map line_words lines) header
-    (All-map (λ w. P (spaced w)) line_words lines (All-weaker IsLine (λ l. P (spaced (line_words l))) line lines are))
+-- a text that begins with the text of a job
+pub record IsFront (g : Grammar) (text : List ℕ) (j : Job) (rest : List ℕ) : Type 0 where
+  pub taken : Takes g j
+  pub joined : text ≡ job_text j ++ rest
 
-first_lack : (s : Shape) (lines : List Line) → IsLayout s → s.kinds ≡ job_kinds → All IsLine lines
-    → All (λ w. Lacks 10 (spaced w)) (first_lines s lines)
-first_lack s lines layout kinds = first_fine (Lacks 10) s lines (header_lacks s _ (first_header s layout kinds)) (λ l h. (line_short l h).0)
+pub front_more : (g : Grammar) (text : List ℕ) (j : Job) (rest more : List ℕ) → IsFront g text j rest
+    → IsFront g (text ++ more) j (rest ++ more)
+front_more g text j rest more f = record {
+  taken = f.taken;
+  joined = ap (λ (xs : List ℕ). xs ++ more) f.joined ∙ append_assoc (job_text j) rest more;
+}
 
-pub first_short : (s : Shape) (lines : List Line) → IsLayout s → s.kinds ≡ job_kinds → All IsLine lines
-    → All (λ w. length (spaced w) ≤ LINE_BYTES) (first_lines s lines)
-first_short s lines layout kinds = first_fine (λ line. length line ≤ LINE_BYTES) s lines (header_short s _ (first_header s layout kinds))
-    (λ l h. (line_short l h).1)
+spaced_long : (j : Job) → length (map spaced (job_lines j)) ≡ length (job_lines j)
+spaced_long j = length-map (job_lines j) spaced
 
-count_lines : (lines : List Line) → All IsLine lines → count_by begins_put (map spaced (map line_words lines)) ≡ count_by is_put lines
-count_lines [] are = refl
-count_lines (l ∷ ls) are =
-    let first : begins_put (spaced (line_words l)) ≡ is_put l = (line_head l (are 0 l (omega arith))).1 in
-    let more = count_lines ls (All-tail IsLine l ls are) in
-    sum_by-cons (λ xs. cond (begins_put xs) 1 0) (spaced (line_words l)) (map spaced (map line_words ls))
-    ∙ ap (λ b. cond b 1 0 + count_by begins_put (map spaced (map line_words ls))) first
-    ∙ ap (λ n. cond (is_put l) 1 0 + n) more
-    ∙ sym (sum_by-cons (λ x. cond (is_put x) 1 0) l ls)
+module _ (g : Grammar) (text : List ℕ) (j : Job) (rest : List ℕ) (f : IsFront g text j rest) where
+  pub front_job : IsJob j
+  front_job = takes_job g j f.taken
 
-count_first : (s : Shape) (lines : List Line) → s.kinds ≡ job_kinds → All IsLine lines
-    → count_by begins_put (map spaced (first_lines s lines)) ≡ count_by is_put lines
-count_first s lines kinds are =
-    let no : begins_put (spaced (header_words s 1 0 0)) ≡ false = ap begins_put (header_spelled s kinds) in
-    sum_by-cons (λ xs. cond (begins_put xs) 1 0) (spaced (header_words s 1 0 0)) (map spaced (map line_words lines))
-    ∙ ap (λ b. cond b 1 0 + count_by begins_put (map spaced (map line_words lines))) no
-    ∙ zero-add (count_by begins_put (map spaced (map line_words lines)))
-    ∙ count_lines lines are
-
-first_long : (s : Shape) (lines : List Line) → length (map spaced (first_lines s lines)) ≡ length lines + 1
-first_long s lines = omega (arith, length-map (map line_words lines) spaced, length-map lines line_words)
-
-module _ (text : List ℕ) (s : Shape) (lines : List Line) (rest : List ℕ) (f : IsFront text s lines rest) where
-  pub front_parts : parts_of text ≡ map spaced (first_lines s lines) ++ parts_of rest
-  front_parts = ap parts_of f.joined ∙ parts_front (first_lines s lines) rest (first_lack s lines f.layout f.kinds f.are_lines)
+  pub front_parts : parts_of text ≡ map spaced (job_lines j) ++ parts_of rest
+  front_parts = ap parts_of f.joined ∙ parts_front (job_lines j) rest (λ k d within. (job_short j front_job k d within).0)
 
   -- what follows these lines begins with the next line
-  pub front_line : line_at text (length lines + 1) ≡ line_at rest 0
+  pub front_line : line_at text (length (job_lines j)) ≡ line_at rest 0
   front_line =
-      let at : length (map spaced (first_lines s lines)) + 0 ≡ length lines + 1 = omega (arith, first_long s lines) in
-      ap (λ (ps : List (List ℕ)). get_or ps (length lines + 1) []) front_parts
-      ∙ subst (λ (n : ℕ). get_or (map spaced (first_lines s lines) ++ parts_of rest) n [] ≡ get_or (parts_of rest) 0 []) at
-      (get_or-append-add (map spaced (first_lines s lines)) (parts_of rest) 0 [])
+      let at : length (map spaced (job_lines j)) + 0 ≡ length (job_lines j) = omega (arith, spaced_long j) in
+      ap (λ (ps : List (List ℕ)). get_or ps (length (job_lines j)) []) front_parts
+      ∙ subst (λ (n : ℕ). get_or (map spaced (job_lines j) ++ parts_of rest) n [] ≡ get_or (parts_of rest) 0 []) at
+      (get_or-append-add (map spaced (job_lines j)) (parts_of rest) 0 [])
 
-  pub front_header : line_at text 0 ≡ spaced (header_words s 1 0 0)
-  front_header = ap (λ (ps : List (List ℕ)). get_or ps 0 []) front_parts
-
-  pub front_count : length (parts_of text) ≡ length lines + 1 + length (parts_of rest)
-  front_count = ap length front_parts ∙ omega (arith, first_long s lines, length-append (map spaced (first_lines s lines)) (parts_of rest))
-
-  pub front_puts : puts_before text (length lines + 1) ≡ count_by is_put lines
-  front_puts =
-      ap (λ (ps : List (List ℕ)). count_by begins_put (take (length lines + 1) ps)) front_parts
-      ∙ ap (λ (ps : List (List ℕ)). count_by begins_put ps) (take_at (map spaced (first_lines s lines)) (parts_of rest) (length lines + 1)
-      (first_long s lines))
-      ∙ count_first s lines f.kinds f.are_lines
+  pub front_count : length (parts_of text) ≡ length (job_lines j) + length (parts_of rest)
+  front_count = ap length front_parts ∙ omega (arith, spaced_long j, length-append (map spaced (job_lines j)) (parts_of rest))
 
   -- the next line is there unless nothing follows
-  pub has_next : 0 < length rest → HasLine text (length lines + 1)
+  pub has_next : 0 < length rest → HasLine text (length (job_lines j))
   has_next some = elim (cases_eq (length (parts_of rest)) 1) [
     | inl one ↦ inr (omega (arith, front_count), inl (omega (arith, ap length front_line, ap length (whole_line rest one))))
     | inr more ↦ inl (omega (arith, front_count, some_part rest))
   ]
 
-  pub front_ended : (line after : List ℕ) → IsSplit 10 rest line after → IsEnded text (length lines + 1)
+  pub front_ended : (line after : List ℕ) → IsSplit 10 rest line after → IsEnded text (length (job_lines j))
   front_ended line after split =
       let parts : length (parts_of rest) ≡ length (line ∷ parts_of after) =
       ap (λ (xs : List ℕ). length (parts_of xs)) split.joined ∙ ap length (parts_split line after split.first) in
       omega (arith, front_count, some_part after)
 
--- with nothing behind these lines there are no others
-pub no_next : (text : List ℕ) (s : Shape) (lines : List Line) → IsFront text s lines [] → (i : ℕ) → HasLine text i → i ≤ length lines
-no_next text s lines f i (inl ended) = omega (arith, front_count text s lines [] f)
-no_next text s lines f i (inr (last, inl some)) =
-    let at : i ≡ length lines + 1 = omega (arith, front_count text s lines [] f) in
-    let none : length (line_at text i) ≡ 0 = ap (λ (n : ℕ). length (line_at text n)) at ∙ ap length (front_line text s lines [] f) in
+  -- the lines up to the next one
+  pub front_next : (line after : List ℕ) → IsSplit 10 rest line after
+      → take (length (job_lines j) + 1) (parts_of text) ≡ map spaced (job_lines j) ++ line ∷ []
+  front_next line after split =
+      let own : List (List ℕ) = map spaced (job_lines j) in
+      let parts : parts_of text ≡ (own ++ line ∷ []) ++ parts_of after =
+      front_parts
+      ∙ ap (λ (xs : List ℕ). own ++ parts_of xs) split.joined
+      ∙ ap (λ (ps : List (List ℕ)). own ++ ps) (parts_split line after split.first)
+      ∙ sym (append_assoc own (line ∷ []) (parts_of after)) in
+      ap (λ (ps : List (List ℕ)). take (length (job_lines j) + 1) ps) parts
+      ∙ take_at (own ++ line ∷ []) (parts_of after) (length (job_lines j) + 1)
+      (omega (arith, length-append own (line ∷ []), spaced_long j))
+
+-- with nothing behind a job's lines there are no others
+pub no_next : (g : Grammar) (text : List ℕ) (j : Job) → IsFront g text j [] → (i : ℕ) → HasLine text i → i < length (job_lines j)
+no_next g text j f i (inl ended) = omega (arith, front_count g text j [] f)
+no_next g text j f i (inr (last, inl some)) =
+    let at : i ≡ length (job_lines j) = omega (arith, front_count g text j [] f) in
+    let none : length (line_at text i) ≡ 0 = ap (λ (n : ℕ). length (line_at text n)) at ∙ ap length (front_line g text j [] f) in
     absurd (omega arith)
-no_next text s lines f i (inr (last, inr first)) = omega arith
+no_next g text j f i (inr (last, inr first)) = omega (arith, job_long j)
 
-pub text_before : (h : List (List ℕ)) (pre : List Line) (l : Line) (post : List Line) (rest : List ℕ)
-    → text_of (h ∷ map line_words (pre ++ l ∷ post)) ++ rest ≡ text_of (h ∷ map line_words pre) ++
-    (spaced (line_words l) ++ 10 ∷ (text_of (map line_words post) ++ rest))
-text_before h pre l post rest = simp (map-append, flat_map-append, append_assoc)
+-- ---- the first lines of a job are a job's
+abbrev FirstLines : Grammar → Job → ℕ → Type 0
+FirstLines g j i = (k : Job) × Takes g k × (take (i + 1) (map spaced (job_lines j)) ≡ map spaced (job_lines k))
 
--- more bytes may follow
-pub front_more : (text : List ℕ) (s : Shape) (lines : List Line) (rest more : List ℕ) → IsFront text s lines rest
-    → IsFront (text ++ more) s lines (rest ++ more)
-front_more text s lines rest more f = record {
-  layout = f.layout;
-  kinds = f.kinds;
-  joined = ap (λ (xs : List ℕ). xs ++ more) f.joined ∙ append_assoc (text_of (first_lines s lines)) rest more;
-  are_lines = f.are_lines;
-  few_lines = f.few_lines;
-  few_puts = f.few_puts;
-}
+first_of : (w : List ℕ) (ws vs : List (List ℕ)) (i : ℕ) → take i ws ≡ vs → take (i + 1) (w ∷ ws) ≡ w ∷ vs
+first_of w ws vs i e = ap (λ (n : ℕ). take n (w ∷ ws)) (add-one i) ∙ ap (λ (us : List (List ℕ)). w ∷ us) e
 
--- the text up to one of its lines
-pub front_before : (text : List ℕ) (s : Shape) (lines : List Line) (rest : List ℕ) → IsFront text s lines rest → (i : ℕ) (d : Line)
-    → i < length lines
-    → IsFront text s (take i lines) (spaced (line_words (get_or lines i d)) ++ 10 ∷ (text_of (map line_words (drop (i + 1) lines)) ++ rest))
-front_before text s lines rest f i d within =
-    let here = drop_more lines i d within in
-    let whole : lines ≡ take i lines ++ get_or lines i d ∷ drop (i + 1) lines =
-    sym (take-append-drop i lines) ∙ ap (λ (ls : List Line). take i lines ++ ls) here in
+tail_apart : (ss : List Stop) (ls : List Line) → map spaced (map stop_words ss ++ map line_words ls)
+    ≡ map spaced (map stop_words ss) ++ map spaced (map line_words ls)
+tail_apart ss ls = map-append spaced (map stop_words ss) (map line_words ls)
+
+take_stops : (ss : List Stop) (ls : List Line) (i : ℕ) → i ≤ length ss → take i (map spaced (map stop_words ss ++ map line_words ls))
+    ≡ map spaced (map stop_words (take i ss) ++ map line_words [])
+take_stops ss ls i within =
+    ap (take i) (tail_apart ss ls)
+    ∙ take-append-le i (map spaced (map stop_words ss)) (map spaced (map line_words ls))
+    (omega (arith, length-map (map stop_words ss) spaced, length-map ss stop_words))
+    ∙ take-map spaced i (map stop_words ss)
+    ∙ ap (map spaced) (take-map stop_words i ss)
+    ∙ ap (map spaced) (sym (append-nil (map stop_words (take i ss))))
+
+take_lines : (ss : List Stop) (ls : List Line) (n : ℕ) → take (length ss + n) (map spaced (map stop_words ss ++ map line_words ls))
+    ≡ map spaced (map stop_words ss ++ map line_words (take n ls))
+take_lines ss ls n =
+    let long : length (map spaced (map stop_words ss)) ≡ length ss =
+    length-map (map stop_words ss) spaced ∙ length-map ss stop_words in
+    ap (take (length ss + n)) (tail_apart ss ls)
+    ∙ ap (λ (m : ℕ). take (m + n) (map spaced (map stop_words ss) ++ map spaced (map line_words ls))) (sym long)
+    ∙ take-append-add (map spaced (map stop_words ss)) (map spaced (map line_words ls)) n
+    ∙ ap (λ (ws : List (List ℕ)). map spaced (map stop_words ss) ++ ws)
+    (take-map spaced n (map line_words ls) ∙ ap (map spaced) (take-map line_words n ls))
+    ∙ sym (tail_apart ss (take n ls))
+
+first_lines : (g : Grammar) (j : Job) (i : ℕ) → Takes g j → i < length (job_lines j) → FirstLines g j i
+first_lines g j i t within = elim (cases_lt i (length j.stops + 1)) [
+  | inl early ↦ (
+    job_of (head_of j) (take i j.stops) [],
+    stops_cut g (head_of j) j.stops j.lines i (omega arith) t,
+    first_of (spaced (head_words (head_of j))) (map spaced (map stop_words j.stops ++ map line_words j.lines))
+        (map spaced (map stop_words (take i j.stops) ++ map line_words [])) i (take_stops j.stops j.lines i (omega arith)),
+  )
+  | inr late ↦
+      let n : ℕ = i - length j.stops in
+      let at : length j.stops + n ≡ i = omega arith in (
+        job_of (head_of j) j.stops (take n j.lines),
+        lines_cut g (head_of j) j.stops j.lines n (omega (arith, job_long j)) t,
+        first_of (spaced (head_words (head_of j))) (map spaced (map stop_words j.stops ++ map line_words j.lines))
+            (map spaced (map stop_words j.stops ++ map line_words (take n j.lines))) i
+            (subst (λ (m : ℕ). take m (map spaced (map stop_words j.stops ++ map line_words j.lines))
+            ≡ map spaced (map stop_words j.stops ++ map line_words (take n j.lines))) at (take_lines j.stops j.lines n)),
+      )
+]
+
+-- so each of these lines may stand in the text
+pub front_stands : (g : Grammar) (text : List ℕ) (j : Job) (rest : List ℕ) → IsFront g text j rest → (i : ℕ) → i < length (job_lines j)
+    → MayStand g text i
+front_stands g text j rest f i within =
+    let first = first_lines g j i f.taken within in
     record {
-      layout = f.layout;
-      kinds = f.kinds;
-      joined = f.joined ∙ ap (λ (ls : List Line). text_of (first_lines s ls) ++ rest) whole
-          ∙ text_before (header_words s 1 0 0) (take i lines) (get_or lines i d) (drop (i + 1) lines) rest;
-      are_lines = All-take IsLine i lines f.are_lines;
-      few_lines = omega (arith, length-take-le i lines (omega arith), f.few_lines);
-      few_puts = omega (arith, sum_by-take-le (λ x. cond (is_put x) 1 0) lines i, f.few_puts);
+      job = first.0;
+      taken = first.1;
+      lines =
+          ap (take (i + 1)) (front_parts g text j rest f)
+          ∙ take-append-le (i + 1) (map spaced (job_lines j)) (parts_of rest) (omega (arith, spaced_long j))
+          ∙ first.2;
     }
 
-push_puts : (b : Bool) (n m most : ℕ) → m ≡ n + cond b 1 0 → n ≤ most → (b ≡ true → n < most) → m ≤ most
-push_puts true n m most e few room = omega (arith, room refl)
-push_puts false n m most e few room = omega arith
-
+-- ---- lines that are added
 start_text : (h after : List ℕ) → h ++ 10 ∷ after ≡ ((h ++ 10 ∷ []) ++ []) ++ after
 start_text h after = simp (append-nil, append_assoc)
 
--- one more line
-pub front_push : (text : List ℕ) (s : Shape) (lines : List Line) (rest : List ℕ) (l : Line) (after : List ℕ) → IsFront text s lines rest
-    → IsLine l → rest ≡ spaced (line_words l) ++ 10 ∷ after → length lines + 1 < MOST_LINES
-    → (is_put l ≡ true → count_by is_put lines < s.slots) → IsFront text s (lines ++ l ∷ []) after
-front_push text s lines rest l after f h e few room = record {
-  layout = f.layout;
-  kinds = f.kinds;
-  joined = f.joined ∙ ap (λ (xs : List ℕ). text_of (first_lines s lines) ++ xs) e
-      ∙ sym (text_before (header_words s 1 0 0) lines l [] after);
-  are_lines = All-push IsLine lines l f.are_lines h;
-  few_lines = omega (arith, length-append lines (l ∷ []));
-  few_puts = push_puts (is_put l) (count_by is_put lines) (count_by is_put (lines ++ l ∷ [])) s.slots
-      (sum_by_push (λ x. cond (is_put x) 1 0) lines l) f.few_puts room;
+-- a text that begins with its header
+pub front_start : (g : Grammar) (text : List ℕ) (h : Head) (after : List ℕ) → BeginsWithHead g text h after
+    → IsFront g text (job_of h [] []) after
+front_start g text h after b = record {
+  taken = takes_begun g h b.is_head b.takes;
+  joined = b.begins.ended.joined ∙ ap (λ (xs : List ℕ). xs ++ 10 ∷ after) b.spelled ∙ start_text (spaced (head_words h)) after;
 }
 
--- a text that begins with its header
-pub front_start : (text : List ℕ) (s : Shape) (after : List ℕ) → BeginsWithHeader text s after → IsFront text s [] after
-front_start text s after b = record {
-  layout = b.header.layout;
-  kinds = b.header.kinds;
-  joined = b.begins.ended.joined ∙ ap (λ (xs : List ℕ). xs ++ 10 ∷ after) b.header.spelled
-      ∙ start_text (spaced (header_words s 1 0 0)) after;
-  are_lines = All-nil IsLine;
-  few_lines = lit< tt;
-  few_puts = omega arith;
+-- the text of lines, by the lines' bytes
+abbrev ended_lines : List (List ℕ) → List ℕ
+ended_lines [] = []
+ended_lines (line ∷ lines) = (line ++ 10 ∷ []) ++ ended_lines lines
+
+text_ended : (ws : List (List (List ℕ))) → text_of ws ≡ ended_lines (map spaced ws)
+text_ended [] = refl
+text_ended (w ∷ ws) = ap (λ (xs : List ℕ). line_of w ++ xs) (text_ended ws)
+
+ended_push : (lines : List (List ℕ)) (line : List ℕ) → ended_lines (lines ++ line ∷ []) ≡ ended_lines lines ++ (line ++ 10 ∷ [])
+ended_push [] line = append-nil (line ++ 10 ∷ [])
+ended_push (l ∷ ls) line =
+    ap (λ (xs : List ℕ). (l ++ 10 ∷ []) ++ xs) (ended_push ls line) ∙ sym (append_assoc (l ++ 10 ∷ []) (ended_lines ls) (line ++ 10 ∷ []))
+
+pub text_more : (j k : Job) (line : List ℕ) → map spaced (job_lines k) ≡ map spaced (job_lines j) ++ line ∷ []
+    → job_text k ≡ job_text j ++ (line ++ 10 ∷ [])
+text_more j k line e =
+    text_ended (job_lines k) ∙ ap ended_lines e ∙ ended_push (map spaced (job_lines j)) line
+    ∙ ap (λ (xs : List ℕ). xs ++ (line ++ 10 ∷ [])) (sym (text_ended (job_lines j)))
+
+pub front_push : (g : Grammar) (text : List ℕ) (j k : Job) (rest line after : List ℕ) → IsFront g text j rest → Takes g k
+    → map spaced (job_lines k) ≡ map spaced (job_lines j) ++ line ∷ [] → IsSplit 10 rest line after → IsFront g text k after
+front_push g text j k rest line after f taken e split = record {
+  taken = taken;
+  joined = f.joined ∙ ap (λ (xs : List ℕ). job_text j ++ xs) split.joined
+      ∙ ap (λ (xs : List ℕ). job_text j ++ xs) (sym (append_assoc line (10 ∷ []) after))
+      ∙ sym (append_assoc (job_text j) (line ++ 10 ∷ []) after)
+      ∙ ap (λ (xs : List ℕ). xs ++ after) (sym (text_more j k line e));
 }

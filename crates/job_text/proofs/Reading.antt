@@ -4,8 +4,8 @@ use Rattle.std.proofs.lemmas.List.{append_assoc, append-nil, take-append-le, nil
 use Rattle.std.proofs.lemmas.Bool.{cases_lt}
 use Rattle.std.specs.Io.KnownBytes.{Consumes, Keeps, IsAtEnd}
 use Rattle.job_text.specs.declared.limits.TheConstants.{READ_BYTES}
-use Rattle.job_text.specs.declared.refusal.JobRefusal.{JobRefusal}
-use Rattle.job_text.specs.declared.refusal.JobRefusal.TheVariants.{Text, Read, Memory}
+use Rattle.job_text.specs.declared.job_refusal.JobRefusal.{JobRefusal}
+use Rattle.job_text.specs.declared.job_refusal.JobRefusal.TheVariants.{Text, Read, Memory}
 use Rattle.job_text.specs.Refused.{IsReadOf}
 use Rattle.job_text.specs.Taken.{HasLost, HasLostSome, TakesBytes, IsTaken}
 

@@ -28,7 +28,7 @@ high_digit n high = ap (λ (b : Bool). cond b (48 + n) (87 + n)) (le-ltb n 10 hi
 abbrev pub IsSeen : ℕ → Type 0
 IsSeen b = (33 ≤ b) × (b ≤ 126)
 
-digit_seen : (n : ℕ) → n < 16 → IsSeen (hex_digit n)
+pub digit_seen : (n : ℕ) → n < 16 → IsSeen (hex_digit n)
 digit_seen n small =
     elim (cases_lt n 10) [
       | inl low ↦ (omega (arith, low_digit n low), omega (arith, low_digit n low))
@@ -36,7 +36,7 @@ digit_seen n small =
           (omega (arith, high_digit n high), omega (arith, high_digit n high))
     ]
 
-digit_once : (m n : ℕ) → m < 16 → n < 16 → hex_digit m ≡ hex_digit n → m ≡ n
+pub digit_once : (m n : ℕ) → m < 16 → n < 16 → hex_digit m ≡ hex_digit n → m ≡ n
 digit_once m n small other same = by_ranks (cases_lt m 10) (cases_lt n 10)
   where
     by_ranks : (m < 10) ⊎ (10 ≤ m) → (n < 10) ⊎ (10 ≤ n) → m ≡ n

@@ -6,7 +6,9 @@ use Rattle.mont_base.specs.declared.operation.Entry.{Entry}
 use Rattle.job_text.specs.declared.outcome.Outcome.{Outcome}
 use Rattle.job_text.specs.Lines.{text_of, line_of}
 use Rattle.job_text.specs.Report.{Report}
-use Rattle.job_text.specs.ReportText.{report_header_words, base_lines, histories_lines, outcomes_lines, image_lines, report_text}
+use Rattle.mont_base.specs.Layout.{Shape}
+use Rattle.mont_base.specs.State.{State}
+use Rattle.job_text.specs.ReportText.{report_header_words, base_lines, histories_lines, outcomes_lines, image_lines, report_text, contents_lines, contents_header_words, contents_text}
 
 -- one part more
 next : (ls ms : List (List (List ℕ))) (was now : List ℕ) → was ≡ text_of ls → now ≡ was ++ text_of ms → now ≡ text_of (ls ++ ms)
@@ -35,3 +37,13 @@ module _ (r : Report) (histories : List (List Entry)) (outcomes : List (List Out
       let t4 = next k (outcomes_lines r.outcomes) units callers t3 (e4 ∙ ap (λ xs. units ++ text_of (outcomes_lines xs)) same_outcomes) in
       let t5 = next o (image_lines r.image_clock r.contents) callers image t4 e5 in
       next i ((codes "end" ∷ []) ∷ []) image end t5 e6
+
+-- contents alone: a first line, the units, and the last line
+pub contents_written : (s : Shape) (clock : ℕ) (states units : List State) (start header body end : List ℕ) → units ≡ states → start ≡ []
+    → header ≡ start ++ line_of (contents_header_words s clock) → body ≡ header ++ text_of (contents_lines units) → end
+    ≡ body ++ codes "end\n" → end ≡ contents_text s clock states
+contents_written s clock states units start header body end same empty e1 e2 e3 =
+    let h = contents_header_words s clock ∷ [] in
+    let t1 = first (contents_header_words s clock) start header empty e1 in
+    let t2 = next h (contents_lines states) header body t1 (e2 ∙ ap (λ xs. header ++ text_of (contents_lines xs)) same) in
+    next (h ++ contents_lines states) ((codes "end" ∷ []) ∷ []) body end t2 e3

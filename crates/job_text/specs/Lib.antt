@@ -1,9 +1,17 @@
 pub mod Lines
 pub mod Spelling
+pub mod LineWords
+pub mod Operations
+pub mod Grammar
 pub mod JobText
+pub mod Draft
 pub mod Parts
 pub mod Refused
 pub mod Taken
 pub mod Report
+pub mod Outcomes
+pub mod Causes
+pub mod AnsweredLines
+pub mod Faithful
 pub mod ReportText
 pub mod PlainReport

@@ -3,10 +3,12 @@ use Rattle.std.specs.Prelude.{ℕ, List, [], ◌∷◌, ◌++◌, length, map, c
 use Rattle.std.specs.List.{flat_map, enumerate_from}
 use Rattle.std.specs.FinMap as finite
 use Rattle.mont_base.specs.declared.operation.Entry.{Entry}
-use Rattle.mont_base.specs.Layout.{Shape}
+use Rattle.mont_base.specs.Layout.{Shape, letters_of}
 use Rattle.mont_base.specs.State.{State, MapOf, QueueOf, GraphOf, Key, Value, Ends}
 use Rattle.job_text.specs.declared.outcome.Outcome.{Outcome}
-use Rattle.job_text.specs.declared.outcome.Outcome.TheVariants.{At, Ticked}
+use Rattle.job_text.specs.declared.outcome.Outcome.TheVariants as outcomes
+use Rattle.mont_base.specs.declared.refusal.Which.{Which}
+use Rattle.mont_base.specs.declared.refusal.Which.TheVariants as counts
 use Rattle.job_text.specs.Lines.{text_of}
 use Rattle.job_text.specs.Spelling.{text_word, op_words, reply_words}
 use Rattle.job_text.specs.JobText.{store_words}
@@ -65,9 +67,26 @@ abbrev pub histories_lines : List (List Entry) → List (List (List ℕ))
 histories_lines histories =
     flat_map (λ (p : ℕ × List Entry). history_lines p.0 p.1) (enumerate_from 0 histories)
 
+-- a number that would rise above its last value
+abbrev pub count_word : Which → List ℕ
+count_word counts.Call = codes "call"
+count_word counts.Place = codes "place"
+count_word counts.Identity = codes "identity"
+count_word counts.Version = codes "version"
+count_word counts.Serial = codes "serial"
+
 abbrev pub outcome_words : Outcome → List (List ℕ)
-outcome_words (At unit place) = codes "at" ∷ decimal unit ∷ decimal place ∷ []
-outcome_words (Ticked epoch) = codes "ticked" ∷ decimal epoch ∷ []
+outcome_words (outcomes.At unit place) = codes "at" ∷ decimal unit ∷ decimal place ∷ []
+outcome_words (outcomes.Synced epoch) = codes "synced" ∷ decimal epoch ∷ []
+outcome_words (outcomes.Ticked epoch) = codes "ticked" ∷ decimal epoch ∷ []
+outcome_words (outcomes.Stuck unit epoch) = codes "stuck" ∷ decimal unit ∷ decimal epoch ∷ []
+outcome_words outcomes.ClockEnd = codes "clockend" ∷ []
+outcome_words (outcomes.Full need free clock) =
+    codes "full" ∷ decimal need ∷ decimal free ∷ decimal clock ∷ []
+outcome_words (outcomes.CountEnd which) = codes "countend" ∷ count_word which ∷ []
+outcome_words (outcomes.Halted unit by) = codes "halted" ∷ decimal unit ∷ decimal by ∷ []
+outcome_words (outcomes.CutIn unit) = codes "cut" ∷ decimal unit ∷ []
+outcome_words outcomes.Cut = codes "cut" ∷ []
 
 abbrev pub caller_lines : ℕ → List Outcome → List (List (List ℕ))
 caller_lines caller os =
@@ -96,3 +115,13 @@ report_lines r =
 -- the one text of a report
 abbrev pub report_text : Report → List ℕ
 report_text r = text_of (report_lines r)
+
+-- ---- contents alone, as they are found at a clock
+abbrev pub contents_header_words : Shape → ℕ → List (List ℕ)
+contents_header_words s clock =
+    codes "montage-contents" ∷ codes "3" ∷ letters_of s.kinds ∷ decimal s.slots ∷ decimal clock ∷ []
+
+abbrev pub contents_text : Shape → ℕ → List State → List ℕ
+contents_text s clock states =
+    text_of
+    ((contents_header_words s clock ∷ []) ++ contents_lines states ++ ((codes "end" ∷ []) ∷ []))

@@ -3,8 +3,8 @@ use Rattle.std.specs.Prelude.{◌≡◌, ℕ, ◌<◌, ◌≤◌, List, length, 
 use Rattle.std.specs.Io.KnownBytes.{Consumes, IsAtEnd}
 use Rattle.mont_base.specs.Faults.{Rose}
 use Rattle.job_text.specs.declared.limits.TheConstants.{READ_BYTES}
-use Rattle.job_text.specs.declared.refusal.JobRefusal.{JobRefusal}
-use Rattle.job_text.specs.declared.refusal.JobRefusal.TheVariants.{Text, Read, Memory}
+use Rattle.job_text.specs.declared.job_refusal.JobRefusal.{JobRefusal}
+use Rattle.job_text.specs.declared.job_refusal.JobRefusal.TheVariants.{Text, Read, Memory}
 
 -- what is known to be left has lost its first bytes, so many or all
 abbrev pub HasLost : ℕ → Option (List ℕ) → Option (List ℕ) → Type 0

@@ -1,47 +1,49 @@
 // What the lines of a job ask.
-ghost use Rattle.std.specs.Prelude.{◌≡◌, ◌≢◌, ◌↔◌, IsTrue, MatchOption};
+ghost use Rattle.std.specs.Prelude.{◌≡◌, ◌≢◌, map, MatchOption};
 ghost use Rattle.job_text.specs.declared.job.Deed.{Deed};
+ghost use Rattle.job_text.specs.declared.job.Line.{Line};
 ghost use Rattle.job_text.specs.Lines.{spaced};
-ghost use Rattle.job_text.specs.JobText.{IsDeed, BeginsStop, asking, line_words};
+ghost use Rattle.job_text.specs.Operations.{IsNumber};
+ghost use Rattle.job_text.specs.Grammar.{IsAsked};
+ghost use Rattle.job_text.specs.JobText.{deed_words, line_words};
 
 use crate::job::{Deed, Line};
+use crate::numbers::number;
+use crate::operations::read_op;
 use crate::spelling::OpWords;
-use crate::split::split_once;
-use crate::text_word::text;
-use mont_base::Op;
+use crate::words::words;
 use std::fmt;
 
-/// Whether the first word of a line is `stop`.
-pub fn begins_stop(line: &[u8]) -> bool
-    ensures { IsTrue result ↔ BeginsStop line.now }
+/// What words ask, whether or not there is a unit for it.
+fn deed(words: &[&[u8]]) -> Option<Deed>
+    ensures { MatchOption result
+        ((d : Deed) → IsAsked d → map (λ word. word.now) words.now ≢ deed_words d)
+        (λ d. IsAsked d × (map (λ word. word.now) words.now ≡ deed_words d)) }
 {
-    let word = match split_once(line, b' ') {
-        Some((word, _)) => word,
-        None => line,
-    };
-    word == b"stop".as_slice()
+    if let [word] = words {
+        if *word == b"tick".as_slice() {
+            return Some(Deed::Tick);
+        }
+        if *word == b"sync".as_slice() {
+            return Some(Deed::Sync);
+        }
+    }
+    Some(Deed::Call {
+        op: read_op(words)?,
+    })
 }
 
-/// What the line of the one caller asks.
-pub fn deed(line: &[u8]) -> Option<Deed>
+/// The line that bytes spell, whether or not it may stand in a job.
+pub fn read_line(bytes: &[u8]) -> Option<Line>
     ensures { MatchOption result
-        ((d : Deed) → IsDeed d → line.now ≢ spaced (line_words (asking d)))
-        (λ d. IsDeed d × (line.now ≡ spaced (line_words (asking d)))) }
+        ((l : Line) → IsNumber l.caller → IsAsked l.deed → bytes.now ≢ spaced (line_words l))
+        (λ l. IsNumber l.caller × IsAsked l.deed × (bytes.now ≡ spaced (line_words l))) }
 {
-    if line == b"0 tick".as_slice() {
-        return Some(Deed::Tick);
-    }
-    if let Some(key) = line.strip_prefix(b"0 get ") {
-        return Some(Deed::Call {
-            op: Op::Get { key: text(key)? },
-        });
-    }
-    let (key, value) = split_once(line.strip_prefix(b"0 put ")?, b' ')?;
-    Some(Deed::Call {
-        op: Op::Put {
-            key: text(key)?,
-            value: text(value)?,
-        },
+    let words = words(bytes)?;
+    let (caller, asked) = words.as_slice().split_first()?;
+    Some(Line {
+        caller: number(caller)?,
+        deed: deed(asked)?,
     })
 }
 
@@ -56,6 +58,7 @@ impl fmt::Display for Deed {
         match self {
             Deed::Call { op } => write!(f, "{}", OpWords(op)),
             Deed::Tick => write!(f, "tick"),
+            Deed::Sync => write!(f, "sync"),
         }
     }
 }

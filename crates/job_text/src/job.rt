@@ -8,6 +8,8 @@ pub enum Deed {
     Call { op: Op },
     /// One advance of the clock.
     Tick,
+    /// A wait until all that the caller has seen is durable.
+    Sync,
 }
 
 /// A line of a job.

@@ -5,35 +5,45 @@
 //! report is faithful.
 #![tactic(auto)]
 
+mod contents_text;
 mod contents_writer;
 mod deeds;
+mod draft;
+mod grammar;
 mod header;
 mod history_writer;
 mod job;
+mod job_refusal;
 mod job_writer;
 mod limits;
 mod lines;
+mod masks;
 mod numbers;
+mod op_name;
+mod operations;
 mod outcome;
 mod parser;
 mod reader;
-mod refusal;
 mod report;
 mod report_writer;
 mod spelling;
 mod split;
+mod stops;
 mod text_word;
+mod words;
 
+pub use contents_text::write_contents;
+pub use grammar::Grammar;
 pub use job::{Deed, Job, JobFault, Line, Stop};
+pub use job_refusal::JobRefusal;
 pub use job_writer::write_job;
-pub use limits::{LINE_BYTES, MOST_LINES, READ_BYTES};
+pub use limits::{LINE_BYTES, MOST_ATTEMPTS, MOST_CALLERS, MOST_LINES, MOST_STEPS, READ_BYTES};
 pub use outcome::Outcome;
-pub use reader::read_job;
-pub use refusal::JobRefusal;
+pub use reader::{read_job, read_job_of};
 pub use report::Report;
 pub use report_writer::write_report;
 
 #[cfg(test)]
-mod samples;
+mod map_runs;
 #[cfg(test)]
 mod tests;

@@ -1,32 +1,32 @@
 // Jobs from the bytes of their texts.
 ghost use Rattle.std.specs.Prelude.{◌≡◌, ◌<◌, length, IfOk, IfErr};
 ghost use Rattle.job_text.specs.declared.limits.TheConstants.{READ_BYTES};
-ghost use Rattle.job_text.specs.JobText.{IsJob, job_text};
+ghost use Rattle.job_text.specs.Grammar.{Takes};
+ghost use Rattle.job_text.specs.JobText.{job_text};
 ghost use Rattle.job_text.specs.Refused.{IsRefusal};
 
+use crate::draft::Draft;
+use crate::grammar::Grammar;
 use crate::job::Job;
-use crate::lines::{is_put, next_deed, next_header};
-use crate::refusal::JobRefusal;
-use mont_base::Sequence;
+use crate::job_refusal::JobRefusal;
+use crate::lines::{next_head, next_line};
 use std::alloc::Global;
 
-/// The job that a text spells. Where the text has more bytes than a job's, what is said of them is
-/// said of each longer text too.
-pub fn parse_job(alloc: Global, text: &[u8]) -> Result<Job, JobRefusal>
+/// The job of a grammar that a text spells. Where the text has more bytes than a job's, what is
+/// said of them is said of each longer text too.
+pub fn parse_job(alloc: Global, grammar: Grammar, text: &[u8]) -> Result<Job, JobRefusal>
     ensures spelled { IfOk result
-        (λ j. IsJob j × (text.now ≡ job_text j) × (length text.now < READ_BYTES)) }
-    ensures refused { IfErr result (λ e. IsRefusal text.now e) }
+        (λ j. Takes grammar j × (text.now ≡ job_text j) × (length text.now < READ_BYTES)) }
+    ensures refused { IfErr result (λ e. IsRefusal grammar text.now e) }
 {
-    let (layout, mut rest) = match next_header(text) {
+    let (head, mut rest) = match next_head(grammar, text) {
         Ok(begun) => begun,
         Err(fault) => return Err(JobRefusal::Text { line: 1, fault }),
     };
-    let slots = layout.slots();
-    let mut lines = Sequence::new(alloc);
-    let mut puts = 0;
+    let mut draft = Draft::new(alloc, grammar, head);
     while !rest.is_empty() {
-        let place = lines.len() + 1;
-        let (line, after) = match next_deed(rest, place, puts < slots) {
+        let place = draft.count();
+        let (line, after) = match next_line(rest, place) {
             Ok(begun) => begun,
             Err(fault) => {
                 return Err(JobRefusal::Text {
@@ -35,18 +35,11 @@ pub fn parse_job(alloc: Global, text: &[u8]) -> Result<Job, JobRefusal>
                 });
             }
         };
-        if is_put(&line) {
-            puts += 1;
-        }
-        lines.push(line)?;
+        draft = match draft.with(line) {
+            Ok(longer) => longer,
+            Err(refusal) => return Err(refusal),
+        };
         rest = after;
     }
-    Ok(Job {
-        layout,
-        callers: 1,
-        attempts: 0,
-        mask: 0,
-        stops: Sequence::new(alloc),
-        lines,
-    })
+    Ok(draft.into_job())
 }

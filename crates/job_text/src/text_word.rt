@@ -107,8 +107,8 @@ fn is_bare(byte: u8) -> bool
     33 <= byte && byte <= 126 && byte != MARK
 }
 
-// The number below 16 of which this is the digit.
-fn digit(byte: u8) -> Option<u8>
+/// The number below 16 of which this is the digit.
+pub fn digit(byte: u8) -> Option<u8>
     ensures { MatchOption result ((n : ℕ) → n < 16 → byte ≢ hex_digit n)
         (λ n. (n < 16) × (byte ≡ hex_digit n)) }
 {

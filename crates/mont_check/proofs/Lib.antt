@@ -1,4 +1,12 @@
 pub mod Places
 pub mod Entries
-pub mod FaithfulParts
 pub mod Layouts
+pub mod Joined
+pub mod ShownLaws
+pub mod NamesLaws
+pub mod ProgressLaws
+pub mod WalkLaws
+pub mod MomentLaws
+pub mod FullLaws
+pub mod CountLaws
+pub mod AnswerLaws

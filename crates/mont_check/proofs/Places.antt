@@ -4,7 +4,15 @@ use Rattle.std.specs.Prelude.{◌↔◌, IsTrue, All, AllPairs, slice_get, Some}
 use Rattle.std.proofs.lemmas.Option.{slice_get_within, slice_get-get_or}
 use Rattle.std.proofs.lemmas.List.{get_or-map, get_or-take, length-map, take_more, take_more_same}
 use Rattle.std.proofs.lemmas.List.Quantifiers.{all_pairs_push}
-use Rattle.mont_check.specs.Places.{IfAt, IfBothAt}
+
+-- the fact holds of what a list has at a place, if it has something there
+abbrev pub IfAt : {A : Type 0} → (A → Type 0) → List A → ℕ → Type 0
+IfAt {A} P xs i = (x : A) → slice_get xs i ≡ Some x → P x
+
+-- the fact holds of what two lists have at a place, if both have something there
+abbrev pub IfBothAt : {A B : Type 0} → (A → B → Type 0) → List A → List B → ℕ → Type 0
+IfBothAt {A} {B} P xs ys i =
+    (x : A) (y : B) → slice_get xs i ≡ Some x → slice_get ys i ≡ Some y → P x y
 
 -- a fact that fails at one number doesn't hold of all
 pub fails_at : (P : ℕ → Type 0) (i : ℕ) (b : Bool) → b ≡ false → (IsTrue b ↔ P i) → IsTrue false ↔ ((u : ℕ) → P u)

@@ -1,2 +1,9 @@
-pub mod Places
-pub mod Faithful
+pub mod Bounds
+pub mod Shown
+pub mod Names
+pub mod Progress
+pub mod Walk
+pub mod Causes
+pub mod Moments
+pub mod LineAnswers
+pub mod Answered

@@ -1,29 +1,32 @@
-// Whether a report is faithful to its job, found out as the definition says it.
+// Whether a report is faithful to its job.
 ghost use Rattle.std.specs.Prelude.{◌≡◌, ◌↔◌, ℕ, IsTrue, IfOk, slice_get, Some};
-ghost use Rattle.job_text.specs.Report.{IsFaithful};
+ghost use Rattle.job_text.specs.Faithful.{IsFaithful, IsOfJob, HasClocks, IsWhole, HasFrame, LegalAt, CutAt};
 ghost use Rattle.plain.specs.States.{state_of, states_of};
 ghost use Rattle.job_text.specs.PlainReport.{report_of};
-ghost use Rattle.mont_check.specs.Faithful.{IsOfJob, HasClocks, IsWhole, HasFrame, LegalAt, CutAt};
 
 use crate::answered::are_answered;
 use crate::named::are_named_once;
+use crate::walk::copied;
 use job_text::{Job, Report};
-use mont_base::{Entry, Epoch, LAST, Layout, Sequence, Unit};
+use mont_base::{Entry, Epoch, Held, LAST, Layout, Sequence, Unit};
 use plain::{Contents, UnitState, cut_at, is_legal, same_state, state_after};
 use std::alloc::{AllocError, Global};
 
-/// Whether a report is faithful to a job that was run from these contents at this clock. Like the
-/// definition that it follows, it looks at each pair of a caller's outcomes, so it is for small
-/// reports.
+/// Whether a report is faithful to a job that was run on a store which was opened at this clock,
+/// with these contents and, unit by unit, these records. A fresh store has none. It takes n log n
+/// steps, where n is the lines and entries of the report, and one walk along a unit's history for
+/// each call that was refused as full or at the end of a number, or was left in the sync behind a
+/// refusal.
 pub fn is_faithful(
     alloc: Global,
     job: &Job,
     clock: Epoch,
     base: &Contents,
+    records: &[Sequence<Held>],
     report: &Report,
 ) -> Result<bool, AllocError>
     ensures { IfOk result (λ b. IsTrue b
-        ↔ IsFaithful job.now clock (states_of base.now) (report_of report.now)) }
+        ↔ IsFaithful job.now clock (states_of base.now) records.now (report_of report.now)) }
 {
     if !has_frame(job, clock, report) {
         return Ok(false);
@@ -31,13 +34,13 @@ pub fn is_faithful(
     if !same_contents(&report.base, base) {
         return Ok(false);
     }
-    if !are_named_once(report) {
+    if !are_named_once(alloc, report)? {
         return Ok(false);
     }
     if !are_legal(&job.layout, clock, base, &report.histories)? {
         return Ok(false);
     }
-    if !are_answered(alloc, job, report)? {
+    if !are_answered(alloc, job, records, report)? {
         return Ok(false);
     }
     are_cut(alloc, base, report)
@@ -171,12 +174,6 @@ fn holds_state(contents: &Contents, unit: Unit, state: &UnitState) -> bool
         Some(found) => same_state(found, state),
         None => false,
     }
-}
-
-fn copied(state: &UnitState) -> Result<UnitState, AllocError>
-    ensures { IfOk result (λ copy. state_of copy ≡ state_of state.now) }
-{
-    state.clone()
 }
 
 #[cfg(test)]

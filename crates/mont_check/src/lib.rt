@@ -2,10 +2,17 @@
 #![tactic(auto)]
 
 mod answered;
+mod cause;
 mod faithful;
+mod last_numbers;
+mod line_answers;
+mod moments;
 mod named;
+mod progress;
+mod shown;
+mod walk;
 
 pub use faithful::is_faithful;
 
 #[cfg(test)]
-mod samples;
+mod two_puts;

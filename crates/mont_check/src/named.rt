@@ -1,66 +1,76 @@
 // Whether each entry of a report is named by exactly one outcome.
-ghost use Rattle.std.specs.Prelude.{◌≡◌, ◌↔◌, ℕ, IsTrue, count_by};
-ghost use Rattle.job_text.specs.Report.{names_entry};
+ghost use Rattle.std.specs.Prelude.{◌≡◌, ◌↔◌, ℕ, [], ◌∷◌, All, IsTrue, IfOk};
+ghost use Rattle.job_text.specs.Faithful.{AllNamedAt};
 ghost use Rattle.job_text.specs.PlainReport.{report_of};
-ghost use Rattle.mont_check.specs.Faithful.{AllNamedAt, NamedOnce};
+ghost use Rattle.mont_check.specs.Names.{CountsNames, TellsNames};
 
+use crate::shown::place_of;
 use job_text::{Outcome, Report};
 use mont_base::{Sequence, Unit};
+use std::alloc::{AllocError, Global};
 
 /// Whether the outcomes name every entry, and none of them twice.
-pub fn are_named_once(report: &Report) -> bool
-    ensures { IsTrue result ↔ ((unit : ℕ) → AllNamedAt (report_of report.now) unit) }
+pub fn are_named_once(alloc: Global, report: &Report) -> Result<bool, AllocError>
+    ensures { IfOk result (λ b. IsTrue b
+        ↔ ((unit : ℕ) → AllNamedAt (report_of report.now) unit)) }
 {
     for unit in 0..report.histories.len() {
-        if !are_named_at(report, unit) {
-            return false;
+        if !are_named_at(alloc, report, unit)? {
+            return Ok(false);
         }
     }
-    true
+    Ok(true)
 }
 
-fn are_named_at(report: &Report, unit: Unit) -> bool
-    ensures { IsTrue result ↔ AllNamedAt (report_of report.now) unit }
+fn are_named_at(alloc: Global, report: &Report, unit: Unit) -> Result<bool, AllocError>
+    ensures { IfOk result (λ b. IsTrue b ↔ AllNamedAt (report_of report.now) unit) }
 {
     let Some(history) = report.histories.get(unit) else {
-        return true;
+        return Ok(true);
     };
-    for place in 0..history.len() {
-        if !is_named_once(&report.outcomes, unit, place) {
-            return false;
-        }
+    let times = names_of(alloc, report.outcomes.as_slice(), unit, history.len())?;
+    Ok(are_one(times.as_slice()))
+}
+
+fn are_one(numbers: &[u64]) -> bool
+    ensures { IsTrue result ↔ All (λ n. n ≡ 1) numbers.now }
+{
+    numbers.iter().all(|number| *number == 1)
+}
+
+// How often each of so many places of a unit is named.
+fn names_of(
+    alloc: Global,
+    outcomes: &[Sequence<Outcome>],
+    unit: Unit,
+    places: u64,
+) -> Result<Vec<u64>, AllocError>
+    ensures { IfOk result (λ v. TellsNames outcomes.now unit places v.items) }
+{
+    let mut times = vec![in alloc; 0; places as usize]?;
+    for of_caller in outcomes {
+        count_names(&mut times, unit, of_caller.as_slice());
     }
-    true
+    Ok(times)
 }
 
-fn is_named_once(outcomes: &Sequence<Sequence<Outcome>>, unit: Unit, place: u64) -> bool
-    ensures { IsTrue result ↔ NamedOnce outcomes.now unit place }
+// Counts the places that outcomes name.
+fn count_names(times: &mut Vec<u64>, unit: Unit, outcomes: &[Outcome])
+    ensures { CountsNames unit outcomes.now times.old.items times.new.items }
 {
-    let mut times = 0u64;
-    for of_caller in outcomes.as_slice() {
-        times = times.saturating_add(times_named(of_caller.as_slice(), unit, place));
+    for outcome in outcomes {
+        count_name(times, unit, outcome);
     }
-    times == 1
 }
 
-// How many of the outcomes name the place.
-fn times_named(outcomes: &[Outcome], unit: Unit, place: u64) -> u64
-    ensures { result ≡ count_by (names_entry unit place) outcomes.now }
+fn count_name(times: &mut Vec<u64>, unit: Unit, outcome: &Outcome)
+    ensures { CountsNames unit (outcome.now ∷ []) times.old.items times.new.items }
 {
-    outcomes
-        .iter()
-        .filter(|outcome| names_entry(outcome, unit, place))
-        .count() as u64
-}
-
-fn names_entry(outcome: &Outcome, unit: Unit, place: u64) -> bool
-    ensures { result ≡ names_entry unit place outcome.now }
-{
-    match outcome {
-        Outcome::At {
-            unit: named,
-            place: at,
-        } => *named == unit && *at == place,
-        Outcome::Ticked { .. } => false,
+    let Some((named, place)) = place_of(outcome) else {
+        return;
+    };
+    let place = place as usize;
+    if named == unit && place < times.len() {
+        times[place] = times[place].saturating_add(1);
     }
 }

@@ -13,7 +13,7 @@ use Rattle.mont_base.specs.State.{State, MapOf, Key, Value, step}
 use Rattle.mont_base.specs.Texts.{IsText}
 use Rattle.mont_base.specs.History.{state_after, cut_at}
 use Rattle.mont_laws.specs.Records.{cut_records}
-use Rattle.job_text.specs.JobText.{IsJobOp}
+use Rattle.job_text.specs.Grammar.{IsFirstOp}
 use Rattle.montage_tool.specs.Log.{value_of, latest, identities, next_record, with_op, records_behind, records_left}
 use Rattle.montage_tool.specs.Machine.{map_after}
 use Rattle.montage_tool.proofs.Keys.{key_of-next, value_of-next}
@@ -21,7 +21,7 @@ use Rattle.montage_tool.proofs.Latest.{epoch_of_next}
 use Rattle.montage_tool.proofs.Live.{set_all, set_all-push}
 
 -- an operation that a job asks for is a put or a get
-pub job_op : (P : Op → Type 0) (op : Op) → IsJobOp op
+pub job_op : (P : Op → Type 0) (op : Op) → IsFirstOp op
     → ((key : Key) (value : Value) → IsText key × IsText value → P (ops.Put key value))
     → ((key : Key) → IsText key → P (ops.Get key)) → P op
 job_op P (ops.Put key value) is put get = put key value is
@@ -59,19 +59,19 @@ put_next ps rs epoch key value texts =
 abbrev state_of : List Held → State
 state_of rs = MapOf (set_all finite.empty rs)
 
-op_state : (rs : List Held) (epoch : ℕ) (op : Op) → IsJobOp op → (step (state_of rs) op).state ≡ state_of (with_op rs epoch op)
+op_state : (rs : List Held) (epoch : ℕ) (op : Op) → IsFirstOp op → (step (state_of rs) op).state ≡ state_of (with_op rs epoch op)
 op_state rs epoch op is =
     job_op (λ (o : Op). (step (state_of rs) o).state ≡ state_of (with_op rs epoch o)) op is
     (λ key value texts. ap MapOf (sym (put_next rs rs epoch key value texts)))
     (λ key text. refl)
 
-after_behind : (rs : List Held) (h : List Entry) → AllByRecursion (λ (e : Entry). IsJobOp e.op) h
+after_behind : (rs : List Held) (h : List Entry) → AllByRecursion (λ (e : Entry). IsFirstOp e.op) h
     → state_after (state_of rs) h ≡ state_of (records_behind rs h)
 after_behind rs [] asked = refl
 after_behind rs (e ∷ h) asked =
     ap (λ (s : State). state_after s h) (op_state rs e.epoch e.op asked.0) ∙ after_behind (with_op rs e.epoch e.op) h asked.1
 
-pub state_of_left : (h : List Entry) → AllByRecursion (λ (e : Entry). IsJobOp e.op) h
+pub state_of_left : (h : List Entry) → AllByRecursion (λ (e : Entry). IsFirstOp e.op) h
     → map_after h ≡ MapOf (set_all finite.empty (records_left h))
 state_of_left h asked = after_behind [] h asked
 
@@ -79,7 +79,7 @@ state_of_left h asked = after_behind [] h asked
 abbrev cut_state : ℕ → List Held → State
 cut_state x rs = state_of (cut_records x rs)
 
-cut_op : (x : ℕ) (rs : List Held) (epoch : ℕ) (op : Op) → IsJobOp op
+cut_op : (x : ℕ) (rs : List Held) (epoch : ℕ) (op : Op) → IsFirstOp op
     → (if nat_le epoch x then (step (cut_state x rs) op).state else cut_state x rs) ≡ cut_state x (with_op rs epoch op)
 cut_op x rs epoch op is =
     job_op (λ (o : Op). (if nat_le epoch x then (step (cut_state x rs) o).state else cut_state x rs) ≡ cut_state x (with_op rs epoch o))
@@ -109,7 +109,7 @@ cut_op x rs epoch op is =
         by_test true = ap MapOf (sym (put_next (cut_records x rs) rs epoch key value texts))
         by_test false = refl
 
-cut_behind : (x : ℕ) (rs : List Held) (h : List Entry) → AllByRecursion (λ (e : Entry). IsJobOp e.op) h
+cut_behind : (x : ℕ) (rs : List Held) (h : List Entry) → AllByRecursion (λ (e : Entry). IsFirstOp e.op) h
     → state_after (cut_state x rs) (cut_at x h) ≡ cut_state x (records_behind rs h)
 cut_behind x rs [] asked = refl
 cut_behind x rs (e ∷ h) asked =
@@ -122,7 +122,7 @@ cut_behind x rs (e ∷ h) asked =
     inside true = refl
     inside false = refl
 
-pub state_of_cut : (x : ℕ) (h : List Entry) → AllByRecursion (λ (e : Entry). IsJobOp e.op) h
+pub state_of_cut : (x : ℕ) (h : List Entry) → AllByRecursion (λ (e : Entry). IsFirstOp e.op) h
     → state_after (MapOf finite.empty) (cut_at x h) ≡ MapOf (set_all finite.empty (cut_records x (records_left h)))
 state_of_cut x h asked = cut_behind x [] h asked
 

@@ -1,5 +1,5 @@
 -- The report of a run is faithful, and each image that a crash permits gives its contents.
-use Rattle.std.proofs.Common.{◌≡◌, ℕ, zero, suc, ◌+◌, ◌-◌, ◌≤◌, List, [], ◌∷◌, length, take, replicate, sym, refl, ap, ◌∙◌, subst, arith, Bool, true}
+use Rattle.std.proofs.Common.{◌≡◌, ℕ, zero, suc, ◌+◌, ◌-◌, ◌≤◌, List, [], ◌∷◌, length, take, drop, replicate, sym, refl, ap, ◌∙◌, subst, arith, Bool, true}
 use Rattle.std.specs.Prelude.{Some, slice_get, All, filter, ◌==◌, count_by, if◌then◌else◌}
 use Rattle.std.proofs.lemmas.Bool.Decides.{nat_tests}
 use Rattle.std.proofs.lemmas.Option.{same_Some, slice_get_within}
@@ -16,15 +16,18 @@ use Rattle.job_text.specs.declared.job.Deed.{Deed}
 use Rattle.job_text.specs.declared.job.Deed.TheVariants.{Call, Tick}
 use Rattle.job_text.specs.declared.outcome.Outcome.{Outcome}
 use Rattle.job_text.specs.declared.outcome.Outcome.TheVariants.{At, Ticked}
-use Rattle.job_text.specs.JobText.{IsJob, IsLine}
-use Rattle.job_text.specs.Report.{Report, Answers, AnswersLines, IsFaithful, lines_of, names_entry, times_named}
+use Rattle.job_text.specs.Grammar.{IsFirstJob, IsFirstLine}
+use Rattle.job_text.specs.Report.{Report, lines_of}
+use Rattle.job_text.specs.Outcomes.{names_entry, times_named}
+use Rattle.job_text.specs.AnsweredLines.{Answers, AnswersLines}
+use Rattle.job_text.specs.Faithful.{HasStop, IsFaithful}
 use Rattle.montage_tool.specs.Log.{current_words, durable_words}
 use Rattle.plain.specs.States.{states_of}
 use Rattle.montage_tool.specs.declared.machine.Machine.{Machine}
 use Rattle.montage_tool.specs.declared.stopped.Stopped.{Stopped}
 use Rattle.montage_tool.specs.Machine.{IsReady}
 use Rattle.montage_tool.specs.Stopped.{cut_states, KeepsEpochCut, IsCutByEpochs, HaveClock, Leaves}
-use Rattle.montage_tool.specs.Run.{so_far, Played, IsRun, current_left, durable_left}
+use Rattle.montage_tool.specs.Run.{AnswersSoFar, Played, IsRun, current_left, durable_left}
 use Rattle.montage_tool.proofs.Played.{entry_of}
 use Rattle.montage_tool.proofs.Stops.{left_permitted}
 
@@ -42,7 +45,7 @@ report_with j base_clock base histories outcomes clock contents = record {
 }
 
 -- all lines are of the one caller
-all_lines : (lines : List Line) → All IsLine lines → filter (λ (l : Line). l.caller == 0) lines ≡ lines
+all_lines : (lines : List Line) → All IsFirstLine lines → filter (λ (l : Line). l.caller == 0) lines ≡ lines
 all_lines [] all = refl
 all_lines (l ∷ lines) all =
     let first = all 0 l (omega arith) in
@@ -70,7 +73,8 @@ length-cut_states x (b ∷ base) [] long = absurd (omega arith)
 length-cut_states x (b ∷ base) (g ∷ histories) long = ap suc (length-cut_states x base histories (omega arith))
 
 -- ---- the report, where its parts are told by the job, the history of the map and the clock
-module _ (j : Job) (h : List Entry) (clock : ℕ) (os : List Outcome) (is_job : IsJob j) (played : Played j.layout h clock j.lines os) where
+module _ (j : Job) (h : List Entry) (clock : ℕ) (os : List Outcome) (is_job : IsFirstJob j)
+    (played : Played j.layout h clock j.lines os) where
   abbrev pub histories : List (List Entry)
   histories = h ∷ replicate (units_of j.layout - 1) []
 
@@ -80,26 +84,27 @@ module _ (j : Job) (h : List Entry) (clock : ℕ) (os : List Outcome) (is_job : 
 
     -- what an outcome answers is told by layout, histories and clocks alone
     answer_in :
-        (before : List Outcome) (deed : Deed) (o : Outcome) → Answers (so_far j.layout h clock) 0 before deed o
-        → Answers report 0 before deed o
-    answer_in before (Call op) (At unit place) a =
+        (before after : List Outcome) (deed : Deed) (o : Outcome) → AnswersSoFar j.layout h clock before deed o
+        → Answers report (HasStop j 0) [] 0 before after deed o
+    answer_in before after (Call op) (At unit place) a =
         record { of_unit = a.of_unit; entry = a.entry; there = a.there; by = a.by; number = a.number; asked = a.asked }
-    answer_in before (Call op) (Ticked epoch) a = absurd a
-    answer_in before Tick (At unit place) a = absurd a
-    answer_in before Tick (Ticked epoch) a = a
+    answer_in before after Tick (Ticked epoch) a = a
+    answer_in before after deed _ a = absurd a
 
-    answers_in : AnswersLines report 0 j.lines os
+    answers_in : AnswersLines report (HasStop j 0) [] 0 j.lines os
     answers_in = record {
-      one_each = played.answers.one_each;
-      each = λ i l o line_at out_at. answer_in (take i os) l.deed o (played.answers.each i l o line_at out_at);
-      order = λ i k d low high. let t = played.answers.order i k d low high in
-          record { epochs = t.epochs; places = t.places; ticks = t.ticks };
+      few = let long = played.one_each in omega arith;
+      all = λ fewer. absurd (let long = played.one_each in omega arith);
+      each = λ i l o line_at out_at. answer_in (take i os) (drop (i + 1) os) l.deed o (played.each i l o line_at out_at);
+      order = played.order;
     }
 
-    answers : (caller : ℕ) (qs : List Outcome) → slice_get (os ∷ []) caller ≡ Some qs → AnswersLines report caller (lines_of j caller) qs
+    answers :
+        (caller : ℕ) (qs : List Outcome) → slice_get (os ∷ []) caller ≡ Some qs
+        → AnswersLines report (HasStop j caller) [] caller (lines_of j caller) qs
     answers zero qs at =
-        subst (AnswersLines report 0 (lines_of j 0)) (same_Some os qs at)
-        (subst (λ (ls : List Line). AnswersLines report 0 ls os) (sym (all_lines j.lines is_job.lines)) answers_in)
+        subst (AnswersLines report (HasStop j 0) [] 0 (lines_of j 0)) (same_Some os qs at)
+        (subst (λ (ls : List Line). AnswersLines report (HasStop j 0) [] 0 ls os) (sym (all_lines j.lines is_job.lines)) answers_in)
     answers (suc caller) qs at = absurd (cc)
 
     once : (unit place : ℕ) (e : Entry) → IsEntryAt histories unit place e → times_named (os ∷ []) unit place ≡ 1
@@ -112,22 +117,23 @@ module _ (j : Job) (h : List Entry) (clock : ℕ) (os : List Outcome) (is_job : 
     module _ (begun : FIRST_CLOCK ≤ clock) (last : clock ≤ LAST) (cur dur : List ℕ)
         (cut : KeepsEpochCut j.layout cur dur FIRST_CLOCK (empty_states j.layout) histories)
         (is : contents ≡ cut_states (clock - 2) (empty_states j.layout) histories) where
-      pub faithful : IsFaithful j FIRST_CLOCK (empty_states j.layout) report
+      pub faithful : IsFaithful j FIRST_CLOCK (empty_states j.layout) [] report
       faithful = record {
-        layout = refl;
-        callers = refl;
-        base_clock = refl;
+        frame = record {
+          job = record { layout = refl; callers = refl };
+          clocks = record { base_clock = refl; begun = begun; last = last };
+          whole = record {
+            histories = cut.units;
+            outcomes = sym is_job.one_caller;
+            contents = ap length is
+                ∙ length-cut_states (clock - 2) (empty_states j.layout) histories (cut.based ∙ sym cut.units)
+                ∙ cut.units;
+          };
+        };
         base_states = refl;
-        begun = begun;
-        last = last;
-        histories = cut.units;
         legal = cut.legal;
-        outcomes = sym is_job.one_caller;
         answers = answers;
         named_once = once;
-        contents = ap length is
-            ∙ length-cut_states (clock - 2) (empty_states j.layout) histories (cut.based ∙ sym cut.units)
-            ∙ cut.units;
         cut = λ unit state g at there.
             ap (λ (states : List State). slice_get states unit) is
             ∙ cut_at_unit (clock - 2) (empty_states j.layout) histories unit state g at there;
@@ -164,7 +170,7 @@ module _ (j : Job) (h : List Entry) (clock : ℕ) (os : List Outcome) (is_job : 
         }
 
 -- ---- the same for the report as it is put together
-run_as : (j : Job) (h : List Entry) (clock : ℕ) (os : List Outcome) → IsJob j → Played j.layout h clock j.lines os
+run_as : (j : Job) (h : List Entry) (clock : ℕ) (os : List Outcome) → IsFirstJob j → Played j.layout h clock j.lines os
     → FIRST_CLOCK ≤ clock → clock ≤ LAST
     → (cur dur : List ℕ) (base_clock : ℕ) (base : List State) (hs : List (List Entry)) (qs : List (List Outcome)) (contents : List State)
     → base_clock ≡ FIRST_CLOCK
@@ -193,7 +199,7 @@ run_as j h clock os is_job played begun last cur dur base_clock base hs qs conte
     ∙ ap (λ (os : List (List Outcome)). report_with j FIRST_CLOCK (empty_states j.layout) all os clock contents) answered
     )) (is_run j h clock os is_job played contents begun last cur dur own is current durable permitted clocks)
 
-module _ (j : Job) (m : Machine) (t : Stopped) (is_job : IsJob j) (ready : IsReady m) (layout : m.layout ≡ j.layout)
+module _ (j : Job) (m : Machine) (t : Stopped) (is_job : IsFirstJob j) (ready : IsReady m) (layout : m.layout ≡ j.layout)
     (left : Leaves m t) (cut : IsCutByEpochs t) where
   same_layout : t.words.layout ≡ j.layout
   same_layout = left.layout ∙ layout

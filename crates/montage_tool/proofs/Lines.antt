@@ -14,7 +14,7 @@ use Rattle.job_text.specs.declared.job.Deed.{Deed}
 use Rattle.job_text.specs.declared.job.Deed.TheVariants.{Call, Tick}
 use Rattle.job_text.specs.declared.outcome.Outcome.{Outcome}
 use Rattle.job_text.specs.declared.outcome.Outcome.TheVariants.{At, Ticked}
-use Rattle.job_text.specs.JobText.{IsJobOp, is_put}
+use Rattle.job_text.specs.Grammar.{IsFirstOp, is_put}
 use Rattle.montage_tool.specs.declared.machine.Machine.{Machine}
 use Rattle.montage_tool.specs.Machine.{IsReady, Calls, Ticks, map_after, next_receipt}
 use Rattle.montage_tool.specs.Run.{Played, LineDone}
@@ -31,7 +31,8 @@ played_as s s' h h' clock clock' lines os a b c p =
 put_of : (l : Line) (deed : Deed) → l.deed ≡ deed → is_put (record { caller = l.caller; deed = deed }) ≡ is_put l
 put_of l deed is = ap (λ (d : Deed). is_put (record { caller = l.caller; deed = d })) (sym is)
 
-pub line_call : (m n : Machine) (l : Line) (op : Op) (receipt : Receipt) → IsReady m → IsJobOp op → Calls m n op receipt → l.deed ≡ Call op
+pub line_call : (m n : Machine) (l : Line) (op : Op) (receipt : Receipt) → IsReady m → IsFirstOp op → Calls m n op receipt
+    → l.deed ≡ Call op
     → LineDone m n l (At receipt.unit receipt.place)
 line_call m n l op receipt ready asked called deed =
     let told : Receipt = next_receipt m op (step (map_after m.history.items) op).reply in
@@ -56,7 +57,7 @@ line_call m n l op receipt ready asked called deed =
 
 -- the same, by the answer of the call
 pub line_called : (m n : Machine) (l : Line) (op : Op) (answer : Result Receipt AllocError) (result : Result Outcome AllocError)
-    → IsReady m → IsJobOp op → l.deed ≡ Call op → IfOk answer (Calls m n op)
+    → IsReady m → IsFirstOp op → l.deed ≡ Call op → IfOk answer (Calls m n op)
     → MatchResult answer (λ r. result ≡ Ok (At r.unit r.place)) (λ e. result ≡ Err e)
     → IfOk result (LineDone m n l)
 line_called m n l op (Ok receipt) result ready asked deed called is =

@@ -20,8 +20,8 @@ use Rattle.job_text.specs.declared.job.Deed.{Deed}
 use Rattle.job_text.specs.declared.job.Deed.TheVariants.{Call, Tick}
 use Rattle.job_text.specs.declared.outcome.Outcome.{Outcome}
 use Rattle.job_text.specs.declared.outcome.Outcome.TheVariants.{At, Ticked}
-use Rattle.job_text.specs.Report.{Answers, InOrder, ShowsEpoch, place_of, tick_of, is_at, names_entry}
-use Rattle.montage_tool.specs.Run.{so_far, IsReached, Played}
+use Rattle.job_text.specs.Outcomes.{HasEpoch, InOrder, clock_of, is_at, is_cut, names_entry, place_of}
+use Rattle.montage_tool.specs.Run.{so_far, AnswersSoFar, IsReached, Played}
 
 -- ---- lists
 module _ {A : Type 0} where
@@ -83,6 +83,17 @@ pub past_at :
 past_at clock h place e past at =
     subst (λ (d : Entry). d.epoch ≤ clock) (get_or-slice_get h place e at) (past place e (slice_get_within h place e at))
 
+-- ---- what no outcome so far is
+uncut_so_far : (h : List Entry) (clock : ℕ) (o : Outcome) → IsReached h clock o → is_cut o ≡ false
+uncut_so_far h clock (At unit place) r = refl
+uncut_so_far h clock (Ticked epoch) r = refl
+uncut_so_far h clock _ r = absurd r
+
+clock_low : (h : List Entry) (clock : ℕ) (o : Outcome) (d : ℕ) → IsReached h clock o → clock_of o ≡ Some d → d ≤ clock
+clock_low h clock (At unit place) d r is = absurd cc
+clock_low h clock (Ticked epoch) d r is = let same : epoch ≡ d = same_Some epoch d is in omega arith
+clock_low h clock _ d r is = absurd r
+
 -- ---- a history that grew, and a clock that may have moved
 module _
     (s : Shape) (h g : List Entry) (clock later : ℕ) (longer : length h ≤ length g)
@@ -93,10 +104,11 @@ module _
   reached_on : (o : Outcome) → IsReached h clock o → IsReached g later o
   reached_on (At u n) r = let low = r.1 in (r.0, omega arith)
   reached_on (Ticked e) r = omega arith
+  reached_on _ r = absurd r
 
   answer_on :
-      (before : List Outcome) (deed : Deed) (o : Outcome) → Answers (so_far s h clock) 0 before deed o
-      → Answers (so_far s g later) 0 before deed o
+      (before : List Outcome) (deed : Deed) (o : Outcome) → AnswersSoFar s h clock before deed o
+      → AnswersSoFar s g later before deed o
   answer_on before (Call op) (At unit place) a =
       let at = entry_of h (units_of s - 1) unit place a.entry a.there in
       record {
@@ -108,71 +120,75 @@ module _
         number = a.number;
         asked = a.asked;
       }
-  answer_on before (Call op) (Ticked epoch) a = absurd a
-  answer_on before Tick (At unit place) a = absurd a
   answer_on before Tick (Ticked epoch) a = (a.0, let past = a.1 in omega arith)
+  answer_on before deed _ a = absurd a
 
   -- what an outcome shows, it showed before
-  shown_back : (o : Outcome) (epoch : ℕ) → IsReached h clock o → ShowsEpoch (g ∷ replicate (units_of s - 1) []) o epoch
-      → ShowsEpoch (h ∷ replicate (units_of s - 1) []) o epoch
+  shown_back : (o : Outcome) (epoch : ℕ) → IsReached h clock o → HasEpoch (g ∷ replicate (units_of s - 1) []) o epoch
+      → HasEpoch (h ∷ replicate (units_of s - 1) []) o epoch
   shown_back (At unit place) epoch r shown =
       let at = entry_of g (units_of s - 1) unit place shown.0 shown.1 in
       (shown.0, entry_here h (units_of s - 1) unit place shown.0 at.0 (sym (same place r.1) ∙ at.1), shown.2)
-  shown_back (Ticked now) epoch r shown = shown
+  shown_back _ epoch r shown = absurd shown
 
   -- and it isn't above the clock
   pub shown_low : All (λ (d : Entry). d.epoch ≤ clock) h → (o : Outcome) (epoch : ℕ) → IsReached h clock o
-      → ShowsEpoch (g ∷ replicate (units_of s - 1) []) o epoch → epoch ≤ clock
+      → HasEpoch (g ∷ replicate (units_of s - 1) []) o epoch → epoch ≤ clock
   shown_low past (At unit place) epoch r shown =
       let back = shown_back (At unit place) epoch r shown in
       let at = entry_of h (units_of s - 1) unit place back.0 back.1 in
       let low = past_at clock h place back.0 past at.1 in
       let is = back.2 in
       omega arith
-  shown_low past (Ticked now) epoch r shown = omega arith
+  shown_low past _ epoch r shown = absurd shown
 
-  order_on : (o p : Outcome) → IsReached h clock o → IsReached h clock p → InOrder (so_far s h clock) o p → InOrder (so_far s g later) o p
+  order_on :
+      (o p : Outcome) → IsReached h clock o → IsReached h clock p → InOrder (so_far s h clock).histories o p
+      → InOrder (so_far s g later).histories o p
   order_on o p r q t = record {
+    uncut = t.uncut;
     epochs = λ d e first second. t.epochs d e (shown_back o d r first) (shown_back p e q second);
     places = t.places;
+    learnt = λ d e first second. t.learnt d e first (shown_back p e q second);
     ticks = t.ticks;
+    reached = λ d e first second. t.reached d e (shown_back o d r first) second;
+    clocks = t.clocks;
+    settled = λ d e first second. t.settled d e (shown_back o d r first) second;
   }
 
   -- one more line, with its outcome
   module _ (lines : List Line) (os : List Outcome) (l : Line) (new : Outcome) (p : Played s h clock lines os) where
-    answers_push : Answers (so_far s g later) 0 os l.deed new → (i : ℕ) (k : Line) (o : Outcome)
+    answers_push : AnswersSoFar s g later os l.deed new → (i : ℕ) (k : Line) (o : Outcome)
         → slice_get (lines ++ l ∷ []) i ≡ Some k → slice_get (os ++ new ∷ []) i ≡ Some o
-        → Answers (so_far s g later) 0 (take i (os ++ new ∷ [])) k.deed o
+        → AnswersSoFar s g later (take i (os ++ new ∷ [])) k.deed o
     answers_push answer i k o line_at out_at =
         ⊎_elim
         (λ (t : (i < length os) × (slice_get os i ≡ Some o)).
         let low = t.0 in
-        let long = p.answers.one_each in
-        subst (λ (before : List Outcome). Answers (so_far s g later) 0 before k.deed o) (sym (take-append-le i os (new ∷ []) (omega arith)))
-        (answer_on (take i os) k.deed o (p.answers.each i k o (sym (get_left lines (l ∷ []) i (omega arith)) ∙ line_at) t.1)))
+        let long = p.one_each in
+        subst (λ (before : List Outcome). AnswersSoFar s g later before k.deed o) (sym (take-append-le i os (new ∷ []) (omega arith)))
+        (answer_on (take i os) k.deed o (p.each i k o (sym (get_left lines (l ∷ []) i (omega arith)) ∙ line_at) t.1)))
         (λ (t : (i ≡ length os) × (new ≡ o)).
-        let place : i ≡ length lines = t.0 ∙ p.answers.one_each in
+        let place : i ≡ length lines = t.0 ∙ p.one_each in
         let is : l ≡ k = same_Some l k (sym (get_last lines l) ∙ subst (λ (n : ℕ). slice_get (lines ++ l ∷ []) n ≡ Some k) place line_at) in
         let before : take i (os ++ new ∷ []) ≡ os = ap (λ (n : ℕ). take n (os ++ new ∷ [])) t.0 ∙ take-append_seam os (new ∷ []) in
-        subst (λ (b : List Outcome). Answers (so_far s g later) 0 b k.deed o) (sym before)
-        (subst (λ (q : Outcome). Answers (so_far s g later) 0 os k.deed q) t.1
-        (subst (λ (m : Line). Answers (so_far s g later) 0 os m.deed new) is answer)))
+        subst (λ (b : List Outcome). AnswersSoFar s g later b k.deed o) (sym before)
+        (subst (λ (q : Outcome). AnswersSoFar s g later os k.deed q) t.1
+        (subst (λ (m : Line). AnswersSoFar s g later os m.deed new) is answer)))
         (push_cases os new o i out_at)
 
-    pub played_next : Answers (so_far s g later) 0 os l.deed new → IsReached g later new
-        → ((o : Outcome) → IsReached h clock o → InOrder (so_far s g later) o new)
+    pub played_next : AnswersSoFar s g later os l.deed new → IsReached g later new
+        → ((o : Outcome) → IsReached h clock o → InOrder (so_far s g later).histories o new)
         → length h + (if is_at new then 1 else 0) ≡ length g
         → ((place : ℕ) → place < length g → count_by (names_entry 0 place) (os ++ new ∷ []) ≡ 1)
         → Played s g later (lines ++ l ∷ []) (os ++ new ∷ [])
     played_next answer reach last_order longer_by once = record {
-      answers = record {
-        one_each = let e = p.answers.one_each in omega (arith, length-append os (new ∷ []), length-append lines (l ∷ []));
-        each = answers_push answer;
-        order = all_pairs_push (InOrder (so_far s g later)) os new
-            (λ i j d low high. order_on (get_or os i d) (get_or os j d) (p.reached i d (omega arith)) (p.reached j d high)
-            (p.answers.order i j d low high))
-            (λ k d low. last_order (get_or os k d) (p.reached k d low));
-      };
+      one_each = let e = p.one_each in omega (arith, length-append os (new ∷ []), length-append lines (l ∷ []));
+      each = answers_push answer;
+      order = all_pairs_push (InOrder (so_far s g later).histories) os new
+          (λ i j d low high. order_on (get_or os i d) (get_or os j d) (p.reached i d (omega arith)) (p.reached j d high)
+          (p.order i j d low high))
+          (λ k d low. last_order (get_or os k d) (p.reached k d low));
       reached = All-push (IsReached g later) os new (λ k d low. reached_on (get_or os k d) (p.reached k d low)) reach;
       calls = count_push is_at os new ∙ ap (λ (n : ℕ). n + (if is_at new then 1 else 0)) p.calls ∙ longer_by;
       once = once;
@@ -194,6 +210,7 @@ unnamed h clock (o ∷ os) all =
         let both : ((u == 0) && (n == length h)) ≡ false = and_right (u == 0) (n == length h) other in
         ap (λ (b : Bool). (if b then 1 else 0) + count_by (names_entry 0 (length h)) os) both ∙ omega arith
     by_kind (Ticked e) r rest = omega arith
+    by_kind _ r rest = absurd r
 
 pub played_call : (s : Shape) (h : List Entry) (clock : ℕ) (lines : List Line) (os : List Outcome) (l : Line) (op : Op) (x : Entry)
     → Played s h clock lines os → l.deed ≡ Call op → x.op ≡ op → unit_of_op s op ≡ Some 0 → x.caller ≡ 0 → x.call ≡ length h
@@ -202,7 +219,7 @@ pub played_call : (s : Shape) (h : List Entry) (clock : ℕ) (lines : List Line)
     → Played s (h ++ x ∷ []) clock (lines ++ l ∷ []) (os ++ At 0 (length h) ∷ [])
 played_call s h clock lines os l op x p deed asked of_unit by number epoch past =
     played_next s h g clock clock longer (get_left h (x ∷ [])) (omega arith) lines os l new p
-    (subst (λ (d : Deed). Answers (so_far s g clock) 0 os d new) (sym deed) (record {
+    (subst (λ (d : Deed). AnswersSoFar s g clock os d new) (sym deed) (record {
       of_unit = of_unit;
       entry = x;
       there = (g, refl, get_last h x);
@@ -243,19 +260,24 @@ played_call s h clock lines os l op x p deed asked of_unit by number epoch past 
         ∙ ap (λ (b : Bool). count_by (names_entry 0 (length h)) os + (if b then 1 else 0)) own
         ∙ (let none = unnamed h clock os p.reached in omega arith)
 
-    new_epoch : (e : ℕ) → ShowsEpoch (g ∷ replicate (units_of s - 1) []) new e → e ≡ clock
+    new_epoch : (e : ℕ) → HasEpoch (g ∷ replicate (units_of s - 1) []) new e → e ≡ clock
     new_epoch e shown =
         let at = entry_of g (units_of s - 1) 0 (length h) shown.0 shown.1 in
         sym shown.2 ∙ sym (ap (λ (d : Entry). d.epoch) (same_Some x shown.0 (sym (get_last h x) ∙ at.1))) ∙ epoch
 
-    last_order : (o : Outcome) → IsReached h clock o → InOrder (so_far s g clock) o new
+    last_order : (o : Outcome) → IsReached h clock o → InOrder (so_far s g clock).histories o new
     last_order o reach = record {
+      uncut = uncut_so_far h clock o reach;
       epochs = λ d e first second.
           let low = shown_low s h g clock clock longer (get_left h (x ∷ [])) (omega arith) past o d reach first in
           let high = new_epoch e second in
           omega arith;
       places = λ unit m n first second. place_below o reach unit m n first second;
+      learnt = λ d e first second. let low = clock_low h clock o d reach first in let high = new_epoch e second in omega arith;
       ticks = λ d e first second. absurd (cc);
+      reached = λ d e first second. absurd (cc);
+      clocks = λ d e first second. absurd (cc);
+      settled = λ d e first second. absurd (cc);
     }
       where
         place_below : (q : Outcome) → IsReached h clock q → (unit m n : ℕ) → place_of q ≡ Some (unit, m)
@@ -266,6 +288,7 @@ played_call s h clock lines os l op x p deed asked of_unit by number epoch past 
             let there : length h ≡ n = ap (λ (t : ℕ × ℕ). t.1) (same_Some (0, length h) (unit, n) second) in
             omega arith
         place_below (Ticked epoch) r unit m n first second = absurd (cc)
+        place_below _ r unit m n first second = absurd r
 
 -- ---- one more tick
 pub played_tick : (s : Shape) (h : List Entry) (clock : ℕ) (lines : List Line) (os : List Outcome) (l : Line)
@@ -273,7 +296,7 @@ pub played_tick : (s : Shape) (h : List Entry) (clock : ℕ) (lines : List Line)
     → Played s h (clock + 1) (lines ++ l ∷ []) (os ++ Ticked (clock + 1) ∷ [])
 played_tick s h clock lines os l p deed begun past =
     played_next s h h clock (clock + 1) (omega arith) (λ n low. refl) (omega arith) lines os l new p
-    (subst (λ (d : Deed). Answers (so_far s h (clock + 1)) 0 os d new) (sym deed) (omega arith, omega arith))
+    (subst (λ (d : Deed). AnswersSoFar s h (clock + 1) os d new) (sym deed) (omega arith, omega arith))
     (omega arith)
     last_order
     (omega arith)
@@ -282,30 +305,30 @@ played_tick s h clock lines os l p deed begun past =
     new : Outcome
     new = Ticked (clock + 1)
 
-    last_order : (o : Outcome) → IsReached h clock o → InOrder (so_far s h (clock + 1)) o new
+    last_order : (o : Outcome) → IsReached h clock o → InOrder (so_far s h (clock + 1)).histories o new
     last_order o reach = record {
-      epochs = λ d e first second.
-          let low = shown_low s h h clock (clock + 1) (omega arith) (λ n low. refl) (omega arith) past o d reach first in
-          omega arith;
+      uncut = uncut_so_far h clock o reach;
+      epochs = λ d e first second. absurd second;
       places = λ unit m n first second. absurd (cc);
-      ticks = λ d e first second. tick_below o reach d e first second;
+      learnt = λ d e first second. absurd second;
+      ticks = λ d e first second.
+          let low = clock_low h clock o d reach first in
+          let there : clock + 1 ≡ e = same_Some (clock + 1) e second in
+          omega arith;
+      reached = λ d e first second.
+          let low = shown_low s h h clock (clock + 1) (omega arith) (λ n low. refl) (omega arith) past o d reach first in
+          let there : clock + 1 ≡ e = same_Some (clock + 1) e second in
+          omega arith;
+      clocks = λ d e first second. absurd (cc);
+      settled = λ d e first second. absurd (cc);
     }
-      where
-        tick_below : (q : Outcome) → IsReached h clock q → (d e : ℕ) → tick_of q ≡ Some d → tick_of new ≡ Some e → d < e
-        tick_below (At u k) r d e first second = absurd (cc)
-        tick_below (Ticked epoch) r d e first second =
-            let here : epoch ≡ d = same_Some epoch d first in
-            let there : clock + 1 ≡ e = same_Some (clock + 1) e second in
-            omega arith
 
 -- nothing was done yet
 pub played_none : (s : Shape) (clock : ℕ) → Played s [] clock [] []
 played_none s clock = record {
-  answers = record {
-    one_each = refl;
-    each = λ i l o line_at out_at. absurd (cc);
-    order = λ i j d low high. absurd (omega arith);
-  };
+  one_each = refl;
+  each = λ i l o line_at out_at. absurd (cc);
+  order = λ i j d low high. absurd (omega arith);
   reached = λ k d low. absurd (omega arith);
   calls = refl;
   once = λ place low. absurd (omega arith);

@@ -19,7 +19,7 @@ use Rattle.mont_base.specs.Layout.{Shape, map_units}
 use Rattle.mont_base.specs.State.{State, MapOf, Key, Value, step, earlier_text, unit_of_op}
 use Rattle.mont_base.specs.Texts.{IsText}
 use Rattle.mont_base.specs.History.{RepliesFollow, IsLegal, state_after}
-use Rattle.job_text.specs.JobText.{IsJobOp}
+use Rattle.job_text.specs.Grammar.{IsFirstOp}
 use Rattle.montage_tool.specs.Log.{value_of, key_of, latest, next_record, with_op, records_left}
 use Rattle.montage_tool.specs.declared.machine.Machine.{Machine}
 use Rattle.montage_tool.specs.Machine.{IsPair, IsStore, IsReady, Enters, PutsPair, AreCalls, map_after, next_receipt}
@@ -57,7 +57,7 @@ replies_push : (s : State) (h : List Entry) (e : Entry) → RepliesFollow s h �
 replies_push s [] e all is = (is, tt)
 replies_push s (d ∷ h) e all is = (all.0, replies_push (step s d.op).state h e all.1 is)
 
-pub of_map : (s : Shape) → map_units s ≡ 0 ∷ [] → (op : Op) → IsJobOp op → unit_of_op s op ≡ Some 0
+pub of_map : (s : Shape) → map_units s ≡ 0 ∷ [] → (op : Op) → IsFirstOp op → unit_of_op s op ≡ Some 0
 of_map s one op is =
     job_op (λ (o : Op). unit_of_op s o ≡ Some 0) op is (λ key value texts. own_key s one key) (λ key text. own_key s one key)
 
@@ -83,7 +83,7 @@ calls_push h e calls by number i d at =
     (λ j c there. (let y : j ≡ 0 + j = omega arith in subst (λ (k : ℕ). (c.caller ≡ 0) × (c.call ≡ k)) y (calls j c there)))
     (by, number ∙ omega arith) i d at)
 
-take_with_op : (n : ℕ) (rs : List Held) (epoch : ℕ) (op : Op) → IsJobOp op → n ≤ length rs → take n (with_op rs epoch op) ≡ take n rs
+take_with_op : (n : ℕ) (rs : List Held) (epoch : ℕ) (op : Op) → IsFirstOp op → n ≤ length rs → take n (with_op rs epoch op) ≡ take n rs
 take_with_op n rs epoch op is low =
     job_op (λ (o : Op). take n (with_op rs epoch o) ≡ take n rs) op is
     (λ key value texts. take-append-le n rs (next_record rs epoch key value ∷ []) low)
@@ -91,7 +91,7 @@ take_with_op n rs epoch op is low =
 
 -- The machine is ready after one more operation, where it holds the words of its record and the entry.
 module _
-    (m n : Machine) (op : Op) (reply : Reply) (ready : IsReady m) (asked : IsJobOp op)
+    (m n : Machine) (op : Op) (reply : Reply) (ready : IsReady m) (asked : IsFirstOp op)
     (told : reply ≡ (step (map_after m.history.items) op).reply) where
   abbrev entry : Entry
   entry = (next_receipt m op reply).entry
@@ -127,8 +127,8 @@ module _
             ∙ ap (λ (rs : List Held). with_op rs m.clock op) ready.written
             ∙ sym (left_push m.history.items entry)
             ∙ ap records_left (sym history);
-        asked = subst (AllByRecursion (λ (e : Entry). IsJobOp e.op)) (sym history)
-            (each_push (λ (e : Entry). IsJobOp e.op) m.history.items entry ready.asked asked);
+        asked = subst (AllByRecursion (λ (e : Entry). IsFirstOp e.op)) (sym history)
+            (each_push (λ (e : Entry). IsFirstOp e.op) m.history.items entry ready.asked asked);
         legal = subst (λ (l : Shape). IsLegal l 0 (MapOf finite.empty) FIRST_CLOCK n.history.items) (sym layout)
             (subst (IsLegal m.layout 0 (MapOf finite.empty) FIRST_CLOCK) (sym history) legal_next);
         past = subst (λ (x : ℕ). All (λ (d : Entry). d.epoch ≤ x) n.history.items) (sym clock)

@@ -5,7 +5,8 @@ use Rattle.std.specs.Io.KnownBytes.{Appends, IsAtEnd}
 use Rattle.std.proofs.lemmas.List.{take_all}
 use Rattle.mont_base.specs.Faults.{HasCause}
 use Rattle.job_text.specs.declared.job.Job.{Job}
-use Rattle.job_text.specs.JobText.{IsJob, job_text}
+use Rattle.job_text.specs.Grammar.{IsFirstJob}
+use Rattle.job_text.specs.JobText.{job_text}
 use Rattle.job_text.specs.Report.{Report}
 use Rattle.job_text.specs.ReportText.{report_text}
 use Rattle.job_text.specs.Taken.{HasLostSome}
@@ -20,7 +21,7 @@ use Rattle.montage_tool.specs.Montage.{Reports, IsSent, IsReported, RunsJob}
 
 -- what is known of the source once a job was read
 pub record HasJob {J : Type 0} (left : J → Option (List ℕ)) (faults : J → ℕ) (job read : J) (j : Job) : Type 0 where
-  pub is_job : IsJob j
+  pub is_job : IsFirstJob j
   pub spelled : IfSome (left job) (λ text. text ≡ job_text j)
   pub few : HasLostSome (left job) (left read)
   pub ended : IsAtEnd (left read)

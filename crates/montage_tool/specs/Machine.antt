@@ -15,7 +15,7 @@ use Rattle.mont_base.specs.State.{State, MapOf, Key, Value, key_cmp, step}
 use Rattle.mont_base.specs.Versions.{is_delete}
 use Rattle.mont_base.specs.History.{IsLegal, state_after}
 use Rattle.mont_laws.specs.SlotReadings.{IsRecordOf}
-use Rattle.job_text.specs.JobText.{IsJobOp, is_put_op}
+use Rattle.job_text.specs.Grammar.{IsFirstOp, is_put_op}
 use Rattle.montage_tool.specs.Log.{key_of, value_of, latest, identities, next_record, records_left, filled_words}
 use Rattle.montage_tool.specs.declared.machine.Machine.{Machine}
 
@@ -112,7 +112,7 @@ pub record IsReady (m : Machine) : Type 0 where
   pub settled :
       AllByRecursion (λ (r : Held). r.label.epoch + 2 ≤ m.clock) (take m.flushed m.records.items)
   pub written : m.records.items ≡ records_left m.history.items
-  pub asked : AllByRecursion (λ (e : Entry). IsJobOp e.op) m.history.items
+  pub asked : AllByRecursion (λ (e : Entry). IsFirstOp e.op) m.history.items
   pub legal : IsLegal m.layout 0 (MapOf finite.empty) FIRST_CLOCK m.history.items
   pub past : All (λ (e : Entry). e.epoch ≤ m.clock) m.history.items
   pub calls : AreCalls m.history.items

@@ -4,9 +4,11 @@ use Rattle.std.specs.Io.KnownBytes.{Appends, IsAtEnd}
 use Rattle.mont_base.specs.Faults.{Rose}
 use Rattle.job_text.specs.declared.job.Job.{Job}
 use Rattle.job_text.specs.declared.job.JobFault.{JobFault}
-use Rattle.job_text.specs.declared.refusal.JobRefusal.{JobRefusal}
-use Rattle.job_text.specs.declared.refusal.JobRefusal.TheVariants as refusals
-use Rattle.job_text.specs.JobText.{IsJob, IsFirstRefused, job_text}
+use Rattle.job_text.specs.declared.job_refusal.JobRefusal.{JobRefusal}
+use Rattle.job_text.specs.declared.job_refusal.JobRefusal.TheVariants as refusals
+use Rattle.job_text.specs.declared.grammar.Grammar.TheVariants.{FirstPath}
+use Rattle.job_text.specs.Grammar.{IsFirstJob}
+use Rattle.job_text.specs.JobText.{IsFirstRefused, job_text}
 use Rattle.job_text.specs.Report.{Report}
 use Rattle.job_text.specs.ReportText.{report_text}
 use Rattle.job_text.specs.Taken.{HasLostSome}
@@ -22,7 +24,7 @@ use Rattle.montage_tool.specs.Run.{IsRun}
 -- The text of a faithful report of the job that a source had left.
 pub record Reports (left : Option (List ℕ)) (bytes : List ℕ) : Type 0 where
   pub job : Job
-  pub is_job : IsJob job
+  pub is_job : IsFirstJob job
   -- where the source tells its bytes, they are the job's text
   pub spelled : IfSome left (λ text. text ≡ job_text job)
   pub report : Report
@@ -70,9 +72,9 @@ pub record RunsJob {J O : Type 0} (left : J → Option (List ℕ)) (read_faults 
   -- only a text that is no job's is refused, at its first refused line
   pub bad_job :
       (line : ℕ) (fault : JobFault) → status ≡ BadJob line fault
-      → IfSome (left job) (λ text. IsFirstRefused text line fault)
+      → IfSome (left job) (λ text. IsFirstRefused FirstPath text line fault)
   pub accepted :
-      (j : Job) (line : ℕ) (fault : JobFault) → IsJob j → left job ≡ Some (job_text j)
+      (j : Job) (line : ℕ) (fault : JobFault) → IsFirstJob j → left job ≡ Some (job_text j)
       → status ≢ BadJob line fault
   -- the source failed where that is said, and else it didn't
   pub read_fault :
@@ -94,7 +96,7 @@ pub record RunsJob {J O : Type 0} (left : J → Option (List ℕ)) (read_faults 
       status ≢ Done → ((which : SinkName) → status ≢ WriteFault which) → written ≡ out
   -- a job on devices that don't fail is done, unless memory runs out
   pub complete :
-      (j : Job) → IsJob j → left job ≡ Some (job_text j)
+      (j : Job) → IsFirstJob j → left job ≡ Some (job_text j)
       → ¬ Rose (read_faults job) (read_faults read)
       → ¬ Rose (write_faults out) (write_faults written)
       → (status ≡ Done) ⊎ (status ≡ Memory)

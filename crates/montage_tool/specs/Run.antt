@@ -1,5 +1,5 @@
 -- What a run of a job's lines leaves.
-use Rattle.std.specs.Prelude.{◌≡◌, ◌↔◌, ℕ, ◌+◌, ◌-◌, ◌≤◌, ◌<◌, List, [], ◌∷◌, ◌++◌, length, replicate, All, count_by, if◌then◌else◌}
+use Rattle.std.specs.Prelude.{◌≡◌, ◌↔◌, ℕ, ◌+◌, ◌-◌, ◌≤◌, ◌<◌, List, [], ◌∷◌, ◌++◌, length, take, replicate, All, AllPairs, count_by, slice_get, Some, if◌then◌else◌}
 use Rattle.mont_base.specs.declared.constants.TheConstants.{FIRST_CLOCK}
 use Rattle.mont_base.specs.declared.operation.Entry.{Entry}
 use Rattle.mont_base.specs.Layout.{Shape, units_of}
@@ -7,10 +7,15 @@ use Rattle.mont_base.specs.State.{State}
 use Rattle.mont_base.specs.Image.{IsPermitted, clock_of, IsWellFormed, IsRecovered, empty_states}
 use Rattle.job_text.specs.declared.job.Job.{Job}
 use Rattle.job_text.specs.declared.job.Line.{Line}
+use Rattle.job_text.specs.declared.job.Deed.{Deed}
+use Rattle.job_text.specs.declared.job.Deed.TheVariants.{Call, Tick}
 use Rattle.job_text.specs.declared.outcome.Outcome.{Outcome}
 use Rattle.job_text.specs.declared.outcome.Outcome.TheVariants.{At, Ticked}
-use Rattle.job_text.specs.JobText.{is_put}
-use Rattle.job_text.specs.Report.{Report, AnswersLines, IsFaithful, is_at, names_entry}
+use Rattle.job_text.specs.Grammar.{is_put}
+use Rattle.job_text.specs.Report.{Report}
+use Rattle.job_text.specs.Outcomes.{InOrder, is_at, names_entry}
+use Rattle.job_text.specs.AnsweredLines.{IsAnswer}
+use Rattle.job_text.specs.Faithful.{IsFaithful}
 use Rattle.montage_tool.specs.declared.machine.Machine.{Machine}
 use Rattle.montage_tool.specs.Log.{current_words, durable_words}
 
@@ -32,11 +37,24 @@ so_far s h clock = record {
 abbrev pub IsReached : List Entry → ℕ → Outcome → Type 0
 IsReached h clock (At unit place) = (unit ≡ 0) × (place < length h)
 IsReached h clock (Ticked epoch) = epoch ≤ clock
+IsReached h clock _ = ⊥
+
+-- An outcome so far answers what its line asks, behind these: a call has its entry, and a tick
+-- moved the clock. Nothing else comes of a line.
+abbrev pub AnswersSoFar : Shape → List Entry → ℕ → List Outcome → Deed → Outcome → Type 0
+AnswersSoFar s h clock before (Call op) (At unit place) =
+    IsAnswer (so_far s h clock) 0 (count_by is_at before) op unit place
+AnswersSoFar s h clock before Tick (Ticked epoch) = (FIRST_CLOCK < epoch) × (epoch ≤ clock)
+AnswersSoFar s h clock before deed _ = ⊥
 
 -- The outcomes so far answer the lines so far, and name each entry once.
 pub record Played (s : Shape) (h : List Entry) (clock : ℕ) (lines : List Line)
     (os : List Outcome) : Type 0 where
-  pub answers : AnswersLines (so_far s h clock) 0 lines os
+  pub one_each : length os ≡ length lines
+  pub each :
+      (i : ℕ) (l : Line) (o : Outcome) → slice_get lines i ≡ Some l → slice_get os i ≡ Some o
+      → AnswersSoFar s h clock (take i os) l.deed o
+  pub order : AllPairs (InOrder (so_far s h clock).histories) os
   pub reached : All (IsReached h clock) os
   pub calls : count_by is_at os ≡ length h
   pub once : (place : ℕ) → place < length h → count_by (names_entry 0 place) os ≡ 1
@@ -78,7 +96,7 @@ pub record GivesContents (r : Report) (image : List ℕ) : Type 0 where
 -- rebuilds from each image that a crash permits of the words at the end. The durable words are such
 -- an image.
 pub record IsRun (j : Job) (r : Report) : Type 0 where
-  pub faithful : IsFaithful j FIRST_CLOCK (empty_states j.layout) r
+  pub faithful : IsFaithful j FIRST_CLOCK (empty_states j.layout) [] r
   pub permitted : IsPermitted (current_left r) (durable_left r) (durable_left r)
   pub images :
       (image : List ℕ) → IsPermitted (current_left r) (durable_left r) image

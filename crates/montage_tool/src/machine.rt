@@ -2,7 +2,7 @@
 ghost use Rattle.std.specs.Prelude.{◌≡◌, ◌+◌, ◌-◌, ◌<◌, ◌≤◌, [], ◌∷◌, length, replicate, true, false, IfOk, OnOk};
 ghost use Rattle.mont_base.specs.Layout.{map_units, units_of};
 ghost use Rattle.mont_base.specs.State.{step};
-ghost use Rattle.job_text.specs.JobText.{IsJobOp, is_put_op};
+ghost use Rattle.job_text.specs.Grammar.{IsFirstOp, is_put_op};
 ghost use Rattle.montage_tool.specs.Log.{next_label};
 
 use crate::stopped::Stopped;
@@ -67,7 +67,7 @@ impl Machine {
     /// Answers an operation of the one caller. After want of memory nothing is said of the machine.
     pub fn call(&mut self, op: Op) -> Result<Receipt, AllocError>
         requires ready { IsReady self.old }
-        requires asked { IsJobOp op }
+        requires asked { IsFirstOp op }
         requires room { is_put_op op ≡ true
             → length self.old.records.items < self.old.layout.slots }
         requires few { length self.old.history.items < LAST }
@@ -203,7 +203,7 @@ impl Machine {
     // Writes a pair into the first slot that was never used.
     fn put(&mut self, key: Text, value: Text) -> Result<(), AllocError>
         requires store { IsStore self.old }
-        requires asked { IsJobOp (Op.Put key value) }
+        requires asked { IsFirstOp (Op.Put key value) }
         requires room { length self.old.records.items < self.old.layout.slots }
         ensures store { OnOk result (IsStore self.new) }
         ensures put { OnOk result (PutsPair self.old self.new key value) }

@@ -1,6 +1,6 @@
 // The top call, which does all that the program does.
 ghost use Rattle.std.specs.Prelude.{◌≡◌, ◌↔◌, IfOk, map, string_bytes};
-ghost use Rattle.job_text.specs.JobText.{IsJob};
+ghost use Rattle.job_text.specs.Grammar.{IsFirstJob};
 ghost use Rattle.job_text.specs.Report.{Report};
 ghost use Rattle.job_text.specs.ReportText.{report_text};
 ghost use Rattle.montage_tool.specs.Montage.{IsSent, IsReported, RunsJob, status_of_refusal};
@@ -11,7 +11,7 @@ use crate::delivery::deliver;
 use crate::forms::{Form, form_of};
 use crate::run::run;
 use crate::status::{SinkName, SourceName, Status};
-use job_text::{Job, JobRefusal, read_job, write_report};
+use job_text::{Grammar, Job, JobRefusal, read_job_of, write_report};
 use mont_base::{Sink, Source};
 use std::alloc::{AllocError, Global};
 
@@ -47,7 +47,7 @@ pub fn montage<R: AllocGlobal, J: Source, I: Source, O: Sink, K: Sink>(
 fn run_job<J: Source, O: Sink>(alloc: Global, job: &mut J, out: &mut O) -> Status
     ensures { RunsJob J.left J.faults O.taken O.faults job.old job.new out.old out.new result }
 {
-    match read_job(alloc, job) {
+    match read_job_of(alloc, Grammar::FirstPath, job) {
         Ok(job) => report_job(alloc, &job, out),
         Err(refusal) => status_of(refusal),
     }
@@ -68,7 +68,7 @@ fn status_of(refusal: JobRefusal) -> Status
 
 // Runs a job, and writes its report.
 fn report_job<O: Sink>(alloc: Global, job: &Job, out: &mut O) -> Status
-    requires { IsJob job.now }
+    requires { IsFirstJob job.now }
     ensures { IsReported O.taken O.faults out.old out.new job.now result }
 {
     match report_of_run(alloc, job) {
@@ -79,7 +79,7 @@ fn report_job<O: Sink>(alloc: Global, job: &Job, out: &mut O) -> Status
 
 // The text of the report of a run of the job.
 fn report_of_run(alloc: Global, job: &Job) -> Result<Vec<u8>, AllocError>
-    requires { IsJob job.now }
+    requires { IsFirstJob job.now }
     ensures { IfOk result (λ bytes.
         (report : Report) × IsRun job.now report × (bytes.items ≡ report_text report)) }
 {

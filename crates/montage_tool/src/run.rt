@@ -1,6 +1,6 @@
 // A run of a job, from its lines to its report.
 ghost use Rattle.std.specs.Prelude.{MatchResult, ◌≡◌, ◌<◌, ◌≤◌, [], length, true, IfOk, OnOk, count_by};
-ghost use Rattle.job_text.specs.JobText.{IsJob, IsLine, is_put};
+ghost use Rattle.job_text.specs.Grammar.{IsFirstJob, IsFirstLine, is_put};
 ghost use Rattle.std.specs.List.{All};
 ghost use Rattle.job_text.specs.PlainReport.{report_of};
 ghost use Rattle.montage_tool.specs.Machine.{IsReady};
@@ -16,7 +16,7 @@ use std::alloc::{AllocError, Global};
 /// Runs a job on a fresh store and reports, with what recovery finds in the words that outlive a
 /// crash at the end.
 pub(crate) fn run(alloc: Global, job: &Job) -> Result<Report, AllocError>
-    requires { IsJob job.now }
+    requires { IsFirstJob job.now }
     ensures { IfOk result (λ report. IsRun job.now (report_of report)) }
 {
     let mut machine = Machine::new(alloc, job.layout)?;
@@ -49,7 +49,7 @@ fn play(alloc: Global, machine: &mut Machine, lines: &[Line]) -> Result<Vec<Outc
     requires history { machine.old.history.items ≡ [] }
     requires records { machine.old.records.items ≡ [] }
     requires clock { machine.old.clock ≡ FIRST_CLOCK }
-    requires lines { All IsLine lines.now }
+    requires lines { All IsFirstLine lines.now }
     requires few_lines { length lines.now < MOST_LINES }
     requires few_puts { count_by is_put lines.now ≤ machine.old.layout.slots }
     ensures ready { OnOk result (IsReady machine.new) }
@@ -68,7 +68,7 @@ fn play(alloc: Global, machine: &mut Machine, lines: &[Line]) -> Result<Vec<Outc
 // Runs one line.
 fn play_line(machine: &mut Machine, line: &Line) -> Result<Outcome, AllocError>
     requires ready { IsReady machine.old }
-    requires line { IsLine line.now }
+    requires line { IsFirstLine line.now }
     requires room { is_put line.now ≡ true
         → length machine.old.records.items < machine.old.layout.slots }
     requires few { length machine.old.history.items < LAST }
@@ -84,6 +84,7 @@ fn play_line(machine: &mut Machine, line: &Line) -> Result<Outcome, AllocError>
                 epoch: machine.clock,
             })
         }
+        Deed::Sync => unreachable!(),
     }
 }
 

@@ -1,8 +1,9 @@
 // Reports and their texts, which were written by hand.
 use super::*;
+use crate::contents_text::write_contents;
+use crate::map_runs::{entry, report_of_run};
 use crate::outcome::Outcome;
-use crate::samples::{entry, report_of_run};
-use mont_base::{Entry, Kinds, Layout, Op, Reply, Text, TextTooLong};
+use mont_base::{Entry, Kinds, Layout, Op, Reply, Text, TextTooLong, Which};
 use std::test::Fail;
 
 const NOTHING_DONE: &str = "montage-report 3 mqg 8 1
@@ -44,6 +45,44 @@ graph 2 0 0
 end
 ";
 
+const CONTENTS: &str = "montage-contents 3 mqg 8 4
+map 0 1
+1 10
+queue 1 0
+graph 2 0 0
+end
+";
+
+// each outcome once, also where a caller can't have them all
+const OUTCOMES: [Outcome; 14] = [
+    Outcome::At { unit: 1, place: 7 },
+    Outcome::Synced { epoch: 4 },
+    Outcome::Ticked { epoch: u64::MAX },
+    Outcome::Stuck { unit: 2, epoch: 3 },
+    Outcome::ClockEnd,
+    Outcome::Full {
+        need: 5,
+        free: 4,
+        clock: 6,
+    },
+    Outcome::CountEnd { which: Which::Call },
+    Outcome::CountEnd {
+        which: Which::Place,
+    },
+    Outcome::CountEnd {
+        which: Which::Identity,
+    },
+    Outcome::CountEnd {
+        which: Which::Version,
+    },
+    Outcome::CountEnd {
+        which: Which::Serial,
+    },
+    Outcome::Halted { unit: 0, by: 1 },
+    Outcome::CutIn { unit: 2 },
+    Outcome::Cut,
+];
+
 // each operation and each reply once, where they need not fit each other
 const EACH_OPERATION: &str = "montage-report 3 mqg 8 1
 base 2
@@ -65,7 +104,21 @@ unit 0 12
 11 0 11 4 degree 2 4 = count 2
 unit 1 0
 unit 2 0
-caller 0 0
+caller 0 14
+at 1 7
+synced 4
+ticked 18446744073709551615
+stuck 2 3
+clockend
+full 5 4 6
+countend call
+countend place
+countend identity
+countend version
+countend serial
+halted 0 1
+cut 2
+cut
 image 4
 map 0 3
 % 12
@@ -103,6 +156,8 @@ fn writes_whole_reports(rt: HostRuntime) -> Result<(), Fail> {
     let puts = report_of_run(alloc, layout, &history, &outcomes, 4, &[(one, ten)])?;
     let bytes = write_report(alloc, &puts)?;
     assert!(rt; bytes.as_slice() == TWO_PUTS.as_bytes());
+    let alone = write_contents(alloc, layout, 4, &puts.contents)?;
+    assert!(rt; alone.as_slice() == CONTENTS.as_bytes());
     Ok(())
 }
 
@@ -123,7 +178,7 @@ fn of_map() -> Result<[Entry; 3], TextTooLong> {
 }
 
 #[test]
-fn spells_each_operation_and_reply(rt: HostRuntime) -> Result<(), Fail> {
+fn spells_each_operation_reply_and_outcome(rt: HostRuntime) -> Result<(), Fail> {
     let most = u64::MAX;
     let (unit, vertex, from, to) = (2, 1, 1, 3);
     let [put, get, del] = of_map()?;
@@ -179,7 +234,7 @@ fn spells_each_operation_and_reply(rt: HostRuntime) -> Result<(), Fail> {
         (Text::of_number(1), Text::of_bytes(b"\0\n")?),
     ];
     let layout = Layout::new(Kinds::old(1), 8)?;
-    let report = report_of_run(rt.alloc(), layout, &history, &[], 4, &pairs)?;
+    let report = report_of_run(rt.alloc(), layout, &history, &OUTCOMES, 4, &pairs)?;
     let bytes = write_report(rt.alloc(), &report)?;
     assert!(rt; bytes.as_slice() == EACH_OPERATION.as_bytes());
     Ok(())

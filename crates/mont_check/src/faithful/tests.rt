@@ -1,102 +1,170 @@
-// Reports of a run of the job that puts 10 under a key, moves the clock twice, and puts 11 under
-// it.
+// Reports of runs of one caller on a map: two puts under one key with a sync and a tick between
+// them, and one put of another key that isn't answered.
 use super::*;
-use crate::samples::{report_of_run, two_puts_history, two_puts_job, two_puts_outcomes};
-use job_text::Outcome;
-use mont_base::{Kinds, Op, Reply, Text};
+use crate::two_puts::{contents_of, job_of, put, report_of_run};
+use job_text::{Deed, Outcome, Stop};
+use mont_base::{Op, Reply, Text, Which};
 use std::test::Fail;
 
-// What is told of a report whose image has the value under the key at this clock.
-fn told(
-    alloc: Global,
-    history: &[Entry],
-    outcomes: &[Outcome],
-    (clock, value): (Epoch, u64),
-) -> Result<bool, Fail> {
-    let layout = Layout::new(Kinds::old(1), 8)?;
-    let job = two_puts_job(alloc, layout)?;
-    let base = Contents::empty(alloc, layout)?;
-    let pairs = [(Text::of_number(1), Text::of_number(value))];
-    let report = report_of_run(alloc, layout, history, outcomes, clock, &pairs)?;
-    Ok(is_faithful(alloc, &job, 2, &base, &report)?)
-}
+// The clocks of the sync and of the tick, the epoch of the second put, the image's clock and the
+// value in it, and whether the report is faithful. The first put, of 10, has epoch 2.
+type TwoPuts = (Epoch, Epoch, Epoch, Epoch, u64, bool);
 
-#[test]
-fn an_image_has_what_is_two_epochs_old(rt: HostRuntime) -> Result<(), Fail> {
-    let alloc = rt.alloc();
-    let history = two_puts_history();
-    let outcomes = two_puts_outcomes();
-    let images = [
-        ((4, 10), true),
-        ((5, 10), true),
-        ((6, 11), true),
-        ((4, 11), false),
-        ((6, 10), false),
-        // the clock had moved on to 4
-        ((3, 10), false),
-    ];
-    for (image, faithful) in images {
-        let told = told(alloc, &history, &outcomes, image)?;
-        assert_eq!(rt; told, faithful, "at {image:?}");
-    }
-    Ok(())
-}
+static TWO_PUTS: [TwoPuts; 12] = [
+    (4, 5, 5, 7, 11, true),
+    (4, 5, 5, 6, 10, true),
+    (4, 7, 7, 7, 10, true),
+    // an image one epoch too new, and one too old
+    (4, 5, 5, 6, 11, false),
+    (4, 5, 5, 7, 10, false),
+    // a sync one past the put, and one past the image
+    (3, 5, 5, 7, 11, false),
+    (8, 9, 9, 7, 10, false),
+    // a tick past the image, one that doesn't move the clock, and one that moves it back
+    (4, 8, 8, 7, 10, false),
+    (4, 4, 5, 7, 11, false),
+    (5, 4, 5, 7, 11, false),
+    // a put below the sync, and one below the tick
+    (5, 6, 4, 7, 11, false),
+    (4, 6, 5, 7, 11, false),
+];
 
-#[test]
-fn histories_are_legal(rt: HostRuntime) -> Result<(), Fail> {
-    let alloc = rt.alloc();
-    let outcomes = two_puts_outcomes();
-    let mut falling = two_puts_history();
-    falling[0].epoch = 4;
-    falling[1].epoch = 3;
-    let mut misread = two_puts_history();
-    misread[1].reply = Reply::Nothing;
-    assert!(rt;
-        !told(alloc, &falling, &outcomes, (4, 10))?,
-        "epochs that fall"
-    );
-    assert!(rt;
-        !told(alloc, &misread, &outcomes, (4, 10))?,
-        "another reply"
-    );
-    Ok(())
-}
-
-#[test]
-fn outcomes_answer_the_lines(rt: HostRuntime) -> Result<(), Fail> {
-    let alloc = rt.alloc();
-    let history = two_puts_history();
-    let [put, tick, tock, put_again] = two_puts_outcomes();
-    let early = Outcome::Ticked { epoch: 2 };
-    for (what, outcomes) in [
-        ("an entry that is named twice", [put, tick, tock, put]),
-        ("another order of entries", [put_again, tick, tock, put]),
-        ("another order of ticks", [put, tock, tick, put_again]),
-        ("a clock that stands", [put, early, tock, put_again]),
-        ("an entry for a tick", [put, put_again, tick, tock]),
-    ] {
-        let told = told(alloc, &history, &outcomes, (4, 10))?;
-        assert!(rt; !told, "{what}");
-    }
-    Ok(())
-}
-
-#[test]
-fn each_entry_is_named(rt: HostRuntime) -> Result<(), Fail> {
-    let alloc = rt.alloc();
-    let [put, put_again] = two_puts_history();
-    let one = Text::of_number(1);
-    let unnamed = Entry {
-        call: 2,
-        op: Op::Get { key: one },
-        reply: Reply::WasText {
-            value: Text::of_number(11),
-        },
-        ..put_again
+fn tell_two_puts(alloc: Global, row: &TwoPuts) -> Result<bool, Fail> {
+    let (synced, ticked, epoch, image_clock, value, _) = *row;
+    let first = Entry {
+        caller: 0,
+        call: 0,
+        op: put(10),
+        reply: Reply::Nothing,
+        epoch: 2,
     };
-    let outcomes = two_puts_outcomes();
-    let history = [put, put_again, unnamed];
-    let told = told(alloc, &history, &outcomes, (4, 10))?;
-    assert!(rt; !told);
+    let reply = Reply::WasText {
+        value: Text::of_number(10),
+    };
+    let second = Entry {
+        call: 1,
+        op: put(11),
+        reply,
+        epoch,
+        ..first
+    };
+    let deeds = [
+        Deed::Call { op: put(10) },
+        Deed::Sync,
+        Deed::Tick,
+        Deed::Call { op: put(11) },
+    ];
+    let outcomes = [
+        Outcome::At { unit: 0, place: 0 },
+        Outcome::Synced { epoch: synced },
+        Outcome::Ticked { epoch: ticked },
+        Outcome::At { unit: 0, place: 1 },
+    ];
+    let job = job_of(alloc, &deeds, &[])?;
+    let base = contents_of(alloc, 0, 0)?;
+    let left = contents_of(alloc, 1, value)?;
+    let report = report_of_run(alloc, base, &[first, second], &outcomes, image_clock, left)?;
+    let base = contents_of(alloc, 0, 0)?;
+    Ok(is_faithful(alloc, &job, 2, &base, &[], &report)?)
+}
+
+// How many of the eight slots are taken, the outcome of the put, and whether it may be that of a
+// caller that is cut, and of one that isn't. All clocks are 2.
+type Refused = (u64, Outcome, bool, bool);
+
+static REFUSED: [Refused; 14] = [
+    (
+        8,
+        Outcome::Full {
+            need: 1,
+            free: 0,
+            clock: 2,
+        },
+        true,
+        true,
+    ),
+    (
+        7,
+        Outcome::Full {
+            need: 1,
+            free: 0,
+            clock: 2,
+        },
+        false,
+        false,
+    ),
+    (
+        7,
+        Outcome::Full {
+            need: 1,
+            free: 1,
+            clock: 2,
+        },
+        false,
+        false,
+    ),
+    (
+        8,
+        Outcome::Full {
+            need: 2,
+            free: 0,
+            clock: 2,
+        },
+        false,
+        false,
+    ),
+    (
+        8,
+        Outcome::Full {
+            need: 1,
+            free: 0,
+            clock: 3,
+        },
+        false,
+        false,
+    ),
+    (8, Outcome::Cut, true, false),
+    (7, Outcome::Cut, false, false),
+    (7, Outcome::CutIn { unit: 0 }, true, false),
+    (7, Outcome::CutIn { unit: 1 }, false, false),
+    (8, Outcome::ClockEnd, false, false),
+    (8, Outcome::Stuck { unit: 0, epoch: 1 }, false, false),
+    (8, Outcome::Halted { unit: 0, by: 0 }, false, false),
+    (
+        8,
+        Outcome::CountEnd {
+            which: Which::Identity,
+        },
+        false,
+        false,
+    ),
+    (8, Outcome::Synced { epoch: 2 }, false, false),
+];
+
+fn tell_refused(alloc: Global, taken: u64, outcome: Outcome, stops: &[Stop]) -> Result<bool, Fail> {
+    let op = Op::Put {
+        key: Text::of_number(9),
+        value: Text::of_number(90),
+    };
+    let job = job_of(alloc, &[Deed::Call { op }], stops)?;
+    let base = contents_of(alloc, taken, 5)?;
+    let left = contents_of(alloc, taken, 5)?;
+    let report = report_of_run(alloc, base, &[], &[outcome], 2, left)?;
+    let base = contents_of(alloc, taken, 5)?;
+    Ok(is_faithful(alloc, &job, 2, &base, &[], &report)?)
+}
+
+#[test]
+fn reports_are_faithful_or_not(rt: HostRuntime) -> Result<(), Fail> {
+    let alloc = rt.alloc();
+    for row in &TWO_PUTS {
+        assert_eq!(rt; tell_two_puts(alloc, row)?, row.5, "{row:?}");
+    }
+    let stop = [Stop { who: 0, steps: 5 }];
+    for (taken, outcome, if_cut, if_not) in &REFUSED {
+        let cut = tell_refused(alloc, *taken, *outcome, &stop)?;
+        let uncut = tell_refused(alloc, *taken, *outcome, &[])?;
+        assert_eq!(rt; (cut, uncut), (*if_cut, *if_not), "{taken} {outcome}");
+    }
     Ok(())
 }

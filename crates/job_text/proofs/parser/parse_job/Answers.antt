@@ -1,23 +1,18 @@
-use Rattle.std.proofs.Common.{◌≡◌, ◌<◌, ◌+◌, Bool, ◌==◌, [], ◌∷◌, ◌++◌, cond, true, false, List, ℕ, sym, subst, ap, ◌∙◌, arith, length, refl}
-use Rattle.std.specs.List.{count_by}
+use Rattle.std.proofs.Common.{◌≡◌, ◌<◌, ◌+◌, ◌==◌, Bool, [], ◌∷◌, ◌++◌, true, false, List, ℕ, sym, subst, ap, ◌∙◌, arith, length, refl}
 use Rattle.std.proofs.lemmas.List.{length-append, nil_from_length}
-use Rattle.std.proofs.lemmas.List.Sums.{sum_by_push}
-use Rattle.job_text.specs.declared.limits.TheConstants.{MOST_LINES}
-use Rattle.job_text.specs.JobText.{line_words, is_put}
-use Rattle.job_text.specs.Lines.{spaced}
-use Rattle.std.proofs.lemmas.Bool.Decides.{nat_tests, Decides-ltb}
-use Rattle.job_text.proofs.Verdicts.{refused_deed, refused_header}
-use Rattle.job_text.proofs.Front.{IsFront, front_start, front_push}
+use Rattle.std.proofs.lemmas.Bool.Decides.{nat_tests}
+use Rattle.job_text.specs.declared.job.Job.{Job}
+use Rattle.job_text.specs.declared.grammar.Grammar.{Grammar}
+use Rattle.job_text.specs.declared.limits.TheConstants.{READ_BYTES}
+use Rattle.job_text.specs.Grammar.{Takes}
+use Rattle.job_text.specs.JobText.{job_lines, job_text, IsFirstRefused}
+use Rattle.job_text.specs.Refused.{BeginsWith, IsNoLine}
+use Rattle.job_text.specs.Draft.{so_far}
+use Rattle.job_text.proofs.Verdicts.{refused_line, refused_header}
+use Rattle.job_text.proofs.Front.{IsFront, front_start, front_push, job_long}
 use Rattle.job_text.proofs.Jobs.{job_from_front}
+use Rattle.job_text.proofs.Drafts.{refused_behind}
 use Rattle.job_text.proofs.parser.parse_job.Goals as goal
-use Rattle.job_text.proofs.parser.parse_job.Goals.{then-is_put, else-is_put}
-
-pub returns-in-Err-clause-refused : goal.returns-in-Err-clause-refused
-returns-in-Err-clause-refused c = λ more follows. refused_header c.args.text.now more follows c.in-Err.fault c.in-Err.ensures
-
-pub loop-rest-init : goal.loop-rest-init
-loop-rest-init c =
-    rw c.new-lines.ensures (front_start c.args.text.now c.in-Ok.begun.0 c.in-Ok.begun.1.now c.in-Ok.ensures, refl)
 
 some_rest : (n : ℕ) (b : Bool) → b ≡ (n == 0) → b ≡ false → 0 < n
 some_rest n b e h = grind (arith, nat_tests)
@@ -25,56 +20,60 @@ some_rest n b e h = grind (arith, nat_tests)
 no_rest : (n : ℕ) (b : Bool) → b ≡ (n == 0) → b ≡ true → n ≡ 0
 no_rest n b e h = grind (arith, nat_tests)
 
-count_put : (b : Bool) (puts new count : ℕ) → b ≡ true → new ≡ puts + 1 → puts ≡ count → new ≡ count + cond b 1 0
-count_put true puts new count put one same = omega arith
-count_put false puts new count put one same = absurd (cc)
+pub returns-in-Err-clause-refused : goal.returns-in-Err-clause-refused
+returns-in-Err-clause-refused c = λ more follows. refused_header c.args.grammar c.args.text.now more follows c.in-Err.fault c.in-Err.ensures
 
-count_other : (b : Bool) (puts new count : ℕ) → b ≡ false → new ≡ puts → puts ≡ count → new ≡ count + cond b 1 0
-count_other true puts new count put one same = absurd (cc)
-count_other false puts new count put one same = omega arith
+pub loop-rest-init : goal.loop-rest-init
+loop-rest-init c = record {
+  grammar = c.new-draft.ensures.grammar;
+  draft = c.new-draft.ensures.draft;
+  front = subst (λ (j : Job). IsFront c.args.grammar c.args.text.now j c.in-Ok.begun.1.now) (sym c.new-draft.ensures.job)
+      (front_start c.args.grammar c.args.text.now c.in-Ok.begun.0 c.in-Ok.begun.1.now c.in-Ok.ensures);
+}
 
-pub returns-in-Err-next_deed-clause-refused : goal.returns-in-Err-next_deed-clause-refused
-returns-in-Err-next_deed-clause-refused c = λ more follows.
+pub returns-in-Err-next_line-clause-refused : goal.returns-in-Err-next_line-clause-refused
+returns-in-Err-next_line-clause-refused c = λ more follows.
+    let j : Job = so_far c.loop-rest.draft in
     let some = some_rest (length c.loop-rest.rest.now) c.is_empty.result c.is_empty.ensures c.loop-rest-test.true in
-    let fault = rw (c.len-place.ensures, c.slots-slots.ensures.value) at c.in-Err-next_deed.ensures in
-    rw c.len-place.ensures (refused_deed c.args.text.now c.in-Ok.begun.0 c.loop-rest.lines c.loop-rest.rest.now more c.loop-rest.invariant.0
-    some c.loop-rest.puts c.loop-rest.invariant.1 follows c.in-Err-next_deed.fault fault)
+    let at : c.count-place.result ≡ length (job_lines j) = c.count-place.ensures ∙ sym (job_long j) in
+    subst (λ (n : ℕ). IsFirstRefused c.args.grammar (c.args.text.now ++ more) (n + 1) c.in-Err-next_line.fault) (sym at)
+    (refused_line c.args.grammar c.args.text.now j c.loop-rest.rest.now more c.loop-rest.invariant.front some follows
+    c.in-Err-next_line.fault
+    (subst (λ (n : ℕ). IsNoLine c.loop-rest.rest.now n c.in-Err-next_line.fault) at c.in-Err-next_line.ensures))
 
 pub loop-rest-smaller : goal.loop-rest-smaller
 loop-rest-smaller c =
-    let begun = c.in-Ok-next_deed.ensures in
-    omega (arith, ap length begun.begins.ended.joined, length-append begun.line (10 ∷ c.in-Ok-next_deed.begun.1.now))
+    let begun = c.in-Ok-next_line.ensures in
+    omega (arith, ap length begun.ended.joined, length-append c.in-Ok-next_line.begun.0.now (10 ∷ c.in-Ok-next_line.begun.1.now))
+
+pub returns-in-Err-with-clause-refused : goal.returns-in-Err-with-clause-refused
+returns-in-Err-with-clause-refused c =
+    let some = some_rest (length c.loop-rest.rest.now) c.is_empty.result c.is_empty.ensures c.loop-rest-test.true in
+    let begins = subst (λ (n : ℕ). BeginsWith c.loop-rest.rest.now n c.in-Ok-next_line.begun.0.now c.in-Ok-next_line.begun.1.now)
+    c.count-place.ensures c.in-Ok-next_line.ensures in
+    refused_behind c.args.grammar c.args.text.now c.loop-rest.draft c.loop-rest.rest.now c.in-Ok-next_line.begun.0.now
+    c.in-Ok-next_line.begun.1.now c.loop-rest.invariant.grammar c.loop-rest.invariant.front some begins c.in-Err-with.refusal
+    c.in-Err-with.ensures.refused
 
 pub loop-rest-preserved : goal.loop-rest-preserved
 loop-rest-preserved c =
-    let begun = c.in-Ok-next_deed.ensures in
-    let line = c.in-Ok-next_deed.begun.0 in
-    let f = c.loop-rest.invariant.0 in
-    let puts = c.loop-rest.invariant.1 in
-    let joined : c.loop-rest.rest.now ≡ spaced (line_words line) ++ 10 ∷ c.in-Ok-next_deed.begun.1.now =
-    begun.begins.ended.joined ∙ ap (λ (xs : List ℕ). xs ++ 10 ∷ c.in-Ok-next_deed.begun.1.now) begun.spelled in
-    let early : length c.loop-rest.lines + 1 < MOST_LINES = omega (arith, begun.begins.early, c.len-place.ensures) in
-    let room : is_put line ≡ true → count_by is_put c.loop-rest.lines < c.in-Ok.begun.0.slots = λ put.
-    let free : c.loop-rest.puts < c.slots-slots.result = (Decides-ltb c.loop-rest.puts c.slots-slots.result).0 (begun.has_room put) in
-    omega (arith, c.slots-slots.ensures.value) in
-    let push = c.in_ok-push.ensures.ok in
-    let counted = sum_by_push (λ l. cond (is_put l) 1 0) c.loop-rest.lines line in
-    let puts_now : c.if-is_put.puts ≡ count_by is_put c.loop-rest.lines + cond (is_put line) 1 0 =
-    elim c.if-is_put.branch [
-      | then-is_put w ↦ count_put (is_put line) _ _ _ (sym c.is_put.ensures ∙ w.if-is_put.true) w.puts-is puts
-      | else-is_put w ↦ count_other (is_put line) _ _ _ (sym c.is_put.ensures ∙ w.if-is_put.false) w.puts-is puts
-    ] in
-    rw push (
-      front_push c.args.text.now c.in-Ok.begun.0 c.loop-rest.lines c.loop-rest.rest.now line c.in-Ok-next_deed.begun.1.now f
-          begun.is_line joined early room,
-      puts_now ∙ sym counted,
-    )
+    let added = c.in-Ok-with.ensures.added in
+    let same = added.grammar ∙ c.loop-rest.invariant.grammar in
+    record {
+      grammar = same;
+      draft = added.draft;
+      front = front_push c.args.grammar c.args.text.now (so_far c.loop-rest.draft) (so_far c.in-Ok-with.longer) c.loop-rest.rest.now
+          c.in-Ok-next_line.begun.0.now c.in-Ok-next_line.begun.1.now c.loop-rest.invariant.front
+          (subst (λ (g : Grammar). Takes g (so_far c.in-Ok-with.longer)) same added.draft.taken)
+          added.lines c.in-Ok-next_line.ensures.ended;
+    }
 
 pub returns-clause-spelled : goal.returns-clause-spelled
 returns-clause-spelled c =
-    let s = c.in-Ok.begun.0 in
+    let j : Job = so_far c.loop-rest.draft in
     let empty : c.loop-rest.rest.now ≡ [] = nil_from_length c.loop-rest.rest.now
     (no_rest (length c.loop-rest.rest.now) c.is_empty.result c.is_empty.ensures c.loop-rest-test.false) in
-    let whole : IsFront c.args.text.now s c.loop-rest.lines [] =
-    subst (λ (xs : List ℕ). IsFront c.args.text.now s c.loop-rest.lines xs) empty c.loop-rest.invariant.0 in
-    rw c.new.ensures (job_from_front c.args.text.now s c.loop-rest.lines whole)
+    let whole : IsFront c.args.grammar c.args.text.now j [] =
+    subst (λ (xs : List ℕ). IsFront c.args.grammar c.args.text.now j xs) empty c.loop-rest.invariant.front in
+    subst (λ (k : Job). Takes c.args.grammar k × (c.args.text.now ≡ job_text k) × (length c.args.text.now < READ_BYTES))
+    (sym c.into_job.ensures) (job_from_front c.args.grammar c.args.text.now j whole)

@@ -1,7 +1,7 @@
 use Rattle.std.proofs.Common.{ℕ, ◌<◌}
 use Rattle.plain.specs.States.{states_of}
 use Rattle.job_text.specs.PlainReport.{report_of}
-use Rattle.mont_check.specs.Faithful.{CutAt}
+use Rattle.job_text.specs.Faithful.{CutAt}
 use Rattle.mont_check.proofs.faithful.are_cut.Given as goal
 
 abbrev pub invariant-loop-unit : goal.invariant-loop-unit

@@ -1,7 +1,7 @@
 use Rattle.std.proofs.Common.{refl, below_more, arith}
 use Rattle.plain.specs.States.{states_of}
 use Rattle.mont_base.specs.History.{IsLegal}
-use Rattle.mont_check.specs.Faithful.{LegalAt}
+use Rattle.job_text.specs.Faithful.{LegalAt}
 use Rattle.mont_check.proofs.Places.{fails_at, all_both_at}
 use Rattle.mont_check.proofs.faithful.are_legal.Goals as goal
 

@@ -1,6 +1,6 @@
 use Rattle.std.proofs.Common.{ℕ, ◌<◌}
 use Rattle.plain.specs.States.{states_of}
-use Rattle.mont_check.specs.Faithful.{LegalAt}
+use Rattle.job_text.specs.Faithful.{LegalAt}
 use Rattle.mont_check.proofs.faithful.are_legal.Given as goal
 
 abbrev pub invariant-loop-unit : goal.invariant-loop-unit

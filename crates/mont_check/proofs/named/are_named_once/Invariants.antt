@@ -1,6 +1,6 @@
 use Rattle.std.proofs.Common.{ℕ, ◌<◌}
+use Rattle.job_text.specs.Faithful.{AllNamedAt}
 use Rattle.job_text.specs.PlainReport.{report_of}
-use Rattle.mont_check.specs.Faithful.{AllNamedAt}
 use Rattle.mont_check.proofs.named.are_named_once.Given as goal
 
 abbrev pub invariant-loop-unit : goal.invariant-loop-unit

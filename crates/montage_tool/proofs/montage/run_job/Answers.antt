@@ -6,7 +6,7 @@ use Rattle.montage_tool.proofs.montage.run_job.Goals as goal
 pub returns-in-Ok : goal.returns-in-Ok
 returns-in-Ok g c =
     let read = c.in-Ok.ensures in
-    run_reported g.J.Source.left g.J.Source.faults g.O.Sink.taken g.O.Sink.faults c.args.job.now c.read_job.new.source c.args.out.now
+    run_reported g.J.Source.left g.J.Source.faults g.O.Sink.taken g.O.Sink.faults c.args.job.now c.read_job_of.new.source c.args.out.now
     c.report_job.new.out c.in-Ok.job
     (record {
       is_job = read.spelled.0;

@@ -4,7 +4,7 @@ use Rattle.std.proofs.lemmas.List.{take_more}
 use Rattle.mont_base.specs.Layout.{Shape}
 use Rattle.job_text.specs.declared.job.Line.{Line}
 use Rattle.job_text.specs.declared.outcome.Outcome.{Outcome}
-use Rattle.job_text.specs.JobText.{is_put}
+use Rattle.job_text.specs.Grammar.{is_put}
 use Rattle.montage_tool.specs.Run.{Played}
 use Rattle.montage_tool.proofs.Lines.{puts_before_one, puts_with}
 use Rattle.montage_tool.proofs.run.play.Goals as goal

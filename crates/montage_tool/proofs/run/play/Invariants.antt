@@ -1,6 +1,6 @@
 use Rattle.std.proofs.Common.{◌≡◌, ◌+◌, ◌≤◌, length, take, count_by}
 use Rattle.mont_base.specs.declared.constants.TheConstants.{FIRST_CLOCK}
-use Rattle.job_text.specs.JobText.{is_put}
+use Rattle.job_text.specs.Grammar.{is_put}
 use Rattle.montage_tool.specs.Machine.{IsReady}
 use Rattle.montage_tool.specs.Run.{Played}
 use Rattle.montage_tool.proofs.run.play.Given as goal

@@ -1,7 +1,7 @@
 use Rattle.std.proofs.Common.{◌≡◌, subst}
 use Rattle.mont_base.specs.declared.operation.Op.TheVariants.{Put, Get}
 use Rattle.mont_base.specs.declared.operation.Receipt.{Receipt}
-use Rattle.job_text.specs.JobText.{IsJobOp}
+use Rattle.job_text.specs.Grammar.{IsFirstOp}
 use Rattle.montage_tool.specs.Machine.{IsStore, IsReady, Enters, next_receipt}
 use Rattle.montage_tool.proofs.Ready.{on_ok_of, ready_put, ready_get}
 use Rattle.montage_tool.proofs.machine.Machine.call.Goals as goal
@@ -16,7 +16,7 @@ returns-in_ok-put-in-Put-clause-ready c =
     (λ (r : Receipt). r ≡ next_receipt p (Put c.in-Put.key c.in-Put.value) reply) (Enters p n)
     (λ receipt store is entered.
     ready_put m p n c.in-Put.key c.in-Put.value reply receipt c.requires.ready
-    (subst IsJobOp c.in-Put.is c.requires.asked) c.look_up-reply.ensures
+    (subst IsFirstOp c.in-Put.is c.requires.asked) c.look_up-reply.ensures
     c.in_ok-put-in-Put.ensures.put is store entered)
     c.enter.ensures.store c.enter.ensures.receipt c.enter.ensures.entered
 
@@ -29,5 +29,5 @@ returns-in-Get-clause-ready c =
     (λ (r : Receipt). r ≡ next_receipt m (Get c.in-Get.key) reply) (Enters m n)
     (λ receipt store is entered.
     ready_get m n c.in-Get.key reply receipt c.requires.ready
-    (subst IsJobOp c.in-Get.is c.requires.asked) c.look_up-reply-in-Get.ensures is store entered)
+    (subst IsFirstOp c.in-Get.is c.requires.asked) c.look_up-reply-in-Get.ensures is store entered)
     c.enter-in-Get.ensures.store c.enter-in-Get.ensures.receipt c.enter-in-Get.ensures.entered

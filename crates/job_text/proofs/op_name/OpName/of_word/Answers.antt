@@ -1,0 +1,26 @@
+use Rattle.std.proofs.Common.{◌≡◌, ℕ, ◌<◌, ◌≤◌, List, ◌∷◌, [], get_or, sym, ap, ◌∙◌, refl, arith, lit<}
+use Rattle.job_text.specs.declared.op_name.OpName.{OpName}
+use Rattle.job_text.specs.declared.op_name.OpName.TheVariants as names
+use Rattle.job_text.specs.Operations.{name_word}
+use Rattle.job_text.specs.declared.op_name.TheConstants.{ALL}
+use Rattle.job_text.proofs.op_name.OpName.of_word.Goals as goal
+
+-- each name stands at its place
+named : (n : OpName) → (k : ℕ) × (k < 12) × (get_or ALL k names.Put ≡ n)
+named names.Put = (0, lit< tt, refl)
+named names.Get = (1, lit< tt, refl)
+named names.Del = (2, lit< tt, refl)
+named names.Enq = (3, lit< tt, refl)
+named names.Deq = (4, lit< tt, refl)
+named names.Len = (5, lit< tt, refl)
+named names.AddV = (6, lit< tt, refl)
+named names.DelV = (7, lit< tt, refl)
+named names.AddE = (8, lit< tt, refl)
+named names.DelE = (9, lit< tt, refl)
+named names.Vertex = (10, lit< tt, refl)
+named names.Degree = (11, lit< tt, refl)
+
+pub returns : goal.returns
+returns c = λ n is.
+    let at = named n in
+    c.loop-name.invariant at.0 names.Put (omega (arith, at.1)) (is ∙ ap name_word (sym at.2))

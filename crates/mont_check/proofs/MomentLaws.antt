@@ -1,0 +1,168 @@
+-- The moments of a call, told of the places of its caller before and behind it.
+use Rattle.std.proofs.Common.{◌≡◌, ℕ, zero, suc, ◌+◌, ◌<◌, ◌≤◌, ◌⊎◌, inl, inr, Bool, true, false, List, [], ◌∷◌, map, length, take, min, Some, get_or, refl, sym, ap, ◌∙◌, subst, arith, length-take}
+use Rattle.std.specs.Prelude.{◌↔◌, IsTrue, All, slice_get}
+use Rattle.std.specs.Ordering.{nat_cmp}
+use Rattle.std.specs.BTreeMap as tree
+use Rattle.std.proofs.lemmas.Bool.{cases_lt}
+use Rattle.std.proofs.lemmas.Option.{same_Some}
+use Rattle.mont_base.specs.declared.operation.Entry.{Entry}
+use Rattle.mont_base.specs.declared.operation.Op.{Op}
+use Rattle.mont_base.specs.declared.record.Held.{Held}
+use Rattle.mont_base.specs.State.{State, unit_of_op}
+use Rattle.job_text.specs.declared.outcome.Outcome.{Outcome}
+use Rattle.job_text.specs.AnsweredLines.{records_in}
+use Rattle.job_text.specs.Causes.{IsPoint, SomeMoment}
+use Rattle.job_text.specs.Outcomes.{place_of}
+use Rattle.job_text.specs.Report.{Report}
+use Rattle.mont_check.specs.declared.cause.Case.{Case}
+use Rattle.mont_check.specs.declared.cause.Cause.{Cause}
+use Rattle.mont_check.specs.declared.moments.Span.{Span}
+use Rattle.mont_check.specs.declared.progress.Progress.{Progress}
+use Rattle.mont_check.specs.Bounds.{IsAtLeast, IsBelow, least}
+use Rattle.mont_check.specs.Causes.{HeldAfter, IsCause, clock_of_cause}
+use Rattle.mont_check.specs.Moments.{Fits, HasMoment, IsWithin, SomePoint, case_of, span_of}
+use Rattle.mont_check.specs.Progress.{HasShown}
+use Rattle.mont_check.specs.Shown.{place_in}
+use Rattle.mont_check.specs.Walk.{Facts, facts_after}
+use Rattle.mont_check.proofs.Joined.{all_bounded}
+use Rattle.mont_check.proofs.ProgressLaws.{all_below, place_shown, shown_place}
+
+-- ---- some point
+module _ (base : State) (h : List Entry) (span : Span) (c : Case) (records : List Held) where
+  -- what is true after so many entries
+  abbrev pub facts_at : ℕ → Facts
+  facts_at n = facts_after (clock_of_cause c.cause) base (take n h)
+
+  abbrev pub FitsAt : ℕ → Type 0
+  FitsAt n = Fits (facts_at n) span c records
+
+  pub some_fits :
+      (i : ℕ) (f : Facts) → i ≤ length h → f ≡ facts_at i → Fits f span c records → IsTrue true ↔ SomePoint base h span c records
+  some_fits i f within is fits =
+      (λ _. record { point = i; there = within; fits = subst (λ (g : Facts). Fits g span c records) is fits }, λ _. refl)
+
+  -- no earlier one does, and the last one may
+  pub last_fits :
+      (i : ℕ) (f : Facts) (b : Bool) → length h ≤ i → i ≤ length h → f ≡ facts_at i → ((n : ℕ) → n < i → ¬ FitsAt n)
+      → (IsTrue b ↔ Fits f span c records) → IsTrue b ↔ SomePoint base h span c records
+  last_fits i f b past within is none says = (
+    λ yes. record { point = i; there = within; fits = subst (λ (g : Facts). Fits g span c records) is (says.0 yes) },
+    λ some. says.1 (at_end some (cases_lt some.point i)),
+  )
+    where
+      at_end : (some : SomePoint base h span c records) → (some.point < i) ⊎ (i ≤ some.point) → Fits f span c records
+      at_end some (inl low) = absurd (none some.point low some.fits)
+      at_end some (inr high) =
+          let same : some.point ≡ i = (let there = some.there in omega arith) in
+          subst (λ (g : Facts). Fits g span c records) (ap facts_at same ∙ sym is) some.fits
+
+-- ---- places as bounds
+all_at_least :
+    (unit : ℕ) (os : List Outcome) (n : ℕ)
+    → All (λ o. (m : ℕ) → place_in unit o ≡ Some m → n ≤ m) os ↔ IsAtLeast (least (place_in unit) os) n
+all_at_least unit os n =
+    all_bounded min (λ m. n ≤ m) (λ m k p q. omega arith) (λ m k p. omega arith) (λ m k p. omega arith) (place_in unit) os
+
+module _ (hs : List (List Entry)) (before after : List Outcome) (p : Progress) (shown : HasShown hs before p) (unit : ℕ) (h : List Entry)
+    (n : ℕ) where
+  pub within_of_point : IsPoint before after unit h n → IsWithin (span_of p after unit) n
+  within_of_point point = record {
+    behind = λ m is. (all_below (place_in unit) before n).0
+        (λ k d low q here. point.behind k d low q (shown_place unit q (place_of (get_or before k d)) here)) m
+        (sym (shown.places unit) ∙ is);
+    ahead = (all_at_least unit after n).0
+        (λ k d low q here. point.ahead k d low q (shown_place unit q (place_of (get_or after k d)) here));
+  }
+
+  pub point_of_within : n ≤ length h → IsWithin (span_of p after unit) n → IsPoint before after unit h n
+  point_of_within there within = record {
+    there = there;
+    behind = λ k d low q named. (all_below (place_in unit) before n).1 (λ m is. within.behind m (shown.places unit ∙ is)) k d low q
+        (place_shown unit q (get_or before k d) named);
+    ahead = λ k d low q named. (all_at_least unit after n).1 within.ahead k d low q (place_shown unit q (get_or after k d) named);
+  }
+
+-- ---- the moments of a call
+-- the cause held of the unit, of what it held at the opening and of these entries
+abbrev pub HeldThen : Report → List (List Held) → Op → Cause → ℕ → State → List Entry → Type 0
+HeldThen r records op cause unit base h =
+    IsCause r.layout.slots op (records_in records unit) cause (facts_after (clock_of_cause cause) base h)
+
+module _ (r : Report) (records : List (List Held)) (before after : List Outcome) (p : Progress) (op : Op) (cause : Cause)
+    (shown : HasShown r.histories before p) where
+  moment : HasMoment r records p after op cause → SomeMoment r before after op (HeldThen r records op cause)
+  moment m =
+      let some = m.some in
+      let entries : length (take some.point m.history) ≡ some.point =
+      (let there = some.there in omega (arith, length-take some.point m.history)) in
+      record {
+        unit = m.unit;
+        of_unit = m.of_unit;
+        base = m.base;
+        opened = m.opened;
+        history = m.history;
+        kept = m.kept;
+        point = some.point;
+        is_point =
+            point_of_within r.histories before after p shown m.unit m.history some.point some.there
+            (subst (IsWithin (span_of p after m.unit)) entries some.fits.within);
+        held = some.fits.held;
+      }
+
+  moment_back : SomeMoment r before after op (HeldThen r records op cause) → HasMoment r records p after op cause
+  moment_back m =
+      let entries : m.point ≡ length (take m.point m.history) =
+      (let there = m.is_point.there in omega (arith, length-take m.point m.history)) in
+      record {
+        unit = m.unit;
+        of_unit = m.of_unit;
+        base = m.base;
+        opened = m.opened;
+        history = m.history;
+        kept = m.kept;
+        some = record {
+          point = m.point;
+          there = m.is_point.there;
+          fits = record {
+            within =
+                subst (IsWithin (span_of p after m.unit)) entries
+                (within_of_point r.histories before after p shown m.unit m.history m.point m.is_point);
+            held = m.held;
+          };
+        };
+      }
+
+  pub moments : HasMoment r records p after op cause ↔ SomeMoment r before after op (HeldThen r records op cause)
+  moments = (moment, moment_back)
+
+-- a unit, its base and its history are known
+pub known_moment :
+    (r : Report) (records : List (List Held)) (p : Progress) (after : List Outcome) (op : Op) (cause : Cause) (unit : ℕ) (base : State)
+    (h : List Entry) (b : Bool) → unit_of_op r.layout op ≡ Some unit → slice_get r.base unit ≡ Some base
+    → slice_get r.histories unit ≡ Some h
+    → (IsTrue b ↔ SomePoint base h (span_of p after unit) (case_of r op cause) (records_in records unit))
+    → IsTrue b ↔ HasMoment r records p after op cause
+known_moment r records p after op cause unit base h b of_unit opened kept says = (
+  λ yes. record { unit = unit; of_unit = of_unit; base = base; opened = opened; history = h; kept = kept; some = says.0 yes },
+  λ m. says.1
+      (let same : m.unit ≡ unit = same_Some m.unit unit (sym m.of_unit ∙ of_unit) in
+      let base_same : m.base ≡ base = same_Some m.base base (sym m.opened ∙ ap (slice_get r.base) same ∙ opened) in
+      let history_same : m.history ≡ h = same_Some m.history h (sym m.kept ∙ ap (slice_get r.histories) same ∙ kept) in
+      subst (λ (t : ℕ × State × List Entry). SomePoint t.1 t.2 (span_of p after t.0) (case_of r op cause) (records_in records t.0))
+      (λ i. (same i, base_same i, history_same i)) m.some),
+)
+
+-- a point is told of equal things
+pub same_points :
+    (base : State) (h g : List Entry) (s t : Span) (c d : Case) (rs qs : List Held) (b : Bool) → h ≡ g → s ≡ t → c ≡ d → rs ≡ qs
+    → (IsTrue b ↔ SomePoint base h s c rs) → IsTrue b ↔ SomePoint base g t d qs
+same_points base h g s t c d rs qs b history span case records says =
+    subst (λ (x : List Entry × Span × Case × List Held). IsTrue b ↔ SomePoint base x.0 x.1 x.2 x.3)
+    (λ i. (history i, span i, case i, records i)) says
+
+-- what a list has at a place, in another form
+pub map_there :
+    {A B : Type 0} (f : A → B) (xs : List A) (k : ℕ) (x : A) → slice_get xs k ≡ Some x → slice_get (map f xs) k ≡ Some (f x)
+map_there f [] k x there = absurd cc
+map_there f (y ∷ xs) zero x there = ap (λ z. Some (f z)) (same_Some y x there)
+map_there f (y ∷ xs) (suc k) x there = map_there f xs k x there

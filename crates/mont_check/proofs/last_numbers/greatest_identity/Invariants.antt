@@ -1,0 +1,6 @@
+use Rattle.std.proofs.Common.{◌≡◌, take}
+use Rattle.job_text.specs.Causes.{greatest_by, identity_of}
+use Rattle.mont_check.proofs.last_numbers.greatest_identity.Given as goal
+
+abbrev pub invariant-loop-held : goal.invariant-loop-held
+invariant-loop-held l = l.greatest ≡ greatest_by identity_of (take l.held-index l.records)
