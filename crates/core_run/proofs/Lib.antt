@@ -1,12 +1,3 @@
 pub mod AllowedSteps
-pub mod Completions
 pub mod FlushPlaces
-pub mod Judged
-pub mod NewestRecords
 pub mod NotesFit
-pub mod NumberedRecords
-pub mod RowSteps
-pub mod SameNewest
-pub mod ShownStates
-pub mod StoreCases
-pub mod Zips

@@ -1,6 +1,6 @@
 -- What a note has seen, unit by unit, and the fronts of a caller that hears it.
-use Rattle.std.proofs.Common.{◌≡◌, ℕ, zero, suc, ◌<◌, List, [], ◌∷◌, length, take, map, set, get_or, sym, refl, ap, ◌∙◌, subst, arith}
-use Rattle.std.specs.Prelude.{slice_get, Some, max}
+use Rattle.std.proofs.Common.{◌≡◌, ℕ, zero, suc, ◌<◌, List, [], ◌∷◌, length, take, set, get_or, sym, refl, ap, ◌∙◌, subst, arith}
+use Rattle.std.specs.Prelude.{max}
 use Rattle.std.proofs.lemmas.List.{length-map}
 use Rattle.mont_base.specs.Seen.{FrontFits, FitsHistories}
 use Rattle.core_steps.specs.declared.parts.UnitPart.{UnitPart}

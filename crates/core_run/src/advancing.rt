@@ -4,7 +4,7 @@ ghost use Rattle.std.specs.List.{list_any};
 ghost use Rattle.core_steps.specs.Advancing.{can_check, unit_at_hand, lets_pass, is_odd, past_unit, after_check, is_clocked, with_odd};
 ghost use Rattle.core_steps.specs.Events.{after};
 
-use crate::core_words::{clock, store, word};
+use core_answer::core_words::{clock, store, word};
 use core_steps::{AdvPart, Core, Event};
 use mont_base::{Epoch, LAST, Sequence, Unit};
 use std::alloc::AllocError;

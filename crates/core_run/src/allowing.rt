@@ -7,13 +7,13 @@ ghost use Rattle.core_run.specs.Stepping.{AnswersCaller};
 
 use crate::advancing::{can_check, is_clocked};
 use crate::announcing::{can_confirm, can_freeze, can_look, can_tell, can_withdraw};
-use crate::answering::{can_leave, can_read};
 use crate::closing::{can_close, can_load_durable, can_persist_close};
-use crate::core_words::clock;
 use crate::flushing::{can_load_word, can_persist_word, is_flushed};
 use crate::hearing::is_true_note;
-use crate::stages::is_unfrozen;
-use crate::storing::can_store;
+use core_answer::answering::{can_leave, can_read};
+use core_answer::core_words::clock;
+use core_answer::stages::is_unfrozen;
+use core_answer::storing::can_store;
 use core_steps::{Core, Event, Part, UnitPart};
 use std::alloc::{AllocError, Global};
 

@@ -5,8 +5,8 @@ ghost use Rattle.mont_base.specs.declared.constants.TheConstants.{LAST};
 ghost use Rattle.core_steps.specs.Announcing.{can_look, can_tell, confirmed, can_confirm, has_stored, can_withdraw, can_freeze, made_odd};
 ghost use Rattle.core_steps.specs.Events.{after};
 
-use crate::core_words::{clock, store, word};
-use crate::stages::{is_idle, is_told, is_unfrozen, is_within};
+use core_answer::core_words::{clock, store, word};
+use core_answer::stages::{is_idle, is_told, is_unfrozen, is_within};
 use core_steps::{Core, Event, UnitPart, UnitStage};
 use mont_base::{Epoch, FIRST_CLOCK, LAST, Unit};
 use std::alloc::AllocError;

@@ -5,9 +5,9 @@ ghost use Rattle.core_steps.specs.Closing.{can_load_durable, CanClose, IsDueNow,
 ghost use Rattle.core_steps.specs.Events.{after, loaded_durable, closing_of};
 ghost use Rattle.core_run.specs.Stepping.{LoadsLonger};
 
-use crate::core_words::{durable_clock, store_slot_word};
-use crate::lists::{assign, taken};
-use crate::stages::{is_idle, is_unfrozen};
+use core_answer::core_words::{durable_clock, store_slot_word};
+use core_answer::lists::{assign, taken};
+use core_answer::stages::{is_idle, is_unfrozen};
 use core_steps::{CallerPart, Core, Event, Part, Retired, UnitPart, UnitStage};
 use mont_base::{Epoch, Held, Sequence, Slot, Unit};
 use std::alloc::{AllocError, Global};

@@ -3,7 +3,7 @@ ghost use Rattle.std.specs.Prelude.{◌≡◌, ◌+◌, ◌++◌, length, slice_
 ghost use Rattle.core_steps.specs.Flushing.{unit_list, flush_list, can_load_word, can_persist_word, is_flushed, behind_field};
 ghost use Rattle.core_steps.specs.Events.{after};
 
-use crate::core_words::{clock, slot_word, store_slot_word};
+use core_answer::core_words::{clock, slot_word, store_slot_word};
 use core_steps::{AdvPart, Core, Event, UnitPart};
 use mont_base::{Epoch, FIELDS, Slot};
 use std::alloc::{AllocError, Global};

@@ -7,7 +7,7 @@ ghost use Rattle.core_steps.specs.Notes.{histories_of, cuts_of, IsTrueMark, IsTr
 ghost use Rattle.core_run.specs.Hearing.{FitsUnit};
 ghost use Rattle.core_run.specs.Stepping.{JoinsLonger};
 
-use crate::core_words::{clock, durable_clock, store, word};
+use core_answer::core_words::{clock, durable_clock, store, word};
 use core_steps::{CallerPart, Core, Mark, Note, Part, UnitPart};
 use mont_base::{Entry, Epoch, Sequence, Unit};
 use std::alloc::{AllocError, Global};

@@ -5,21 +5,11 @@
 mod advancing;
 mod allowing;
 mod announcing;
-mod answering;
 mod closing;
-mod core_words;
 mod flushing;
 mod hearing;
-mod judging;
-mod lists;
-mod newest;
 mod notes;
-mod stages;
 mod stepping;
-mod storing;
-mod superseding;
-mod unfinished;
-mod written;
 
 pub use allowing::allowed;
 pub use flushing::flush_list;

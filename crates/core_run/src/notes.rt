@@ -3,8 +3,8 @@ ghost use Rattle.std.specs.Prelude.{◌≡◌, IfOk, length};
 ghost use Rattle.core_steps.specs.Clock.{durable_clock};
 ghost use Rattle.core_steps.specs.Notes.{note_of, unit_note, advancer_note, caller_note, last_epoch, mark_of};
 
-use crate::core_words::durable_clock;
-use crate::lists::{copied, zeros};
+use core_answer::core_words::durable_clock;
+use core_answer::lists::{copied, zeros};
 use core_steps::{CallerPart, Core, Mark, Note, Part, UnitPart};
 use mont_base::{Entry, Epoch, Sequence, Unit};
 use std::alloc::{AllocError, Global};

@@ -7,11 +7,11 @@ ghost use Rattle.core_run.specs.Stepping.{MakesLonger, TakesMemory};
 use crate::advancing::{check, persist_clock, set_clock};
 use crate::allowing::allowed;
 use crate::announcing::{confirm, freeze, tell, withdraw};
-use crate::answering::{leave, read};
 use crate::closing::{close_label, load_durable, persist_close};
 use crate::flushing::{load_word, persist_word};
 use crate::hearing::join;
-use crate::storing::store;
+use core_answer::answering::{leave, read};
+use core_answer::storing::store;
 use core_steps::{Core, Event};
 use std::alloc::{AllocError, Global};
 

@@ -1,7 +1,7 @@
 use Rattle.std.proofs.Common.{List, rules}
 use Rattle.std.proofs.lemmas.Result.{err_from_is_err_and}
 use Rattle.core_steps.specs.declared.parts.CallerPart.{CallerPart}
-use Rattle.core_run.proofs.RowSteps.{put_back}
+use Rattle.core_answer.proofs.RowSteps.{put_back}
 use Rattle.core_run.proofs.closing.load_durable.Goals as goal
 
 pub returns-in_err-see_durable-in-Caller-clause-err : goal.returns-in_err-see_durable-in-Caller-clause-err

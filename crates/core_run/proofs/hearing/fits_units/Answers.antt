@@ -1,4 +1,4 @@
-use Rattle.std.proofs.Common.{sym, refl, ◌∙◌, rules}
+use Rattle.std.proofs.Common.{sym, refl, ◌∙◌}
 use Rattle.plain.proofs.Each.{below_one_more, below_whole, each_at}
 use Rattle.core_run.specs.Hearing.{FitsUnit}
 use Rattle.core_run.proofs.NotesFit.{seen_fits, fits_seen, as_many_fronts}

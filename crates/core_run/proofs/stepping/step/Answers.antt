@@ -1,4 +1,4 @@
-use Rattle.std.proofs.Common.{rules, subst, sym}
+use Rattle.std.proofs.Common.{subst, sym}
 use Rattle.core_steps.specs.Sound.{IsSound}
 use Rattle.core_steps.proofs.Steps.{allowed_law}
 use Rattle.core_run.proofs.stepping.step.Goals as goal

@@ -1,0 +1,9 @@
+pub mod Completions
+pub mod Judged
+pub mod NewestRecords
+pub mod NumberedRecords
+pub mod RowSteps
+pub mod SameNewest
+pub mod ShownStates
+pub mod StoreCases
+pub mod Zips

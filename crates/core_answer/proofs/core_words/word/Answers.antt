@@ -1,0 +1,6 @@
+use Rattle.std.proofs.Common.{arith}
+use Rattle.std.proofs.lemmas.Option.{unwrap_or-slice_get}
+use Rattle.core_answer.proofs.core_words.word.Goals as goal
+
+pub returns : goal.returns
+returns c = grind (arith, unwrap_or-slice_get)

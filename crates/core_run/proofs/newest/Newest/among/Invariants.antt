@@ -1,8 +1,0 @@
-use Rattle.std.proofs.Common.{take}
-use Rattle.std.specs.BTreeMap.{values}
-use Rattle.core_run.specs.Newest.{HaveSameNewest}
-use Rattle.core_run.proofs.newest.Newest.among.Given as goal
-
--- the newest of the records so far
-abbrev pub invariant-loop-held : goal.invariant-loop-held
-invariant-loop-held l = HaveSameNewest (values l.newest.records) (take l.held-index l.records)

@@ -1,8 +1,0 @@
-use Rattle.std.proofs.Common.{sym, ◌∙◌, rules}
-use Rattle.core_run.proofs.NewestRecords.{newest_kept}
-use Rattle.core_run.proofs.newest.Newest.get.Goals as goal
-
-pub returns : goal.returns
-returns c =
-    c.copied.ensures ∙ c.get.ensures.value
-    ∙ sym (newest_kept c.args.self.now.records c.len-records.ensures.ordered c.args.self.now.keyed c.args.identity)
