@@ -1,0 +1,84 @@
+-- What the fields of a ticket are once it has taken a note.
+use Rattle.std.proofs.Common.{◌≡◌, ℕ, zero, suc, ◌+◌, ◌*◌, ◌<◌, ◌≤◌, List, [], ◌∷◌, length, set, get_or, replicate, length-set, refl, ap, sym, ◌∙◌, subst, arith}
+use Rattle.std.specs.Prelude.{max}
+use Rattle.atomic_table.specs.Seated.{TableId}
+use Rattle.core_steps.specs.Notes.{greater_fronts, last_epoch}
+use Rattle.heap_rule.specs.declared.views.AdvHeld.{AdvHeld}
+use Rattle.heap_rule.specs.declared.views.CallerHeld.{CallerHeld}
+use Rattle.heap_rule.specs.declared.views.NoteHeld.{NoteHeld}
+use Rattle.heap_rule.specs.declared.views.UnitHeld.{UnitHeld}
+use Rattle.heap_rule.specs.Views.{Seated, caller_view, the_caller, note_of_unit, note_of_advancer, caller_heard}
+use Rattle.heap.specs.HeapShown.{IsCaller, Counts}
+
+-- no front rises by fronts of 0
+greater_none : (ns : List ℕ) → greater_fronts ns (replicate (length ns) 0) ≡ ns
+greater_none [] = refl
+greater_none (n ∷ ns) = λ i. largest n i ∷ greater_none ns i
+  where
+    largest : (n : ℕ) → max n 0 ≡ n
+    largest n = omega arith
+
+-- and one does by one
+greater_one : (ns : List ℕ) (u m : ℕ) → u < length ns
+    → greater_fronts ns (set (replicate (length ns) 0) u m) ≡ set ns u (max (get_or ns u 0) m)
+greater_one [] u m l = absurd (omega arith)
+greater_one (n ∷ ns) zero m l = λ i. max n m ∷ greater_none ns i
+greater_one (n ∷ ns) (suc u) m l = λ i. largest n i ∷ greater_one ns u m (omega arith) i
+  where
+    largest : (n : ℕ) → max n 0 ≡ n
+    largest n = omega arith
+
+length-greater : (ns ms : List ℕ) → length (greater_fronts ns ms) ≡ length ns
+length-greater [] ms = refl
+length-greater (n ∷ ns) [] = refl
+length-greater (n ∷ ns) (m ∷ ms) = ap suc (length-greater ns ms)
+
+module _ (t : TableId) (number : ℕ) (counts : Counts) (fronts synced : List ℕ) (m : Seated)
+    (k : IsCaller t number counts fronts synced m) where
+  abbrev hearer : CallerHeld
+  hearer = the_caller m.0
+
+  pub heard_keeps : (r : TableId) (n : Seated) (note : NoteHeld) (more : List ℕ) (newest durable : ℕ) → r ≡ t
+      → more ≡ greater_fronts fronts note.note.fronts → newest ≡ max counts.newest note.note.newest
+      → durable ≡ max counts.durable note.note.durable → n ≡ (caller_view (caller_heard hearer note), [])
+      → IsCaller r number (record { calls = counts.calls; newest = newest; durable = durable }) more synced n
+  heard_keeps r n note more newest durable same fronts_are newest_is durable_is is = subst
+      (λ (z : TableId × Seated). IsCaller z.0 number (record { calls = counts.calls; newest = newest; durable = durable }) more synced
+      z.1)
+      (λ j. (sym same j, sym is j))
+      (let long : length more ≡ length fronts = ap length fronts_are ∙ length-greater fronts note.note.fronts in record {
+        whole = refl;
+        number_is = k.number_is;
+        calls_are = k.calls_are;
+        newest_is = newest_is ∙ ap (λ (x : ℕ). max x note.note.newest) k.newest_is;
+        durable_is = durable_is ∙ ap (λ (x : ℕ). max x note.note.durable) k.durable_is;
+        fronts_are = fronts_are ∙ ap (λ (x : List ℕ). greater_fronts x note.note.fronts) k.fronts_are;
+        synced_are = k.synced_are;
+        as_many = k.as_many ∙ sym long;
+        slots = k.slots ∙ ap (λ (x : ℕ). 2 * x) (sym long);
+      })
+
+  -- of a unit
+  pub unit_heard : (r : TableId) (n : Seated) (h : UnitHeld) (unit entries newest durable : ℕ) (more : List ℕ) (now later : ℕ) → r ≡ t
+      → unit ≡ h.unit → unit < length fronts → entries ≡ length h.part.history → newest ≡ last_epoch h.part.history
+      → durable ≡ h.part.durable → n ≡ (caller_view (caller_heard hearer (note_of_unit (length hearer.part.fronts) h)), [])
+      → more ≡ set fronts unit (max (get_or fronts unit 0) entries) → now ≡ max counts.newest newest
+      → later ≡ max counts.durable durable
+      → IsCaller r number (record { calls = counts.calls; newest = now; durable = later }) more synced n
+  unit_heard r n h unit entries newest durable more now later same of_unit inside entries_are newest_is durable_is is more_is now_is
+      later_is =
+      heard_keeps r n (note_of_unit (length hearer.part.fronts) h) more now later same
+      (more_is ∙ ((λ j. set fronts (of_unit j) (max (get_or fronts (of_unit j) 0) (entries_are j)))
+      ∙ (sym (greater_one fronts h.unit (length h.part.history) (subst (λ (x : ℕ). x < length fronts) of_unit inside))
+      ∙ (λ j. greater_fronts fronts (set (replicate (length (k.fronts_are j)) 0) h.unit (length h.part.history))))))
+      (now_is ∙ ap (max counts.newest) newest_is) (later_is ∙ ap (max counts.durable) durable_is) is
+
+  -- and of the advancer
+  pub advancer_heard : (r : TableId) (n : Seated) (a : AdvHeld) (durable later : ℕ) → r ≡ t → durable ≡ a.durable
+      → n ≡ (caller_view (caller_heard hearer (note_of_advancer (length hearer.part.fronts) a)), [])
+      → later ≡ max counts.durable durable
+      → IsCaller r number (record { calls = counts.calls; newest = counts.newest; durable = later }) fronts synced n
+  advancer_heard r n a durable later same durable_is is later_is =
+      heard_keeps r n (note_of_advancer (length hearer.part.fronts) a) fronts counts.newest later same
+      (sym (greater_none fronts) ∙ (λ j. greater_fronts fronts (replicate (length (k.fronts_are j)) 0)))
+      (omega arith) (later_is ∙ ap (max counts.durable) durable_is) is

@@ -1,0 +1,38 @@
+use Rattle.std.proofs.Common.{rules, ap, sym, refl, arith, ◌∙◌}
+use Rattle.heap_rule.specs.Views.{the_advancer}
+use Rattle.heap_rule.proofs.SeatPlays.{splits_whole, splits_callers, joins_heard_advancer_as}
+use Rattle.heap.proofs.HeardSeats.{advancer_heard}
+use Rattle.heap.proofs.SeatTables.{advancer_table, caller_table}
+use Rattle.heap.proofs.heap.Heap.hear_advancer.Goals as goal
+
+pub split_seat-whole-requires : goal.split_seat-whole-requires
+split_seat-whole-requires c =
+    let words = c.self.invariant.words in
+    (caller_table _ _ _ _ c.ticket.view_is c.requires.ticket c.self.view_is, omega (arith, words), splits_whole _ _ _)
+
+pub join_seat-requires : goal.join_seat-requires
+join_seat-requires c =
+    let words = c.self.invariant.words in
+    let w = c.split_seat-whole.ensures in (
+      advancer_table _ _ _ _ c.seat.view_is c.requires.heap c.self.view_is,
+      w.3 ∙ caller_table _ _ _ _ c.ticket.view_is c.requires.ticket c.self.view_is,
+      ap (λ m. m.1) w.4,
+      omega (arith, words),
+      joins_heard_advancer_as _ _ _ _ _ _ _ (ap (λ m. m.0) c.seat.invariant.whole) (ap (λ m. m.0) w.4
+          ∙ ap (λ m. m.0) c.ticket.invariant.whole),
+    )
+
+pub split_seat-requires : goal.split_seat-requires
+split_seat-requires c =
+    let words = c.self.invariant.words in (
+      c.join_seat.ensures.0 ∙ advancer_table _ _ _ _ c.seat.view_is c.requires.heap c.self.view_is,
+      omega
+          (arith, words),
+      splits_callers _ _ _,
+    )
+
+pub invariant_of-ticket : goal.invariant_of-ticket
+invariant_of-ticket c =
+    let s = c.seat.invariant in
+    advancer_heard _ _ _ _ _ c.ticket.inside.seat.me c.ticket.invariant _ _ (the_advancer c.seat.inside.seat.me.0)
+    c.seat.inside.durable _ (search rules) s.durable_is (search rules) c.max-ticket-inside.ensures

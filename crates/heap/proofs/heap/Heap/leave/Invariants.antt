@@ -1,0 +1,4 @@
+use Rattle.heap.proofs.heap.Heap.leave.Given as goal
+
+abbrev pub ghosts-store_left : goal.ghosts-store_left
+ghosts-store_left g a = record { op = a.op.now; reply = a.reply.now }

@@ -1,0 +1,4 @@
+pub mod GateAsked
+pub mod HeapShown
+pub mod Receipts
+pub mod Opens

@@ -1,0 +1,215 @@
+// The steps by which the advancer passes the units, writes slots back, and moves the clock.
+ghost use Rattle.std.specs.Prelude.{◌≡◌, ◌<◌, List, ℕ, length, false, IsTrue, IfOk, OnOk, OnErr};
+ghost use Rattle.mont_base.specs.declared.constants.TheConstants.{LAST, FIELDS};
+ghost use Rattle.mont_base.specs.Layout.{units_of, total_of};
+ghost use Rattle.core_steps.specs.declared.parts.AdvPart.TheVariants.{Rest};
+ghost use Rattle.core_steps.specs.Advancing.{can_check, unit_at_hand, after_check, is_clocked};
+ghost use Rattle.core_steps.specs.Flushing.{can_load_word, can_persist_word, after_persist_word, is_flushed};
+ghost use Rattle.heap_rule.specs.Views.{are_clean, joined, holding, slot_at_hand, field_at_hand, word_in_hand, advancer_checked, advancer_loaded, advancer_persisted, advancer_set, advancer_rested};
+ghost use Rattle.heap.specs.GateAsked.{IsAskedOnce};
+
+use crate::heap::Heap;
+use crate::seats::AdvSeat;
+use core_steps::AdvPart;
+use heap_rule::{Checks, LoadsWord, PersistsClock, PersistsWord, SetsClock};
+use mont_base::{Cut, Epoch, FIELDS, Gate, Slot, Unit};
+
+impl Heap {
+    /// Loads the announcement of the unit at hand. Where it lets the advancer pass, the seat then
+    /// shows the unit's list for the epoch before the clock.
+    pub fn load_told<G: Gate>(&self, seat: &mut AdvSeat, gate: &mut G) -> Result<u64, Cut>
+        requires heap { seat.old.table ≡ self.now.table }
+        requires may { IsTrue (can_check seat.old.held.clock seat.old.held.part) }
+        requires clean { seat.old.held.part ≡ Rest
+            → IsTrue (are_clean (units_of self.now.opening.layout) seat.old.held.clean) }
+        ensures gate { IsAskedOnce G.cuts G.endless G.asked gate.old gate.new result }
+        ensures ok { IfOk result (λ word. (list : List ℕ) × (seat.new ≡ record {
+          table = seat.old.table;
+          held = advancer_checked seat.old.held word list;
+        })) }
+        ensures cut { OnErr result (seat.new ≡ seat.old) }
+    {
+        gate.step()?;
+        let place = self.announcement_at_hand(seat);
+        let found = self.table.shared.load::<Checks>(&mut seat.seat, place);
+        seat.part = checked(self.layout.units(), seat.clock, found, seat.part);
+        Ok(found)
+    }
+
+    /// Loads the word at hand: a field of the next slot that is to be written back.
+    pub fn load_word<G: Gate>(
+        &self,
+        seat: &mut AdvSeat,
+        slot: Slot,
+        gate: &mut G,
+    ) -> Result<u64, Cut>
+        requires heap { seat.old.table ≡ self.now.table }
+        requires may { IsTrue (can_load_word (length (joined seat.old.held.lists))
+            seat.old.held.part) }
+        requires slot { slot ≡ slot_at_hand seat.old.held }
+        requires inside { slot < total_of self.now.opening.layout }
+        ensures gate { IsAskedOnce G.cuts G.endless G.asked gate.old gate.new result }
+        ensures ok { IfOk result (λ word. seat.new
+            ≡ record { table = seat.old.table; held = advancer_loaded seat.old.held word }) }
+        ensures cut { OnErr result (seat.new ≡ seat.old) }
+    {
+        gate.step()?;
+        let place = self.current(slot, field(seat.part));
+        let found = self.table.shared.load::<LoadsWord>(&mut seat.seat, place);
+        seat.part = held(seat.part, found);
+        Ok(found)
+    }
+
+    /// Makes the loaded word durable.
+    pub fn persist_word<G: Gate>(
+        &self,
+        seat: &mut AdvSeat,
+        slot: Slot,
+        gate: &mut G,
+    ) -> Result<(), Cut>
+        requires heap { seat.old.table ≡ self.now.table }
+        requires may { IsTrue (can_persist_word seat.old.held.part) }
+        requires slot { slot ≡ slot_at_hand seat.old.held }
+        requires inside { slot < total_of self.now.opening.layout }
+        ensures gate { IsAskedOnce G.cuts G.endless G.asked gate.old gate.new result }
+        ensures ok { OnOk result (seat.new
+            ≡ record { table = seat.old.table; held = advancer_persisted seat.old.held }) }
+        ensures cut { OnErr result (seat.new ≡ seat.old) }
+    {
+        gate.step()?;
+        let place = self.durable(slot, field(seat.part));
+        let value = word(seat.part);
+        self.table
+            .shared
+            .store::<PersistsWord>(&mut seat.seat, place, value);
+        seat.part = persisted(seat.part);
+        Ok(())
+    }
+
+    /// Moves the clock on, once all is written back and every list is at home and empty.
+    pub fn set_clock<G: Gate>(&self, seat: &mut AdvSeat, gate: &mut G) -> Result<(), Cut>
+        requires heap { seat.old.table ≡ self.now.table }
+        requires may { IsTrue (is_flushed (length (joined seat.old.held.lists))
+            seat.old.held.part) }
+        requires empty { (seat.old.held.turn.emptied ≡ seat.old.held.units)
+            × (seat.old.held.turn.out ≡ false) }
+        ensures gate { IsAskedOnce G.cuts G.endless G.asked gate.old gate.new result }
+        ensures ok { OnOk result (seat.new
+            ≡ record { table = seat.old.table; held = advancer_set seat.old.held }) }
+        ensures last { OnOk result (seat.old.held.clock < LAST) }
+        ensures cut { OnErr result (seat.new ≡ seat.old) }
+    {
+        gate.step()?;
+        let next = seat.clock + 1;
+        self.table
+            .shared
+            .store::<SetsClock>(&mut seat.seat, 0, next);
+        seat.clock = next;
+        seat.emptied = 0;
+        seat.part = AdvPart::Clocked;
+        Ok(())
+    }
+
+    /// Makes the clock durable.
+    pub fn persist_clock<G: Gate>(&self, seat: &mut AdvSeat, gate: &mut G) -> Result<(), Cut>
+        requires heap { seat.old.table ≡ self.now.table }
+        requires may { IsTrue (is_clocked seat.old.held.part) }
+        ensures gate { IsAskedOnce G.cuts G.endless G.asked gate.old gate.new result }
+        ensures ok { OnOk result (seat.new
+            ≡ record { table = seat.old.table; held = advancer_rested seat.old.held }) }
+        ensures cut { OnErr result (seat.new ≡ seat.old) }
+    {
+        gate.step()?;
+        let place = self.durable_clock();
+        let clock = seat.clock;
+        self.table
+            .shared
+            .store::<PersistsClock>(&mut seat.seat, place, clock);
+        seat.durable = clock;
+        seat.part = AdvPart::Rest;
+        Ok(())
+    }
+}
+
+// The unit whose announcement is loaded next.
+pub(crate) fn unit(part: AdvPart) -> Unit
+    ensures { result ≡ unit_at_hand part }
+{
+    match part {
+        AdvPart::Checking { unit } => unit,
+        _ => 0,
+    }
+}
+
+// The part once the announcement was loaded.
+fn checked(units: u64, clock: Epoch, word: u64, part: AdvPart) -> AdvPart
+    requires { unit_at_hand part < units }
+    ensures { result ≡ after_check units clock word part }
+{
+    let unit = unit(part);
+    if word != 0 && word / 2 < clock {
+        return AdvPart::Checking { unit };
+    }
+    if unit + 1 < units {
+        AdvPart::Checking { unit: unit + 1 }
+    } else {
+        AdvPart::Flushing { done: 0, field: 0 }
+    }
+}
+
+// The field of the word at hand.
+fn field(part: AdvPart) -> u64
+    ensures { result ≡ field_at_hand part }
+{
+    match part {
+        AdvPart::Flushing { field, .. } | AdvPart::Holding { field, .. } => field,
+        _ => 0,
+    }
+}
+
+// The word that was loaded.
+fn word(part: AdvPart) -> u64
+    ensures { result ≡ word_in_hand part }
+{
+    match part {
+        AdvPart::Holding { value, .. } => value,
+        _ => 0,
+    }
+}
+
+// The part once the word was loaded.
+fn held(part: AdvPart, found: u64) -> AdvPart
+    ensures { result ≡ holding part found }
+{
+    match part {
+        AdvPart::Flushing { done, field } => AdvPart::Holding {
+            done,
+            field,
+            value: found,
+        },
+        other => other,
+    }
+}
+
+// The part once that word is durable.
+fn persisted(part: AdvPart) -> AdvPart
+    requires { field_at_hand part < FIELDS }
+    ensures { result ≡ after_persist_word part }
+{
+    match part {
+        AdvPart::Holding { done, field, .. } => {
+            if field + 1 < FIELDS as u64 {
+                AdvPart::Flushing {
+                    done,
+                    field: field + 1,
+                }
+            } else {
+                AdvPart::Flushing {
+                    done: done.saturating_add(1),
+                    field: 0,
+                }
+            }
+        }
+        other => other,
+    }
+}

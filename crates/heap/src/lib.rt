@@ -1,0 +1,21 @@
+//! The abstract machine of a store in one table of atomic words and slots, shared between threads.
+//!
+//! Each step call makes one load or one store of one word through a seat, and is one step of the
+//! machine. Each unit, the advancer and each caller has a seat of its own, which shows its part.
+#![tactic(auto)]
+
+mod answers;
+mod caller_steps;
+mod dealing;
+mod flush_calls;
+mod heap;
+mod list_calls;
+mod note_calls;
+mod opening;
+mod seats;
+mod store_calls;
+mod unit_calls;
+
+pub use heap::Heap;
+pub use opening::Seats;
+pub use seats::{AdvSeat, Ticket, UnitSeat};

@@ -1,0 +1,104 @@
+// Lists of slots, moved out of the table and back into it. No word changes, and no gate is asked.
+ghost use Rattle.std.specs.Prelude.{◌≡◌, ◌<◌, ◌++◌, [], true, false, IsTrue};
+ghost use Rattle.mont_base.specs.declared.constants.TheConstants.{MOST_UNITS};
+ghost use Rattle.core_steps.specs.Stages.{is_within, passed_of};
+ghost use Rattle.heap_rule.specs.Plays.{HasRoom, AreSlots};
+ghost use Rattle.heap_rule.specs.Views.{list_place, listed_in, slots_written, list_at, unit_took, unit_gave, advancer_took, advancer_gave};
+
+use crate::heap::Heap;
+use crate::seats::{AdvSeat, UnitSeat};
+use heap_rule::{GivesEmpty, GivesList, TakesFull, TakesList};
+use mont_base::{Epoch, SlotList, Unit};
+
+impl Heap {
+    /// Takes the unit's list of its epoch out: the slots of its records of this epoch, and what was
+    /// pushed. It has room for all that the unit has written.
+    pub fn take_list(&self, seat: &mut UnitSeat) -> SlotList
+        requires heap { seat.old.table ≡ self.now.table }
+        requires may { IsTrue (is_within seat.old.held.part.stage) }
+        requires home { seat.old.held.turn.out ≡ false }
+        ensures list { result ≡ record {
+          slots = listed_in seat.old.held ++ seat.old.held.turn.pushed;
+          room = seat.old.held.room;
+        } }
+        ensures room { HasRoom seat.old.held }
+        ensures out { seat.new
+            ≡ record { table = seat.old.table; held = unit_took seat.old.held } }
+    {
+        let place = place(seat.unit, seat.epoch);
+        self.table.shared.load::<TakesList>(&mut seat.seat, 0);
+        match self.table.shared.exchange(&mut seat.seat, place, None) {
+            Some(list) => list,
+            None => unreachable!(),
+        }
+    }
+
+    /// Gives the list back, with the unit's written slots pushed in their order.
+    pub fn give_list(&self, seat: &mut UnitSeat, list: SlotList)
+        requires heap { seat.old.table ≡ self.now.table }
+        requires may { IsTrue (is_within seat.old.held.part.stage) }
+        requires out { seat.old.held.turn.out ≡ true }
+        requires list { list ≡ record {
+          slots = listed_in seat.old.held ++ slots_written seat.old.held.part;
+          room = seat.old.held.room;
+        } }
+        ensures { seat.new ≡ record { table = seat.old.table; held = unit_gave seat.old.held } }
+    {
+        let place = place(seat.unit, seat.epoch);
+        let _ = self
+            .table
+            .shared
+            .exchange(&mut seat.seat, place, Some(list));
+        self.table.shared.load::<GivesList>(&mut seat.seat, 0);
+    }
+
+    /// Takes out the full list of the next unit, which was passed.
+    pub fn take_full(&self, seat: &mut AdvSeat, unit: Unit) -> SlotList
+        requires heap { seat.old.table ≡ self.now.table }
+        requires next { unit ≡ seat.old.held.turn.emptied }
+        requires inside { unit < seat.old.held.units }
+        requires passed { unit < passed_of seat.old.held.units seat.old.held.part }
+        requires home { seat.old.held.turn.out ≡ false }
+        ensures list { result ≡ record {
+          slots = list_at seat.old.held.lists unit;
+          room = seat.old.held.room;
+        } }
+        ensures slots { AreSlots seat.old.held (list_at seat.old.held.lists unit) }
+        ensures out { seat.new
+            ≡ record { table = seat.old.table; held = advancer_took seat.old.held } }
+    {
+        let place = place(unit, seat.clock + 1);
+        self.table.shared.load::<TakesFull>(&mut seat.seat, 0);
+        match self.table.shared.exchange(&mut seat.seat, place, None) {
+            Some(list) => list,
+            None => unreachable!(),
+        }
+    }
+
+    /// Gives it back empty.
+    pub fn give_empty(&self, seat: &mut AdvSeat, unit: Unit, list: SlotList)
+        requires heap { seat.old.table ≡ self.now.table }
+        requires next { unit ≡ seat.old.held.turn.emptied }
+        requires inside { unit < seat.old.held.units }
+        requires out { seat.old.held.turn.out ≡ true }
+        requires empty { list ≡ record { slots = []; room = seat.old.held.room } }
+        ensures { seat.new
+            ≡ record { table = seat.old.table; held = advancer_gave seat.old.held } }
+    {
+        let place = place(unit, seat.clock + 1);
+        let _ = self
+            .table
+            .shared
+            .exchange(&mut seat.seat, place, Some(list));
+        self.table.shared.load::<GivesEmpty>(&mut seat.seat, 0);
+        seat.emptied += 1;
+    }
+}
+
+// The slot of the table in which a unit's list for an epoch stands.
+fn place(unit: Unit, epoch: Epoch) -> usize
+    requires { unit < MOST_UNITS }
+    ensures { result ≡ list_place unit epoch }
+{
+    (2 * unit + epoch % 2) as usize
+}

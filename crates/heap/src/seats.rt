@@ -1,0 +1,138 @@
+// The seats: tokens of the table, with the numbers that their holders need.
+ghost use Rattle.std.specs.Prelude.{◌≡◌, ◌<◌, length, slice_get, Some};
+ghost use Rattle.heap_rule.specs.Views.{odd_announcement};
+
+use atomic_table::Seat;
+use core_steps::AdvPart;
+use heap_rule::{Cell, View};
+use mont_base::{Epoch, Sequence, Unit};
+use std::marker::Model;
+
+/// The seat of a unit. There is one for each.
+#[derive(Drop)]
+pub struct UnitSeat {
+    pub(crate) seat: Seat<Cell, View>,
+    pub(crate) unit: Unit,
+    // The epoch that is announced, and 0 where none is.
+    pub(crate) epoch: Epoch,
+    // How many entries the unit's history has, and the epoch of the last.
+    pub(crate) entries: u64,
+    pub(crate) newest: Epoch,
+    pub(crate) durable: Epoch,
+}
+
+impl Model for UnitSeat {
+    ghost use Rattle.heap_rule.specs.Views.{the_unit};
+    ghost use Rattle.heap.specs.HeapShown.{UnitShown, IsUnit};
+
+    ghost Value = { UnitShown };
+
+    ghost view = { λ s. record { table = s.seat.table_id; held = the_unit s.seat.me.0 } };
+
+    ghost invariant = { λ s. IsUnit s.seat.table_id s.unit s.epoch s.entries s.newest s.durable s.seat.me };
+}
+
+/// The seat of the advancer.
+#[derive(Drop)]
+pub struct AdvSeat {
+    pub(crate) seat: Seat<Cell, View>,
+    pub(crate) part: AdvPart,
+    pub(crate) clock: Epoch,
+    pub(crate) durable: Epoch,
+    // How many units' lists were given back empty.
+    pub(crate) emptied: Unit,
+}
+
+impl Model for AdvSeat {
+    ghost use Rattle.heap_rule.specs.Views.{the_advancer};
+    ghost use Rattle.heap.specs.HeapShown.{AdvShown, IsAdvancer};
+
+    ghost Value = { AdvShown };
+
+    ghost view = { λ s. record { table = s.seat.table_id; held = the_advancer s.seat.me.0 } };
+
+    ghost invariant = { λ s. IsAdvancer s.seat.table_id s.part s.clock s.durable s.emptied s.seat.me };
+}
+
+/// The seat of a caller.
+#[derive(Drop)]
+pub struct Ticket {
+    pub(crate) seat: Seat<Cell, View>,
+    pub(crate) number: u64,
+    pub(crate) calls: u64,
+    pub(crate) fronts: Sequence<u64>,
+    pub(crate) synced: Sequence<u64>,
+    pub(crate) newest: Epoch,
+    pub(crate) durable: Epoch,
+}
+
+impl Model for Ticket {
+    ghost use Rattle.heap_rule.specs.Views.{the_caller};
+    ghost use Rattle.heap.specs.HeapShown.{CallerShown, IsCaller, Counts};
+
+    ghost Value = { CallerShown };
+
+    ghost view = { λ s. record { table = s.seat.table_id; held = the_caller s.seat.me.0 } };
+
+    ghost invariant = { λ s. IsCaller s.seat.table_id s.number (record { calls = s.calls; newest = s.newest; durable = s.durable }) s.fronts s.synced s.seat.me };
+}
+
+impl UnitSeat {
+    /// The unit's number.
+    pub fn unit(&self) -> Unit
+        ensures { result ≡ self.now.held.unit }
+    {
+        self.unit
+    }
+
+    // What it announces once a caller was cut in it.
+    pub(crate) fn odd(&self) -> u64
+        ensures { result ≡ odd_announcement self.now.held.part.stage }
+    {
+        if self.epoch == 0 {
+            0
+        } else {
+            2 * self.epoch + 1
+        }
+    }
+}
+
+impl Ticket {
+    /// The caller's number.
+    pub fn number(&self) -> u64
+        ensures { result ≡ self.now.held.caller }
+    {
+        self.number
+    }
+
+    /// How many of its calls were answered.
+    pub fn calls(&self) -> u64
+        ensures { result ≡ self.now.held.part.calls }
+    {
+        self.calls
+    }
+
+    /// The newest epoch that it has seen; 0 at first.
+    pub fn newest(&self) -> Epoch
+        ensures { result ≡ self.now.held.part.newest }
+    {
+        self.newest
+    }
+
+    /// How many entries of the unit it has seen.
+    pub fn front(&self, unit: Unit) -> u64
+        requires { unit < length self.now.held.part.fronts }
+        ensures { slice_get self.now.held.part.fronts unit ≡ Some result }
+    {
+        self.fronts.as_slice()[unit as usize]
+    }
+
+    /// The front that it had in the unit when it last loaded a durable clock at least 2 above its
+    /// newest epoch; 0 before.
+    pub fn synced(&self, unit: Unit) -> u64
+        requires { unit < length self.now.held.part.synced }
+        ensures { slice_get self.now.held.part.synced unit ≡ Some result }
+    {
+        self.synced.as_slice()[unit as usize]
+    }
+}

@@ -1,0 +1,90 @@
+// The steps by which a unit writes a record into a slot, and closes a slot that isn't needed.
+ghost use Rattle.std.specs.Prelude.{◌≡◌, ◌<◌, OnOk, OnErr};
+ghost use Rattle.mont_base.specs.Layout.{total_of};
+ghost use Rattle.core_steps.specs.Storing.{IsFreeSlot, CanStore};
+ghost use Rattle.core_steps.specs.Closing.{CanClose, CanPersistClose};
+ghost use Rattle.heap_rule.specs.Views.{unit_wrote, unit_closed, unit_persisted};
+ghost use Rattle.heap.specs.GateAsked.{IsAskedOnce};
+
+use crate::heap::Heap;
+use crate::seats::UnitSeat;
+use heap_rule::{ClosesLabel, PersistsClose, Stores};
+use mont_base::{Cut, Gate, Slot};
+
+impl Heap {
+    /// Stores a field of the record that the unit writes: the fields from the second on in their
+    /// order, and the label's epoch last.
+    pub fn store_word<G: Gate>(
+        &self,
+        seat: &mut UnitSeat,
+        slot: Slot,
+        field: u64,
+        value: u64,
+        gate: &mut G,
+    ) -> Result<(), Cut>
+        requires heap { seat.old.table ≡ self.now.table }
+        requires may { CanStore
+            (IsFreeSlot self.now.opening.layout seat.old.held.unit seat.old.held.part slot)
+            seat.old.held.unit seat.old.held.part slot field value }
+        requires slot { slot < total_of self.now.opening.layout }
+        ensures gate { IsAskedOnce G.cuts G.endless G.asked gate.old gate.new result }
+        ensures ok { OnOk result (seat.new ≡ record {
+          table = seat.old.table;
+          held = unit_wrote seat.old.held slot field value;
+        }) }
+        ensures cut { OnErr result (seat.new ≡ seat.old) }
+    {
+        gate.step()?;
+        let place = self.current(slot, field);
+        self.table
+            .shared
+            .store::<Stores>(&mut seat.seat, place, value);
+        Ok(())
+    }
+
+    /// Closes the label of the first retired slot, which is due, or of the first lost one.
+    pub fn close_label<G: Gate>(
+        &self,
+        seat: &mut UnitSeat,
+        slot: Slot,
+        gate: &mut G,
+    ) -> Result<(), Cut>
+        requires heap { seat.old.table ≡ self.now.table }
+        requires may { CanClose seat.old.held.part slot }
+        requires slot { slot < total_of self.now.opening.layout }
+        ensures gate { IsAskedOnce G.cuts G.endless G.asked gate.old gate.new result }
+        ensures ok { OnOk result (seat.new
+            ≡ record { table = seat.old.table; held = unit_closed seat.old.held slot }) }
+        ensures cut { OnErr result (seat.new ≡ seat.old) }
+    {
+        gate.step()?;
+        let place = self.current(slot, 0);
+        self.table
+            .shared
+            .store::<ClosesLabel>(&mut seat.seat, place, 0);
+        Ok(())
+    }
+
+    /// Makes the closed label durable. The slot is then free.
+    pub fn persist_close<G: Gate>(
+        &self,
+        seat: &mut UnitSeat,
+        slot: Slot,
+        gate: &mut G,
+    ) -> Result<(), Cut>
+        requires heap { seat.old.table ≡ self.now.table }
+        requires may { CanPersistClose seat.old.held.part slot }
+        requires slot { slot < total_of self.now.opening.layout }
+        ensures gate { IsAskedOnce G.cuts G.endless G.asked gate.old gate.new result }
+        ensures ok { OnOk result (seat.new
+            ≡ record { table = seat.old.table; held = unit_persisted seat.old.held slot }) }
+        ensures cut { OnErr result (seat.new ≡ seat.old) }
+    {
+        gate.step()?;
+        let place = self.durable(slot, 0);
+        self.table
+            .shared
+            .store::<PersistsClose>(&mut seat.seat, place, 0);
+        Ok(())
+    }
+}

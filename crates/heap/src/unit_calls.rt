@@ -1,0 +1,104 @@
+// The steps by which a unit looks at the clock and announces an epoch.
+ghost use Rattle.std.specs.Prelude.{◌≡◌, max, IsTrue, IfOk, OnOk, OnErr};
+ghost use Rattle.mont_base.specs.Layout.{units_of};
+ghost use Rattle.core_steps.specs.Stages.{is_idle};
+ghost use Rattle.core_steps.specs.Announcing.{can_look, can_tell, can_confirm, can_withdraw};
+ghost use Rattle.core_steps.specs.Closing.{can_load_durable};
+ghost use Rattle.heap_rule.specs.Plays.{IsClock, IsDurable};
+ghost use Rattle.heap_rule.specs.Views.{are_clean, home_turn, unit_looked, unit_told, unit_confirmed, unit_withdrew, unit_loaded_durable};
+ghost use Rattle.heap.specs.GateAsked.{IsAskedOnce};
+
+use crate::heap::Heap;
+use crate::seats::UnitSeat;
+use heap_rule::{Confirms, LoadsDurable, Looks, Tells, Withdraws};
+use mont_base::{Cut, Epoch, Gate};
+
+impl Heap {
+    /// Loads the clock.
+    pub fn load_clock<G: Gate>(&self, seat: &mut UnitSeat, gate: &mut G) -> Result<Epoch, Cut>
+        requires heap { seat.old.table ≡ self.now.table }
+        requires may { IsTrue (can_look seat.old.held.part) }
+        ensures gate { IsAskedOnce G.cuts G.endless G.asked gate.old gate.new result }
+        ensures ok { IfOk result (λ clock. seat.new
+            ≡ record { table = seat.old.table; held = unit_looked seat.old.held clock }) }
+        ensures clock { IfOk result (λ clock. IsClock seat.old.held.learnt clock) }
+        ensures cut { OnErr result (seat.new ≡ seat.old) }
+    {
+        gate.step()?;
+        Ok(self.table.shared.load::<Looks>(&mut seat.seat, 0))
+    }
+
+    /// Announces the epoch.
+    pub fn tell<G: Gate>(&self, seat: &mut UnitSeat, epoch: Epoch, gate: &mut G) -> Result<(), Cut>
+        requires heap { seat.old.table ≡ self.now.table }
+        requires may { IsTrue (can_tell seat.old.held.part epoch) }
+        requires clean { IsTrue (is_idle seat.old.held.part.stage)
+            → IsTrue (are_clean (units_of self.now.opening.layout) seat.old.held.clean) }
+        ensures gate { IsAskedOnce G.cuts G.endless G.asked gate.old gate.new result }
+        ensures ok { OnOk result (seat.new
+            ≡ record { table = seat.old.table; held = unit_told seat.old.held epoch }) }
+        ensures cut { OnErr result (seat.new ≡ seat.old) }
+    {
+        gate.step()?;
+        let place = self.announcement(seat);
+        self.table
+            .shared
+            .store::<Tells>(&mut seat.seat, place, 2 * epoch);
+        seat.epoch = epoch;
+        Ok(())
+    }
+
+    /// Loads the clock again. The unit is registered where it shows the announced epoch.
+    pub fn confirm<G: Gate>(&self, seat: &mut UnitSeat, gate: &mut G) -> Result<Epoch, Cut>
+        requires heap { seat.old.table ≡ self.now.table }
+        requires may { IsTrue (can_confirm seat.old.held.part) }
+        ensures gate { IsAskedOnce G.cuts G.endless G.asked gate.old gate.new result }
+        ensures ok { IfOk result (λ clock. seat.new
+            ≡ record { table = seat.old.table; held = unit_confirmed seat.old.held clock }) }
+        ensures clock { IfOk result (λ clock. IsClock seat.old.held.learnt clock) }
+        ensures cut { OnErr result (seat.new ≡ seat.old) }
+    {
+        gate.step()?;
+        Ok(self.table.shared.load::<Confirms>(&mut seat.seat, 0))
+    }
+
+    /// Takes the announcement back, with nothing stored.
+    pub fn withdraw<G: Gate>(&self, seat: &mut UnitSeat, gate: &mut G) -> Result<(), Cut>
+        requires heap { seat.old.table ≡ self.now.table }
+        requires may { IsTrue (can_withdraw seat.old.held.part) }
+        requires home { seat.old.held.turn ≡ home_turn }
+        ensures gate { IsAskedOnce G.cuts G.endless G.asked gate.old gate.new result }
+        ensures ok { OnOk result (seat.new
+            ≡ record { table = seat.old.table; held = unit_withdrew seat.old.held }) }
+        ensures cut { OnErr result (seat.new ≡ seat.old) }
+    {
+        gate.step()?;
+        let place = self.announcement(seat);
+        self.table
+            .shared
+            .store::<Withdraws>(&mut seat.seat, place, 0);
+        seat.epoch = 0;
+        Ok(())
+    }
+
+    /// Loads the durable clock.
+    pub fn load_durable<G: Gate>(&self, seat: &mut UnitSeat, gate: &mut G) -> Result<Epoch, Cut>
+        requires heap { seat.old.table ≡ self.now.table }
+        requires may { IsTrue (can_load_durable seat.old.held.part) }
+        ensures gate { IsAskedOnce G.cuts G.endless G.asked gate.old gate.new result }
+        ensures ok { IfOk result (λ clock. seat.new
+            ≡ record { table = seat.old.table; held = unit_loaded_durable seat.old.held clock }) }
+        ensures clock { IfOk result (λ clock. IsDurable
+            (max seat.old.held.part.durable seat.old.held.learnt.durable) clock) }
+        ensures cut { OnErr result (seat.new ≡ seat.old) }
+    {
+        gate.step()?;
+        let place = self.durable_clock();
+        let clock = self
+            .table
+            .shared
+            .load::<LoadsDurable>(&mut seat.seat, place);
+        seat.durable = clock;
+        Ok(clock)
+    }
+}

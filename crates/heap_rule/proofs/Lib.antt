@@ -1,0 +1,14 @@
+pub mod WordPlaces
+pub mod HomeSlots
+pub mod Growing
+pub mod RuleFrames
+pub mod CoreFacts
+pub mod UnitPlays
+pub mod StorePlays
+pub mod ListFacts
+pub mod FlushPlays
+pub mod AnswerPlays
+pub mod ListRoom
+pub mod ListPlays
+pub mod SeatPlays
+pub mod SeatedPlays

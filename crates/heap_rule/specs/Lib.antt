@@ -1,0 +1,5 @@
+pub mod Views
+pub mod TableWords
+pub mod HomeLists
+pub mod Rule
+pub mod Plays
