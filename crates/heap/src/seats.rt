@@ -127,8 +127,8 @@ impl Ticket {
         self.fronts.as_slice()[unit as usize]
     }
 
-    /// The front that it had in the unit when it last loaded a durable clock at least 2 above its
-    /// newest epoch; 0 before.
+    /// What its front there was when it last learnt of a durable clock two epochs or more past all
+    /// that it had seen; 0 before.
     pub fn synced(&self, unit: Unit) -> u64
         requires { unit < length self.now.held.part.synced }
         ensures { slice_get self.now.held.part.synced unit ≡ Some result }
