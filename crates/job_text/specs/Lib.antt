@@ -15,3 +15,8 @@ pub mod AnsweredLines
 pub mod Faithful
 pub mod ReportText
 pub mod PlainReport
+pub mod TextParts
+pub mod Ranks
+pub mod Readings
+pub mod ReportRanges
+pub mod ReportRows

@@ -5,12 +5,15 @@
 //! report is faithful.
 #![tactic(auto)]
 
+mod contents_reader;
 mod contents_text;
 mod contents_writer;
 mod deeds;
 mod draft;
+mod entry_reader;
 mod grammar;
 mod header;
+mod history_reader;
 mod history_writer;
 mod job;
 mod job_refusal;
@@ -22,15 +25,23 @@ mod numbers;
 mod op_name;
 mod operations;
 mod outcome;
+mod outcome_reader;
 mod parser;
+mod ranks;
 mod reader;
 mod report;
+mod report_heads;
+mod report_reader;
+mod report_refusal;
 mod report_writer;
+mod row_reader;
 mod spelling;
 mod split;
 mod stops;
 mod text_word;
+mod unread;
 mod words;
+mod words_behind;
 
 pub use contents_text::write_contents;
 pub use grammar::Grammar;
@@ -41,6 +52,8 @@ pub use limits::{LINE_BYTES, MOST_ATTEMPTS, MOST_CALLERS, MOST_LINES, MOST_STEPS
 pub use outcome::Outcome;
 pub use reader::{read_job, read_job_of};
 pub use report::Report;
+pub use report_reader::read_report;
+pub use report_refusal::ReportRefusal;
 pub use report_writer::write_report;
 
 #[cfg(test)]

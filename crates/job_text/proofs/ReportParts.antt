@@ -1,0 +1,256 @@
+-- A report as parts of its text, one behind the other.
+use Rattle.std.proofs.Common.{◌≡◌, ℕ, ◌+◌, ◌^◌, ◌<◌, ◌≤◌, List, [], ◌∷◌, ◌++◌, length, map, codes, refl, sym, ap, ◌∙◌, arith, lit<}
+use Rattle.mont_base.specs.declared.operation.Entry.{Entry}
+use Rattle.mont_base.specs.Layout.{Shape}
+use Rattle.mont_base.specs.State.{State}
+use Rattle.mont_base.specs.declared.kinds.UnitKind.{UnitKind}
+use Rattle.job_text.specs.declared.outcome.Outcome.{Outcome}
+use Rattle.job_text.specs.declared.report_refusal.ReportRefusal.{ReportRefusal}
+use Rattle.job_text.specs.Operations.{IsNumber}
+use Rattle.job_text.specs.Report.{Report}
+use Rattle.job_text.specs.TextParts.{Row, BothAre, both_rows}
+use Rattle.job_text.specs.Readings.{Unread, Reads, Refuses}
+use Rattle.job_text.specs.ReportText.{report_lines, contents_lines, histories_lines, outcomes_lines}
+use Rattle.job_text.specs.ReportRanges.{IsReport, IsEntry, AreCounted, AreOutcomes, AreContents}
+use Rattle.job_text.specs.ReportRows.{line_of_row, AllOf, IsTitle, title_words, clock_words, end_words, IsStart, start_rows}
+use Rattle.job_text.proofs.Leaves.{IsOnce, both_once}
+use Rattle.job_text.proofs.ReadLines.{line_once, reads_other, refuses_other, reads_both, refuses_first, refuses_second}
+use Rattle.job_text.proofs.RowParts.{title_part, clock_part, end_part}
+use Rattle.job_text.proofs.HistoryParts.{FewCallers, some_histories, histories_once, some_callers, callers_once}
+use Rattle.job_text.proofs.ContentsParts.{some_contents, contents_once}
+
+-- ---- a clock and the contents then
+pub start_once : (ks : List UnitKind) (word : List ℕ) → IsOnce (IsStart ks) (start_rows word)
+start_once ks word = both_once IsNumber (line_of_row (clock_words word)) (λ (n : ℕ). AreContents ks) (λ (n : ℕ). contents_lines)
+    (line_once IsNumber (clock_words word) (clock_part word)) (λ n is. contents_once ks)
+
+pub some_start : (ks : List UnitKind) → (p : ℕ × List State) × IsStart ks p
+some_start ks = let ss = some_contents ks in ((0, ss.0), (lit< tt, ss.1))
+
+-- ---- the parts
+few_of : (p : Shape × ℕ) → IsTitle p → FewCallers p.1
+few_of p is = let some = is.1 in let few = is.2 in (some, omega arith)
+
+abbrev pub BaseOf : Shape × ℕ → ℕ × List State → Type 0
+BaseOf p b = IsStart p.0.kinds b
+
+abbrev pub HistoriesOf : (Shape × ℕ) × (ℕ × List State) → List (List Entry) → Type 0
+HistoriesOf p hs = AllOf (λ unit h. AreCounted (IsEntry p.0.1) h) (length p.0.0.kinds) hs
+
+abbrev pub CallersOf : ((Shape × ℕ) × (ℕ × List State)) × List (List Entry) → List (List Outcome) → Type 0
+CallersOf p oss = AllOf (λ caller os. AreOutcomes (length p.0.0.0.kinds) p.0.0.1 os) p.0.0.1 oss
+
+abbrev pub ImageOf : (((Shape × ℕ) × (ℕ × List State)) × List (List Entry)) × List (List Outcome) → ℕ × List State → Type 0
+ImageOf p i = IsStart p.0.0.0.0.kinds i
+
+abbrev pub R1 : Shape × ℕ → List Row
+R1 = line_of_row title_words
+
+abbrev pub G2 : (Shape × ℕ) × (ℕ × List State) → Type 0
+G2 = BothAre IsTitle BaseOf
+
+abbrev pub R2 : (Shape × ℕ) × (ℕ × List State) → List Row
+R2 = both_rows R1 (λ (p : Shape × ℕ). start_rows (codes "base"))
+
+abbrev pub G3 : ((Shape × ℕ) × (ℕ × List State)) × List (List Entry) → Type 0
+G3 = BothAre G2 HistoriesOf
+
+abbrev pub R3 : ((Shape × ℕ) × (ℕ × List State)) × List (List Entry) → List Row
+R3 = both_rows R2 (λ (p : (Shape × ℕ) × (ℕ × List State)). histories_lines)
+
+abbrev pub Four : Type 0
+Four = (((Shape × ℕ) × (ℕ × List State)) × List (List Entry)) × List (List Outcome)
+
+abbrev pub G4 : Four → Type 0
+G4 = BothAre G3 CallersOf
+
+abbrev pub R4 : Four → List Row
+R4 = both_rows R3 (λ (p : ((Shape × ℕ) × (ℕ × List State)) × List (List Entry)). outcomes_lines)
+
+abbrev pub G5 : Four × (ℕ × List State) → Type 0
+G5 = BothAre G4 ImageOf
+
+abbrev pub R5 : Four × (ℕ × List State) → List Row
+R5 = both_rows R4 (λ (p : Four). start_rows (codes "image"))
+
+abbrev pub EndOf : Four × (ℕ × List State) → Unit {0} → Type 0
+EndOf p e = Unit {0}
+
+abbrev pub G6 : (Four × (ℕ × List State)) × Unit {0} → Type 0
+G6 = BothAre G5 EndOf
+
+abbrev pub R6 : (Four × (ℕ × List State)) × Unit {0} → List Row
+R6 = both_rows R5 (λ (p : Four × (ℕ × List State)). line_of_row end_words)
+
+once1 : IsOnce IsTitle R1
+once1 = line_once IsTitle title_words title_part
+
+once2 : IsOnce G2 R2
+once2 = both_once IsTitle R1 BaseOf (λ p. start_rows (codes "base")) once1 (λ p is. start_once p.0.kinds (codes "base"))
+
+once3 : IsOnce G3 R3
+once3 = both_once G2 R2 HistoriesOf (λ p. histories_lines) once2 (λ p is. histories_once p.0.1 (few_of p.0 is.0) (length p.0.0.kinds))
+
+once4 : IsOnce G4 R4
+once4 = both_once G3 R3 CallersOf (λ p. outcomes_lines) once3 (λ p is. callers_once (length p.0.0.0.kinds) p.0.0.1 p.0.0.1)
+
+once5 : IsOnce G5 R5
+once5 = both_once G4 R4 ImageOf (λ p. start_rows (codes "image")) once4 (λ p is. start_once p.0.0.0.0.kinds (codes "image"))
+
+-- ---- the whole
+report_of_parts : (p : (Four × (ℕ × List State)) × Unit {0}) → G6 p → (r : Report) × IsReport r × (report_lines r ≡ R6 p)
+report_of_parts p is =
+    let t = p.0.0.0.0.0 in
+    let b = p.0.0.0.0.1 in
+    let r : Report = record {
+      layout = t.0;
+      callers = t.1;
+      base_clock = b.0;
+      base = b.1;
+      histories = p.0.0.0.1;
+      outcomes = p.0.0.1;
+      image_clock = p.0.1.0;
+      contents = p.0.1.1;
+    } in
+    let it = is.0.0.0.0.0 in
+    let ib = is.0.0.0.0.1 in (
+      r,
+      record {
+        layout = it.0;
+        some_callers = it.1;
+        few_callers = it.2;
+        base_clock = ib.0;
+        base = ib.1;
+        histories = is.0.0.0.1;
+        outcomes = is.0.0.1.0;
+        callers = is.0.0.1.1;
+        image_clock = is.0.1.0;
+        contents = is.0.1.1;
+      },
+      refl,
+    )
+
+parts_of_report : (r : Report) → IsReport r → (p : (Four × (ℕ × List State)) × Unit {0}) × G6 p × (R6 p ≡ report_lines r)
+parts_of_report r is = (
+  ((((((r.layout, r.callers), (r.base_clock, r.base)), r.histories), r.outcomes), (r.image_clock, r.contents)), tt),
+  ((
+    (
+      ((((is.layout, is.some_callers, is.few_callers), (is.base_clock, is.base)), is.histories), (is.outcomes, is.callers)),
+      (is.image_clock, is.contents),
+    ),
+    tt,
+  )),
+  refl,
+)
+
+module _ (old : Unread) where
+  up6 : (e : ReportRefusal) → Refuses G6 R6 old e → Refuses IsReport report_lines old e
+  up6 e r = refuses_other G6 R6 IsReport report_lines report_of_parts parts_of_report old e r
+
+  up5 : (e : ReportRefusal) → Refuses G5 R5 old e → Refuses IsReport report_lines old e
+  up5 e r = up6 e (refuses_first G5 R5 EndOf (λ p. line_of_row end_words) (λ p is. (tt, tt)) old e r)
+
+  up4 : (e : ReportRefusal) → Refuses G4 R4 old e → Refuses IsReport report_lines old e
+  up4 e r = up5 e (refuses_first G4 R4 ImageOf (λ p. start_rows (codes "image")) (λ p is. some_start p.0.0.0.0.kinds) old e r)
+
+  up3 : (e : ReportRefusal) → Refuses G3 R3 old e → Refuses IsReport report_lines old e
+  up3 e r = up4 e (refuses_first G3 R3 CallersOf (λ p. outcomes_lines) (λ p is. some_callers
+      (length p.0.0.0.kinds) p.0.0.1 p.0.0.1) old e r)
+
+  up2 : (e : ReportRefusal) → Refuses G2 R2 old e → Refuses IsReport report_lines old e
+  up2 e r = up3 e (refuses_first G2 R2 HistoriesOf (λ p. histories_lines)
+      (λ p is. some_histories p.0.1 (few_of p.0 is.0) (length p.0.0.kinds)) old e r)
+
+  pub refuses_title : (e : ReportRefusal) → Refuses IsTitle R1 old e → Refuses IsReport report_lines old e
+  refuses_title e r = up2 e (refuses_first IsTitle R1 BaseOf (λ p. start_rows (codes "base")) (λ p is. some_start p.0.kinds) old e r)
+
+  module _ (a : Unread) (t : Shape × ℕ) (first : Reads IsTitle R1 old a t) where
+    pub refuses_base : (e : ReportRefusal) → Refuses (BaseOf t) (start_rows (codes "base")) a e → Refuses IsReport report_lines old e
+    refuses_base e r = up2 e (refuses_second IsTitle R1 BaseOf (λ p. start_rows (codes "base")) once1 old a t e first r)
+
+    module _ (b : Unread) (base : ℕ × List State) (second : Reads (BaseOf t) (start_rows (codes "base")) a b base) where
+      two : Reads G2 R2 old b (t, base)
+      two = reads_both IsTitle R1 BaseOf (λ p. start_rows (codes "base")) old a b t base first second
+
+      pub refuses_histories : (e : ReportRefusal) → Refuses (HistoriesOf (t, base)) histories_lines b e
+          → Refuses IsReport report_lines old e
+      refuses_histories e r = up3 e (refuses_second G2 R2 HistoriesOf (λ p. histories_lines) once2 old b (t, base) e two r)
+
+      module _ (d : Unread) (hs : List (List Entry)) (third : Reads (HistoriesOf (t, base)) histories_lines b d hs) where
+        three : Reads G3 R3 old d ((t, base), hs)
+        three = reads_both G2 R2 HistoriesOf (λ p. histories_lines) old b d (t, base) hs two third
+
+        pub refuses_callers : (e : ReportRefusal) → Refuses (CallersOf ((t, base), hs)) outcomes_lines d e
+            → Refuses IsReport report_lines old e
+        refuses_callers e r = up4 e (refuses_second G3 R3 CallersOf (λ p. outcomes_lines) once3 old d ((t, base), hs) e three r)
+
+        module _ (f : Unread) (oss : List (List Outcome)) (fourth : Reads (CallersOf ((t, base), hs)) outcomes_lines d f oss) where
+          four : Reads G4 R4 old f (((t, base), hs), oss)
+          four = reads_both G3 R3 CallersOf (λ p. outcomes_lines) old d f ((t, base), hs) oss three fourth
+
+          pub refuses_image : (e : ReportRefusal) → Refuses (ImageOf (((t, base), hs), oss)) (start_rows (codes "image")) f e
+              → Refuses IsReport report_lines old e
+          refuses_image e r = up5 e (refuses_second G4 R4 ImageOf (λ p. start_rows (codes "image")) once4 old f
+              (((t, base), hs), oss) e four r)
+
+          module _ (g : Unread) (image : ℕ × List State) (fifth : Reads (ImageOf (((t, base), hs), oss)) (start_rows
+              (codes "image")) f g image) where
+            five : Reads G5 R5 old g ((((t, base), hs), oss), image)
+            five = reads_both G4 R4 ImageOf (λ p. start_rows (codes "image")) old f g (((t, base), hs), oss) image four fifth
+
+            pub refuses_end : (e : ReportRefusal) → Refuses (λ _. Unit {0}) (line_of_row end_words) g e
+                → Refuses IsReport report_lines old e
+            refuses_end e r = up6 e (refuses_second G5 R5 EndOf (λ p. line_of_row end_words) once5 old g
+                ((((t, base), hs), oss), image) e five r)
+
+            pub reads_report : (new : Unread) → Reads (λ _. Unit {0}) (line_of_row end_words) g new tt
+                → Reads IsReport report_lines old new
+                (record {
+                  layout = t.0;
+                  callers = t.1;
+                  base_clock = base.0;
+                  base = base.1;
+                  histories = hs;
+                  outcomes = oss;
+                  image_clock = image.0;
+                  contents = image.1;
+                })
+            reads_report new last =
+                let parts = reads_both G5 R5 EndOf (λ p. line_of_row end_words) old g new
+                ((((t, base), hs), oss), image) tt five last in
+                let whole = report_of_parts (((((t, base), hs), oss), image), tt) parts.is in
+                reads_other G6 R6 IsReport report_lines old new (((((t, base), hs), oss), image), tt) _ parts
+                (record {
+                  layout = first.is.0;
+                  some_callers = first.is.1;
+                  few_callers = first.is.2;
+                  base_clock = second.is.0;
+                  base = second.is.1;
+                  histories = third.is;
+                  outcomes = fourth.is.0;
+                  callers = fourth.is.1;
+                  image_clock = fifth.is.0;
+                  contents = fifth.is.1;
+                }) refl
+
+pub report_once : IsOnce IsReport report_lines
+unfolding parts_of_report
+report_once x y a b is are e =
+    let p = parts_of_report x is in
+    let q = parts_of_report y are in
+    let same = both_once G5 R5 EndOf (λ p. line_of_row end_words) once5 (λ p is. line_once
+    (λ _. Unit {0}) end_words end_part) p.0 q.0 a b p.1 q.1
+    (ap (λ (rs : List Row). rs ++ a) p.2 ∙ e ∙ ap (λ (rs : List Row). rs ++ b) (sym q.2)) in
+    joined_same same
+  where
+    joined_same : (parts_of_report x is).0 ≡ (parts_of_report y are).0 → x ≡ y
+    joined_same s i = record {
+      layout = (s i).0.0.0.0.0.0;
+      callers = (s i).0.0.0.0.0.1;
+      base_clock = (s i).0.0.0.0.1.0;
+      base = (s i).0.0.0.0.1.1;
+      histories = (s i).0.0.0.1;
+      outcomes = (s i).0.0.1;
+      image_clock = (s i).0.1.0;
+      contents = (s i).0.1.1;
+    }
