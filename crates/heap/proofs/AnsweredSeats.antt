@@ -1,6 +1,6 @@
 -- What the fields of a unit's seat and of a ticket are once a caller was answered.
-use Rattle.std.proofs.Common.{◌≡◌, ℕ, ◌+◌, ◌*◌, List, [], ◌∷◌, ◌++◌, length, length-append, set, length-set, refl, ap, sym, ◌∙◌, subst, arith, true, false, cond}
-use Rattle.std.specs.Prelude.{Some, None}
+use Rattle.std.proofs.Common.{◌≡◌, ℕ, ◌+◌, ◌*◌, List, [], ◌∷◌, ◌++◌, length, length-append, set, length-set, refl, ap, sym, ◌∙◌, subst, arith, true, cond}
+use Rattle.std.specs.Prelude.{None}
 use Rattle.atomic_table.specs.Seated.{TableId}
 use Rattle.mont_base.specs.declared.operation.Entry.{Entry}
 use Rattle.core_steps.specs.Announcing.{can_tell}
@@ -9,7 +9,7 @@ use Rattle.core_steps.specs.Stages.{epoch_of}
 use Rattle.heap_rule.specs.declared.views.CallerHeld.{CallerHeld}
 use Rattle.heap_rule.specs.declared.views.UnitHeld.{UnitHeld}
 use Rattle.heap_rule.specs.declared.views.UnitTurn.{UnitTurn}
-use Rattle.heap_rule.specs.Views.{Cell, Seated, list_place, home_turn, unit_view, caller_view, the_unit, the_caller, unit_out, unit_told, unit_left, unit_read, unit_frozen, caller_answered, caller_cut}
+use Rattle.heap_rule.specs.Views.{Seated, list_place, unit_view, caller_view, the_unit, the_caller, unit_out, unit_told, unit_left, unit_read, unit_frozen, caller_answered, caller_cut}
 use Rattle.heap.proofs.SeatTables.{tell_rests, tell_first, tell_last}
 use Rattle.heap.specs.HeapShown.{IsUnit, IsCaller, Counts}
 

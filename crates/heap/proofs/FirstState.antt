@@ -232,6 +232,7 @@ opens o words lists well are empty =
     record {
       board = first_board o well;
       own = first_owner o well;
+      accepted = well;
       states = states.0;
       base = states.1;
       events = [];

@@ -1,5 +1,5 @@
 -- What the fields of a ticket are once it has taken a note.
-use Rattle.std.proofs.Common.{◌≡◌, ℕ, zero, suc, ◌+◌, ◌*◌, ◌<◌, ◌≤◌, List, [], ◌∷◌, length, set, get_or, replicate, length-set, refl, ap, sym, ◌∙◌, subst, arith}
+use Rattle.std.proofs.Common.{◌≡◌, ℕ, zero, suc, ◌*◌, ◌<◌, List, [], ◌∷◌, length, set, get_or, replicate, refl, ap, sym, ◌∙◌, subst, arith}
 use Rattle.std.specs.Prelude.{max}
 use Rattle.atomic_table.specs.Seated.{TableId}
 use Rattle.core_steps.specs.Notes.{greater_fronts, last_epoch}
@@ -28,7 +28,7 @@ greater_one (n ∷ ns) (suc u) m l = λ i. largest n i ∷ greater_one ns u m (o
     largest : (n : ℕ) → max n 0 ≡ n
     largest n = omega arith
 
-length-greater : (ns ms : List ℕ) → length (greater_fronts ns ms) ≡ length ns
+pub length-greater : (ns ms : List ℕ) → length (greater_fronts ns ms) ≡ length ns
 length-greater [] ms = refl
 length-greater (n ∷ ns) [] = refl
 length-greater (n ∷ ns) (m ∷ ms) = ap suc (length-greater ns ms)

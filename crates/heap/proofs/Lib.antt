@@ -1,6 +1,12 @@
 pub mod SeatTables
 pub mod AnsweredSeats
 pub mod HeardSeats
+pub mod ReadWords
 pub mod FirstState
 pub mod FirstWords
 pub mod DealtSeats
+pub mod EmptyStores
+pub mod GatheredSeats
+pub mod StoppedCores
+pub mod StoppedCuts
+pub mod AllSeats

@@ -1,10 +1,11 @@
 // The steps by which a unit answers a caller, and by which a caller is cut in a unit.
-ghost use Rattle.std.specs.Prelude.{◌≡◌, ◌<◌, max, false, IsTrue, IfOk, OnOk, OnErr};
+ghost use Rattle.std.specs.Prelude.{◌≡◌, ◌<◌, ℕ, max, false, IsTrue, IfOk, OnOk, OnErr};
 ghost use Rattle.mont_base.specs.Layout.{units_of};
 ghost use Rattle.core_steps.specs.Stages.{epoch_of};
 ghost use Rattle.core_steps.specs.Announcing.{can_freeze};
 ghost use Rattle.core_steps.specs.Answering.{CanLeave, CanRead};
 ghost use Rattle.heap_rule.specs.Plays.{IsClock, answer_of};
+ghost use Rattle.heap_rule.specs.SoundUnits.{IsSoundUnit};
 ghost use Rattle.heap_rule.specs.TableWords.{announcement_place};
 ghost use Rattle.heap_rule.specs.Views.{are_clean, slots_written, pair_view, the_unit, the_caller, unit_left, unit_read, unit_frozen, caller_answered, caller_cut};
 ghost use Rattle.heap.specs.GateAsked.{IsAskedOnce};
@@ -43,6 +44,8 @@ impl Heap {
         ensures receipt { IfOk result (λ r. r ≡ receipt_of seat.old.held
             (answer_of ticket.old.held op.now reply.now
             (epoch_of seat.old.held.part.stage))) }
+        ensures sound { IfOk result (λ _. (now durable : ℕ)
+            × IsSoundUnit self.now.opening now durable seat.new.held) }
         ensures cut { OnErr result ((seat.new ≡ seat.old) × (ticket.new ≡ ticket.old)) }
     {
         gate.step()?;
@@ -93,6 +96,7 @@ impl Heap {
             (epoch_of (the_unit seat.old.me.0).part.stage) }
         requires given { (the_unit seat.old.me.0).turn
             ≡ record { out = false; pushed = slots_written (the_unit seat.old.me.0).part } }
+        requires opening { N.opening ≡ self.now.opening }
         requires op { N.op ≡ op.now }
         requires reply { N.reply ≡ reply.now }
         ensures seat { seat.new.table_id ≡ seat.old.table_id }
@@ -107,6 +111,10 @@ impl Heap {
                   (epoch_of (the_unit seat.old.me.0).part.stage))),
               seat.old.me.1,
             ) }
+        ensures sound { (now durable : ℕ) × IsSoundUnit N.opening now durable
+            (unit_left (the_unit seat.old.me.0)
+            (answer_of (the_caller seat.old.me.0) op.now reply.now
+            (epoch_of (the_unit seat.old.me.0).part.stage))) }
     {
         self.table.shared.store::<Leaves<N>>(seat, place, 0);
     }
@@ -141,7 +149,9 @@ impl Heap {
           newest = max seat.old.held.learnt.newest ticket.old.held.part.newest;
           durable = max seat.old.held.learnt.durable ticket.old.held.part.durable;
         })
-            r.entry.epoch) }
+            seat.old.held.part r.entry.epoch) }
+        ensures sound { IfOk result (λ r. (durable : ℕ)
+            × IsSoundUnit self.now.opening r.entry.epoch durable seat.new.held) }
         ensures cut { OnErr result ((seat.new ≡ seat.old) × (ticket.new ≡ ticket.old)) }
     {
         gate.step()?;
@@ -179,6 +189,7 @@ impl Heap {
             (the_unit seat.old.me.0).part (the_caller seat.old.me.0).part op.now reply.now }
         requires clean { IsTrue (are_clean (units_of self.now.opening.layout)
             (the_unit seat.old.me.0).clean) }
+        requires opening { N.opening ≡ self.now.opening }
         requires op { N.op ≡ op.now }
         requires reply { N.reply ≡ reply.now }
         ensures seat { seat.new.table_id ≡ seat.old.table_id }
@@ -196,7 +207,10 @@ impl Heap {
               (the_caller seat.old.me.0).part.newest;
           durable = max (the_unit seat.old.me.0).learnt.durable
               (the_caller seat.old.me.0).part.durable;
-        }) result }
+        }) (the_unit seat.old.me.0).part result }
+        ensures sound { (durable : ℕ) × IsSoundUnit N.opening result durable
+            (unit_read (the_unit seat.old.me.0) result
+            (answer_of (the_caller seat.old.me.0) op.now reply.now result)) }
     {
         self.table.shared.load::<Reads<N>>(seat, 0)
     }

@@ -44,11 +44,8 @@ impl Heap {
         } }
         ensures { seat.new ≡ record { table = seat.old.table; held = unit_gave seat.old.held } }
     {
-        let place = place(seat.unit, seat.epoch);
-        let _ = self
-            .table
-            .shared
-            .exchange(&mut seat.seat, place, Some(list));
+        let home = place(seat.unit, seat.epoch);
+        let _ = self.table.shared.exchange(&mut seat.seat, home, Some(list));
         self.table.shared.load::<GivesList>(&mut seat.seat, 0);
     }
 

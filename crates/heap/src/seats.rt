@@ -23,13 +23,15 @@ pub struct UnitSeat {
 
 impl Model for UnitSeat {
     ghost use Rattle.heap_rule.specs.Views.{the_unit};
-    ghost use Rattle.heap.specs.HeapShown.{UnitShown, IsUnit};
+    ghost use Rattle.heap.specs.HeapShown.{UnitShown};
 
     ghost Value = { UnitShown };
 
+    ghost use Rattle.heap.specs.SeatFields.{IsUnitSeat};
+
     ghost view = { λ s. record { table = s.seat.table_id; held = the_unit s.seat.me.0 } };
 
-    ghost invariant = { λ s. IsUnit s.seat.table_id s.unit s.epoch s.entries s.newest s.durable s.seat.me };
+    ghost invariant = { IsUnitSeat };
 }
 
 /// The seat of the advancer.
@@ -45,13 +47,15 @@ pub struct AdvSeat {
 
 impl Model for AdvSeat {
     ghost use Rattle.heap_rule.specs.Views.{the_advancer};
-    ghost use Rattle.heap.specs.HeapShown.{AdvShown, IsAdvancer};
+    ghost use Rattle.heap.specs.HeapShown.{AdvShown};
 
     ghost Value = { AdvShown };
 
+    ghost use Rattle.heap.specs.SeatFields.{IsAdvSeat};
+
     ghost view = { λ s. record { table = s.seat.table_id; held = the_advancer s.seat.me.0 } };
 
-    ghost invariant = { λ s. IsAdvancer s.seat.table_id s.part s.clock s.durable s.emptied s.seat.me };
+    ghost invariant = { IsAdvSeat };
 }
 
 /// The seat of a caller.
@@ -68,13 +72,15 @@ pub struct Ticket {
 
 impl Model for Ticket {
     ghost use Rattle.heap_rule.specs.Views.{the_caller};
-    ghost use Rattle.heap.specs.HeapShown.{CallerShown, IsCaller, Counts};
+    ghost use Rattle.heap.specs.HeapShown.{CallerShown};
 
     ghost Value = { CallerShown };
 
+    ghost use Rattle.heap.specs.SeatFields.{IsTicket};
+
     ghost view = { λ s. record { table = s.seat.table_id; held = the_caller s.seat.me.0 } };
 
-    ghost invariant = { λ s. IsCaller s.seat.table_id s.number (record { calls = s.calls; newest = s.newest; durable = s.durable }) s.fronts s.synced s.seat.me };
+    ghost invariant = { IsTicket };
 }
 
 impl UnitSeat {

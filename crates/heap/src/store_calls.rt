@@ -1,15 +1,19 @@
 // The steps by which a unit writes a record into a slot, and closes a slot that isn't needed.
-ghost use Rattle.std.specs.Prelude.{◌≡◌, ◌<◌, OnOk, OnErr};
-ghost use Rattle.mont_base.specs.Layout.{total_of};
+ghost use Rattle.std.specs.Prelude.{◌≡◌, ◌<◌, ℕ, OnOk, OnErr};
+ghost use Rattle.mont_base.specs.Layout.{total_of, word_of};
 ghost use Rattle.core_steps.specs.Storing.{IsFreeSlot, CanStore};
 ghost use Rattle.core_steps.specs.Closing.{CanClose, CanPersistClose};
-ghost use Rattle.heap_rule.specs.Views.{unit_wrote, unit_closed, unit_persisted};
+ghost use Rattle.heap_rule.specs.SoundUnits.{IsSoundUnit};
+ghost use Rattle.heap_rule.specs.TableWords.{durable_place};
+ghost use Rattle.heap_rule.specs.Views.{home_turn, the_unit, unit_view, unit_wrote, unit_closed, unit_persisted};
 ghost use Rattle.heap.specs.GateAsked.{IsAskedOnce};
 
 use crate::heap::Heap;
 use crate::seats::UnitSeat;
-use heap_rule::{ClosesLabel, PersistsClose, Stores};
+use atomic_table::Seat;
+use heap_rule::{Cell, ClosesLabel, Opened, PersistsClose, Stores, View};
 use mont_base::{Cut, Gate, Slot};
+use std::marker::Brand;
 
 impl Heap {
     /// Stores a field of the record that the unit writes: the fields from the second on in their
@@ -78,13 +82,32 @@ impl Heap {
         ensures gate { IsAskedOnce G.cuts G.endless G.asked gate.old gate.new result }
         ensures ok { OnOk result (seat.new
             ≡ record { table = seat.old.table; held = unit_persisted seat.old.held slot }) }
+        ensures sound { OnOk result ((now durable : ℕ)
+            × IsSoundUnit self.now.opening now durable seat.new.held) }
         ensures cut { OnErr result (seat.new ≡ seat.old) }
     {
         gate.step()?;
         let place = self.durable(slot, 0);
-        self.table
-            .shared
-            .store::<PersistsClose>(&mut seat.seat, place, 0);
+        self.store_closed::<Brand>(&mut seat.seat, slot, place);
         Ok(())
+    }
+
+    // The store of a closed durable label, by a unit's seat.
+    fn store_closed<N: Opened>(&self, seat: &mut Seat<Cell, View>, slot: Slot, place: usize)
+        requires heap { seat.old.table_id ≡ self.now.table }
+        requires view { seat.old.me.0 ≡ unit_view (the_unit seat.old.me.0) }
+        requires place { place ≡ durable_place self.now.opening.layout (word_of slot 0) }
+        requires inside { place < self.now.table.words }
+        requires may { CanPersistClose (the_unit seat.old.me.0).part slot }
+        requires slot { slot < total_of self.now.opening.layout }
+        requires home { (the_unit seat.old.me.0).turn ≡ home_turn }
+        requires opening { N.opening ≡ self.now.opening }
+        ensures seat { seat.new.table_id ≡ seat.old.table_id }
+        ensures view { seat.new.me
+            ≡ (unit_view (unit_persisted (the_unit seat.old.me.0) slot), seat.old.me.1) }
+        ensures sound { (now durable : ℕ) × IsSoundUnit N.opening now durable
+            (unit_persisted (the_unit seat.old.me.0) slot) }
+    {
+        self.table.shared.store::<PersistsClose<N>>(seat, place, 0);
     }
 }

@@ -1,17 +1,21 @@
 // The steps by which a unit looks at the clock and announces an epoch.
-ghost use Rattle.std.specs.Prelude.{◌≡◌, max, IsTrue, IfOk, OnOk, OnErr};
+ghost use Rattle.std.specs.Prelude.{◌≡◌, ◌<◌, ℕ, max, IsTrue, IfOk, OnOk, OnErr};
 ghost use Rattle.mont_base.specs.Layout.{units_of};
 ghost use Rattle.core_steps.specs.Stages.{is_idle};
 ghost use Rattle.core_steps.specs.Announcing.{can_look, can_tell, can_confirm, can_withdraw};
 ghost use Rattle.core_steps.specs.Closing.{can_load_durable};
 ghost use Rattle.heap_rule.specs.Plays.{IsClock, IsDurable};
-ghost use Rattle.heap_rule.specs.Views.{are_clean, home_turn, unit_looked, unit_told, unit_confirmed, unit_withdrew, unit_loaded_durable};
+ghost use Rattle.heap_rule.specs.SoundUnits.{IsSoundUnit};
+ghost use Rattle.heap_rule.specs.TableWords.{durable_place};
+ghost use Rattle.heap_rule.specs.Views.{are_clean, home_turn, the_unit, unit_view, unit_looked, unit_told, unit_confirmed, unit_withdrew, unit_loaded_durable};
 ghost use Rattle.heap.specs.GateAsked.{IsAskedOnce};
 
 use crate::heap::Heap;
 use crate::seats::UnitSeat;
-use heap_rule::{Confirms, LoadsDurable, Looks, Tells, Withdraws};
+use atomic_table::Seat;
+use heap_rule::{Cell, Confirms, LoadsDurable, Looks, Opened, Tells, View, Withdraws};
 use mont_base::{Cut, Epoch, Gate};
+use std::marker::Brand;
 
 impl Heap {
     /// Loads the clock.
@@ -21,7 +25,8 @@ impl Heap {
         ensures gate { IsAskedOnce G.cuts G.endless G.asked gate.old gate.new result }
         ensures ok { IfOk result (λ clock. seat.new
             ≡ record { table = seat.old.table; held = unit_looked seat.old.held clock }) }
-        ensures clock { IfOk result (λ clock. IsClock seat.old.held.learnt clock) }
+        ensures clock { IfOk result (λ clock. IsClock seat.old.held.learnt
+            seat.old.held.part clock) }
         ensures cut { OnErr result (seat.new ≡ seat.old) }
     {
         gate.step()?;
@@ -55,7 +60,8 @@ impl Heap {
         ensures gate { IsAskedOnce G.cuts G.endless G.asked gate.old gate.new result }
         ensures ok { IfOk result (λ clock. seat.new
             ≡ record { table = seat.old.table; held = unit_confirmed seat.old.held clock }) }
-        ensures clock { IfOk result (λ clock. IsClock seat.old.held.learnt clock) }
+        ensures clock { IfOk result (λ clock. IsClock seat.old.held.learnt
+            seat.old.held.part clock) }
         ensures cut { OnErr result (seat.new ≡ seat.old) }
     {
         gate.step()?;
@@ -81,7 +87,7 @@ impl Heap {
         Ok(())
     }
 
-    /// Loads the durable clock.
+    /// Loads the durable clock. What the invariant tells of the unit stands there with it.
     pub fn load_durable<G: Gate>(&self, seat: &mut UnitSeat, gate: &mut G) -> Result<Epoch, Cut>
         requires heap { seat.old.table ≡ self.now.table }
         requires may { IsTrue (can_load_durable seat.old.held.part) }
@@ -90,15 +96,37 @@ impl Heap {
             ≡ record { table = seat.old.table; held = unit_loaded_durable seat.old.held clock }) }
         ensures clock { IfOk result (λ clock. IsDurable
             (max seat.old.held.part.durable seat.old.held.learnt.durable) clock) }
+        ensures sound { IfOk result (λ clock. (now : ℕ)
+            × IsSoundUnit self.now.opening now clock seat.new.held) }
         ensures cut { OnErr result (seat.new ≡ seat.old) }
     {
         gate.step()?;
         let place = self.durable_clock();
-        let clock = self
-            .table
-            .shared
-            .load::<LoadsDurable>(&mut seat.seat, place);
+        let clock = self.load_known::<Brand>(&mut seat.seat, place);
         seat.durable = clock;
         Ok(clock)
+    }
+
+    // The load of the durable clock, by a unit's seat.
+    fn load_known<N: Opened>(&self, seat: &mut Seat<Cell, View>, place: usize) -> Epoch
+        requires heap { seat.old.table_id ≡ self.now.table }
+        requires view { seat.old.me.0 ≡ unit_view (the_unit seat.old.me.0) }
+        requires place { place ≡ durable_place self.now.opening.layout 0 }
+        requires inside { place < self.now.table.words }
+        requires may { IsTrue (can_load_durable (the_unit seat.old.me.0).part) }
+        requires opening { N.opening ≡ self.now.opening }
+        ensures seat { seat.new.table_id ≡ seat.old.table_id }
+        ensures view { seat.new.me
+            ≡ (
+              unit_view (unit_loaded_durable (the_unit seat.old.me.0) result),
+              seat.old.me.1,
+            ) }
+        ensures clock { IsDurable
+            (max (the_unit seat.old.me.0).part.durable (the_unit seat.old.me.0).learnt.durable)
+            result }
+        ensures sound { (now : ℕ) × IsSoundUnit N.opening now result
+            (unit_loaded_durable (the_unit seat.old.me.0) result) }
+    {
+        self.table.shared.load::<LoadsDurable<N>>(seat, place)
     }
 }

@@ -44,10 +44,12 @@ use Rattle.heap_rule.specs.Views.{Cell, listing, home_turn, caller_view, pair_vi
 use Rattle.heap_rule.specs.TableWords.{laid_out, durable_place, announcement_place}
 use Rattle.heap_rule.specs.HomeLists.{turn_home, unit_home}
 use Rattle.heap_rule.specs.Rule.{Board, HasPassed, Homes, Passed, seen_in, FitsUnit, FitsCaller, FitsView, ShowsCore}
+use Rattle.heap_rule.specs.SoundUnits.{IsSoundUnit}
 use Rattle.heap_rule.specs.Plays.{answer_of, left, read as was_read, frozen, saw_durable}
 use Rattle.heap_rule.proofs.HomeSlots.{unit_home_in, in_other, unit_home_else}
 use Rattle.heap_rule.proofs.Growing.{Sweeps, sweeps_itself, clean_still, learnt_still, entries_still}
 use Rattle.heap_rule.proofs.RuleFrames.{Reached, goes, Moves, steps, loads, one_given, given_hit, given_miss}
+use Rattle.heap_rule.proofs.RunFacts.{unit_sound}
 use Rattle.heap_rule.proofs.CoreFacts.{at_row, none_clean, none_announced, clock_low, is_clock, is_durable, stores_announced, found_clock, found_durable_clock}
 use Rattle.heap_rule.proofs.UnitPlays.{IsOwnStep, sweeps_one, own_moves, own_homes, own_passed}
 
@@ -155,7 +157,7 @@ pub leaves : (o : Opening) (slots seat : ℕ) (h : UnitHeld) (q : CallerHeld) (c
     → CanLeave o.layout h.unit h.part q.part op reply (epoch_of h.part.stage)
     → h.turn ≡ record { out = false; pushed = slots_written h.part }
     → Allows (ShowsCore o) slots seat (pair_view h q, c) (announcement_place o.layout h.unit) (λ _. 0)
-    (λ _ m. left op reply (step slots (announcement_place o.layout h.unit) 0 0 none) (pair_view h q, c) 0 m)
+    (λ _ m. left o op reply (step slots (announcement_place o.layout h.unit) 0 0 none) (pair_view h q, c) 0 m)
 leaves o slots seat h q c op reply may given s k long at small =
     let view = k.views seat (pair_view h q) at in
     let f = view.units.0 in
@@ -204,7 +206,14 @@ leaves o slots seat h q c op reply may given s k long at small =
       tt,
       steps o s k seat (announcement_place o.layout h.unit) 0 c (pair_view (unit_left h e) (caller_answered q h e)) keeps
           (pair_board o s k seat h q f g d home_turn) y owed.moves (stores_announced o s k h.unit 0) owed.passed owed.homes owed.fits,
-      refl,
+      (
+        refl,
+        (
+          clock core,
+          durable_clock core,
+          unit_sound o s k d y refl (unit_left h e) (row_here core.units h.unit p h.part f.part),
+        ),
+      ),
     )
   where
     within_now : (b now : ℕ) (passed : Type 0) (stage : UnitStage) (x : ℕ) → stage ≡ Within x
@@ -215,7 +224,7 @@ leaves o slots seat h q c op reply may given s k long at small =
 -- ---- Read
 pub reads : (o : Opening) (slots seat : ℕ) (h : UnitHeld) (q : CallerHeld) (c : List (ℕ × Cell)) (op : Op) (reply : Reply)
     → CanRead o.layout h.unit h.part q.part op reply → are_clean (units_of o.layout) h.clean ≡ true
-    → Allows (ShowsCore o) slots seat (pair_view h q, c) 0 (λ n. n) (was_read op reply (step slots 0 0 0 none) (pair_view h q, c))
+    → Allows (ShowsCore o) slots seat (pair_view h q, c) 0 (λ n. n) (was_read o op reply (step slots 0 0 0 none) (pair_view h q, c))
 reads o slots seat h q c op reply may clean s k long at small =
     let view = k.views seat (pair_view h q) at in
     let f = view.units.0 in
@@ -267,8 +276,13 @@ reads o slots seat h q c op reply may clean s k long at small =
       (
         refl,
         is_clock _ core k.sound
-            (record { newest = max h.learnt.newest q.part.newest; durable = max h.learnt.durable q.part.durable }) x
-            (record { newest = omega arith; durable = omega arith }) found,
+            (record { newest = max h.learnt.newest q.part.newest; durable = max h.learnt.durable q.part.durable }) h.unit h.part x
+            (record { newest = omega arith; durable = omega arith }) f.part found,
+        (
+          durable_clock core,
+          subst (λ (z : ℕ). IsSoundUnit o z (durable_clock core) (unit_read h z (answer_of q op reply z))) (sym found)
+              (unit_sound o s k d y refl (unit_read h (clock core) e) (row_here core.units h.unit p h.part f.part)),
+        ),
       ),
     )
 

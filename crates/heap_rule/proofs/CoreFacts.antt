@@ -15,10 +15,11 @@ use Rattle.core_steps.specs.declared.parts.AdvPart.{AdvPart}
 use Rattle.core_steps.specs.declared.parts.AdvPart.TheVariants.{Rest}
 use Rattle.core_steps.specs.Places.{on_row}
 use Rattle.core_steps.specs.Clock.{clock, durable_clock}
-use Rattle.core_steps.specs.Stages.{is_announced}
+use Rattle.core_steps.specs.Stages.{is_announced, limit_of, passed_of}
 use Rattle.core_steps.specs.Events.{AreNoneLost}
 use Rattle.core_steps.specs.Sound.{Base, IsSound, LostWait}
 use Rattle.core_steps.proofs.Decisions.{both}
+use Rattle.core_steps.proofs.NoteLaws.{last_within, limit_reached}
 use Rattle.heap_rule.specs.declared.rule.Opening.{Opening}
 use Rattle.heap_rule.specs.declared.views.Learnt.{Learnt}
 use Rattle.heap_rule.specs.declared.views.View.{View}
@@ -76,11 +77,22 @@ module _ (base : Base) (c : Core) (sound : IsSound base c) where
   pub durable_last : durable_clock c ≤ LAST
   durable_last = let behind = sound.clocks.behind in let last = sound.clocks.last in omega arith
 
-  pub is_clock : (l : Learnt) (found : ℕ) → IsLearnt c l → found ≡ clock c → IsClock l found
-  is_clock l found is e =
+  pub is_clock : (l : Learnt) (u : ℕ) (p : UnitPart) (found : ℕ) → IsLearnt c l → slice_get c.units u ≡ Some p → found ≡ clock c
+      → IsClock l p found
+  is_clock l u p found is at e =
       let low = clock_low in let last = sound.clocks.last in let newest = is.newest in let durable = is.durable in
       let behind = sound.clocks.behind in
-      record { low = omega arith; high = omega arith; not_before = omega arith; not_behind = omega arith }
+      let limit = limit_reached base.clock (clock c) (u < passed_of (length c.units) c.advancer) p.stage (sound.registration u p at) in
+      let entries = last_within (limit_of (clock c) p.stage) p.history (sound.units u p at).reached.of_entries in
+      let known = sound.clocks.of_units u p at in
+      record {
+        low = omega arith;
+        high = omega arith;
+        not_before = omega arith;
+        not_behind = omega arith;
+        after_entries = omega arith;
+        after_durable = omega arith;
+      }
 
   pub is_durable : (known found : ℕ) → known ≤ durable_clock c → found ≡ durable_clock c → IsDurable known found
   is_durable known found l e =

@@ -1,9 +1,9 @@
 -- What each step of the advancer owes the rule.
-use Rattle.std.proofs.Common.{◌≡◌, ℕ, ◌+◌, ◌-◌, ◌<◌, List, length, set, refl, sym, ap, ◌∙◌, subst, arith, Bool, true, false, cond}
+use Rattle.std.proofs.Common.{◌≡◌, ℕ, ◌+◌, ◌-◌, ◌<◌, ◌≤◌, List, length, set, refl, sym, ap, ◌∙◌, subst, arith, Bool, true, false, cond}
 use Rattle.std.specs.Prelude.{slice_get, slice_index, min, nat_lt}
 use mathlib.Core.Option.{none}
 use Rattle.atomic_table.specs.Table.{State, keeps, step, Allows}
-use Rattle.std.proofs.lemmas.Option.{slice_get_within}
+use Rattle.std.proofs.lemmas.Option.{slice_get_within, slice_get-get_or, same_Some}
 use Rattle.mont_base.specs.declared.constants.TheConstants.{FIELDS, LAST}
 use Rattle.mont_base.specs.Layout.{units_of, total_of, word_of}
 use Rattle.mont_base.specs.Image.{clock_of}
@@ -18,7 +18,7 @@ use Rattle.core_steps.specs.Stages.{passed_of, phase_of, limit_of}
 use Rattle.core_steps.specs.Advancing.{can_check, unit_at_hand, lets_pass, after_check, with_odd, check, set_clock, is_clocked, persist_clock}
 use Rattle.core_steps.specs.Events.{AreNoneLost}
 use Rattle.core_steps.specs.Flushing.{unit_list, flush_list, can_load_word, after_load_word, load_word, can_persist_word, after_persist_word, words_persisted, persist_word, is_flushed}
-use Rattle.core_steps.specs.Sound.{LostWait, ClocksStand}
+use Rattle.core_steps.specs.Sound.{LostWait, ClocksStand, announcement}
 use Rattle.core_steps.specs.WriteBack.{FlushFits}
 use Rattle.core_steps.proofs.NoteLaws.{limit_reached}
 use Rattle.core_steps.proofs.RowFacts.{item_at}
@@ -31,11 +31,12 @@ use Rattle.heap_rule.specs.Views.{Cell, advancer_view, are_clean, full_rest, lis
 use Rattle.heap_rule.specs.TableWords.{laid_out, durable_place, announcement_place}
 use Rattle.heap_rule.specs.HomeLists.{IsTouched, full_at, HomesFit}
 use Rattle.heap_rule.specs.Rule.{IsLearnt, AreClean, Owners, Board, Homes, AreLists, FitsAdvancer, FitsView, ShowsCore}
-use Rattle.heap_rule.specs.Plays.{checked, loaded_word, persisted_word, set_clock as clock_was_set, persisted_clock}
+use Rattle.heap_rule.specs.Plays.{IsAnnouncement, IsAhead, checked, loaded_word, persisted_word, set_clock as clock_was_set, persisted_clock}
 use Rattle.heap_rule.proofs.HomeSlots.{in_later, full_below, full_none, clock_moves}
 use Rattle.heap_rule.proofs.Growing.{Sweeps, sweeps_itself, learnt_still}
 use Rattle.heap_rule.proofs.RuleFrames.{Reached, goes, Moves, steps, loads}
-use Rattle.heap_rule.proofs.CoreFacts.{none_clean, none_moving, stores_current, stores_durable, found_current, found_announced, slot_word_within}
+use Rattle.heap_rule.proofs.RunFacts.{announces}
+use Rattle.heap_rule.proofs.CoreFacts.{durable_low, none_clean, none_moving, stores_current, stores_durable, found_current, found_announced, slot_word_within}
 use Rattle.heap_rule.proofs.ListFacts.{list_above, joined_lists, remembers, lists_after_check, still_passed}
 
 -- ---- the advancer's part, its clocks and its turn change
@@ -122,6 +123,10 @@ checks o slots seat a c may rest inside s k long at small =
     let count = f.list_count in
     let one = item_at core.units j (omega arith) in
     let list : List ℕ = unit_list (clock core - 1) one.0 in
+    let told = k.sound.announcements.as_many in
+    let low = slice_get_within core.units j one.0 one.1 in
+    let word : slice_index core.told j ≡ announcement one.0.stage one.0.frozen =
+    same_Some _ _ (sym (slice_get-get_or core.told j 0 (omega arith)) ∙ k.sound.announcements.each j one.0 one.1) in
     let d : Core = check core x in
     let r : Reached o k.states core d = goes o s k d events.Check
     (none_at_check core.units core.advancer k.sound.lost (λ e. none_clean o s k a.clean f.clean (rest (sym f.part ∙ e))), can)
@@ -143,7 +148,7 @@ checks o slots seat a c may rest inside s k long at small =
           ap (λ (z : ℕ × ℕ). list_at (cond (lets_pass z.0 x) (set a.lists z.1 list) a.lists) u) (λ i. (sym f.clock_is i, sym there i))
           ∙ lists_after_check core a.lists x one.0 can one.1 (omega arith) f.lists u q is passed)
           refl refl refl refl),
-      (list, refl),
+      ((list, refl), subst IsAnnouncement (sym (found ∙ word)) (announces o s k j one.0 one.1)),
     )
 
 -- ---- LoadWord and PersistWord
@@ -384,6 +389,23 @@ sets_clock o slots seat a c may empty s k long at small =
     none_below u l = omega arith
 
 -- ---- PersistClock
+clock_ahead : (now durable : ℕ) (a : AdvPart) → is_clocked a ≡ true → ClocksStand (phase_of a) now durable → durable + 1 ≡ now
+clock_ahead now durable Rest may c = absurd (cc)
+clock_ahead now durable (Checking j) may c = absurd (cc)
+clock_ahead now durable (Flushing d g) may c = absurd (cc)
+clock_ahead now durable (Holding d g v) may c = absurd (cc)
+clock_ahead now durable Clocked may c = c
+
+is_ahead : (now durable : ℕ) (a : AdvHeld) → now ≡ a.clock → durable ≡ a.durable → durable + 1 ≡ now → 2 ≤ durable → now ≤ LAST
+    → a.learnt.newest ≤ now → a.learnt.durable ≤ durable → IsAhead a
+is_ahead now durable a clock_is durable_is next low last newest known = record {
+  low = omega arith;
+  next = omega arith;
+  high = omega arith;
+  reached = omega arith;
+  ahead = omega arith;
+}
+
 pub persists_clock : (o : Opening) (slots seat : ℕ) (a : AdvHeld) (c : List (ℕ × Cell)) → is_clocked a.part ≡ true
     → Allows (ShowsCore o) slots seat (advancer_view a, c) (durable_place o.layout 0) (λ _. a.clock)
     (λ _ m. persisted_clock (step slots (durable_place o.layout 0) a.clock 0 none) (advancer_view a, c) a.clock m)
@@ -409,7 +431,12 @@ persists_clock o slots seat a c may s k long at small =
           (subst (λ (z : FullTurn). Homes (board_of o s k seat a f d z) s.homes) f.turn k.homes)
           (advancer_fits o s k seat a f d w r refl refl refl f.clock_is (later ∙ f.clock_is) f.odd refl
           (λ u q is more. absurd (none_below u more)) refl refl refl refl),
-      refl,
+      (
+        refl,
+        is_ahead (clock core) (durable_clock core) a f.clock_is f.durable
+            (clock_ahead (clock core) (durable_clock core) core.advancer clocked k.sound.clocks.stand) (durable_low _ core k.sound)
+            k.sound.clocks.last f.learnt.newest f.learnt.durable,
+      ),
     )
   where
     none_below : (u : ℕ) → u < 0 → ⊥

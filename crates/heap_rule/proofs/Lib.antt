@@ -2,6 +2,8 @@ pub mod WordPlaces
 pub mod HomeSlots
 pub mod Growing
 pub mod RuleFrames
+pub mod UsedSlots
+pub mod RunFacts
 pub mod CoreFacts
 pub mod UnitPlays
 pub mod StorePlays

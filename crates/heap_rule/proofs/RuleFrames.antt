@@ -191,6 +191,7 @@ module _ (o : Opening) (s : State Cell View) (k : ShowsCore o s) where
   steps seat i x c w a d r moves words passed homes fits = record {
     board = d;
     own = k.own;
+    accepted = k.accepted;
     states = k.states;
     base = k.base;
     events = r.events;
@@ -284,6 +285,7 @@ module _ (o : Opening) (s : State Cell View) (k : ShowsCore o s) where
   resplit seat left right now hands l r = record {
     board = k.board;
     own = now;
+    accepted = k.accepted;
     states = k.states;
     base = k.base;
     events = k.events;
@@ -310,6 +312,7 @@ module _ (o : Opening) (s : State Cell View) (k : ShowsCore o s) where
   rejoin seat other one d now r moves hands words passed homes fits = record {
     board = d;
     own = now;
+    accepted = k.accepted;
     states = k.states;
     base = k.base;
     events = r.events;

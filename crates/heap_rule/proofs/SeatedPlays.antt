@@ -61,13 +61,13 @@ withdraws_as o slots seat i x m h is at new may home =
     (step slots z.0 z.1 0 none) (z.2, m.1) z.1 n))
     (λ j. (sym at j, sym new j, sym is j)) (withdraws o slots seat h m.1 may home)
 
-pub loads_durable_as : (o : Opening) (slots seat i : ℕ) (m : Seated) (h : UnitHeld) → m.0 ≡ unit_view h
+pub loads_durable_as : (o w : Opening) (slots seat i : ℕ) (m : Seated) (h : UnitHeld) → w ≡ o → m.0 ≡ unit_view h
     → i ≡ durable_place o.layout 0 → can_load_durable h.part ≡ true
-    → Allows (ShowsCore o) slots seat m i (λ n. n) (loaded_durable (step slots i 0 0 none) m)
-loads_durable_as o slots seat i m h is at may =
-    subst (λ (z : ℕ × View). Allows (ShowsCore o) slots seat (z.1, m.1) z.0 (λ n. n) (loaded_durable (step slots z.0 0 0 none)
+    → Allows (ShowsCore o) slots seat m i (λ n. n) (loaded_durable w (step slots i 0 0 none) m)
+loads_durable_as o w slots seat i m h same is at may =
+    subst (λ (z : ℕ × View × Opening). Allows (ShowsCore o) slots seat (z.1, m.1) z.0 (λ n. n) (loaded_durable z.2 (step slots z.0 0 0 none)
     (z.1, m.1)))
-    (λ j. (sym at j, sym is j)) (loads_durable o slots seat h m.1 may)
+    (λ j. (sym at j, sym is j, sym same j)) (loads_durable o slots seat h m.1 may)
 
 pub stores_as : (o : Opening) (slots seat i x : ℕ) (m : Seated) (h : UnitHeld) (slot field value : ℕ) → m.0 ≡ unit_view h
     → i ≡ word_of slot field → x ≡ value → CanStore (IsFreeSlot o.layout h.unit h.part slot) h.unit h.part slot field value
@@ -86,13 +86,13 @@ closes_label_as o slots seat i x m h slot is at new may inside home =
     (z.2, m.1) z.1 n))
     (λ j. (sym at j, sym new j, sym is j)) (closes_label o slots seat h m.1 slot may inside home)
 
-pub persists_close_as : (o : Opening) (slots seat i x : ℕ) (m : Seated) (h : UnitHeld) (slot : ℕ) → m.0 ≡ unit_view h
+pub persists_close_as : (o w : Opening) (slots seat i x : ℕ) (m : Seated) (h : UnitHeld) (slot : ℕ) → w ≡ o → m.0 ≡ unit_view h
     → i ≡ durable_place o.layout (word_of slot 0) → x ≡ 0 → CanPersistClose h.part slot → slot < total_of o.layout → h.turn ≡ home_turn
-    → Allows (ShowsCore o) slots seat m i (λ _. x) (λ _ n. persisted (step slots i x 0 none) m x n)
-persists_close_as o slots seat i x m h slot is at new may inside home =
-    subst (λ (z : ℕ × ℕ × View). Allows (ShowsCore o) slots seat (z.2, m.1) z.0 (λ _. z.1) (λ _ n. persisted
+    → Allows (ShowsCore o) slots seat m i (λ _. x) (λ _ n. persisted w (step slots i x 0 none) m x n)
+persists_close_as o w slots seat i x m h slot same is at new may inside home =
+    subst (λ (z : ℕ × ℕ × View × Opening). Allows (ShowsCore o) slots seat (z.2, m.1) z.0 (λ _. z.1) (λ _ n. persisted z.3
     (step slots z.0 z.1 0 none) (z.2, m.1) z.1 n))
-    (λ j. (sym at j, sym new j, sym is j)) (persists_close o slots seat h m.1 slot may inside home)
+    (λ j. (sym at j, sym new j, sym is j, sym same j)) (persists_close o slots seat h m.1 slot may inside home)
 
 pub checks_as : (o : Opening) (slots seat i : ℕ) (m : Seated) (a : AdvHeld) → m.0 ≡ advancer_view a
     → i ≡ announcement_place o.layout (unit_at_hand a.part) → can_check a.clock a.part ≡ true → (a.part ≡ Rest
@@ -150,22 +150,23 @@ sees_durable_as o slots seat i m q is at =
     subst (λ (z : ℕ × View). Allows (ShowsCore o) slots seat (z.1, m.1) z.0 (λ n. n) (saw_durable (step slots z.0 0 0 none) (z.1, m.1)))
     (λ j. (sym at j, sym is j)) (sees_durable o slots seat q m.1)
 
-pub leaves_as : (o : Opening) (slots seat i x : ℕ) (m : Seated) (h : UnitHeld) (q : CallerHeld) (op : Op) (reply : Reply)
-    → m.0 ≡ pair_view h q → i ≡ announcement_place o.layout h.unit → x ≡ 0
+pub leaves_as : (o w : Opening) (slots seat i x : ℕ) (m : Seated) (h : UnitHeld) (q : CallerHeld) (op : Op) (reply : Reply)
+    → w ≡ o → m.0 ≡ pair_view h q → i ≡ announcement_place o.layout h.unit → x ≡ 0
     → CanLeave o.layout h.unit h.part q.part op reply (epoch_of h.part.stage)
     → h.turn ≡ record { out = false; pushed = slots_written h.part }
-    → Allows (ShowsCore o) slots seat m i (λ _. x) (λ _ n. left op reply (step slots i x 0 none) m x n)
-leaves_as o slots seat i x m h q op reply is at new may given =
-    subst (λ (z : ℕ × ℕ × View). Allows (ShowsCore o) slots seat (z.2, m.1) z.0 (λ _. z.1) (λ _ n. left op reply
+    → Allows (ShowsCore o) slots seat m i (λ _. x) (λ _ n. left w op reply (step slots i x 0 none) m x n)
+leaves_as o w slots seat i x m h q op reply same is at new may given =
+    subst (λ (z : ℕ × ℕ × View × Opening). Allows (ShowsCore o) slots seat (z.2, m.1) z.0 (λ _. z.1) (λ _ n. left z.3 op reply
     (step slots z.0 z.1 0 none) (z.2, m.1) z.1 n))
-    (λ j. (sym at j, sym new j, sym is j)) (leaves o slots seat h q m.1 op reply may given)
+    (λ j. (sym at j, sym new j, sym is j, sym same j)) (leaves o slots seat h q m.1 op reply may given)
 
-pub reads_as : (o : Opening) (slots seat i : ℕ) (m : Seated) (h : UnitHeld) (q : CallerHeld) (op : Op) (reply : Reply)
-    → m.0 ≡ pair_view h q → i ≡ 0 → CanRead o.layout h.unit h.part q.part op reply → are_clean (units_of o.layout) h.clean ≡ true
-    → Allows (ShowsCore o) slots seat m i (λ n. n) (read op reply (step slots i 0 0 none) m)
-reads_as o slots seat i m h q op reply is at may clean =
-    subst (λ (z : ℕ × View). Allows (ShowsCore o) slots seat (z.1, m.1) z.0 (λ n. n) (read op reply (step slots z.0 0 0 none) (z.1, m.1)))
-    (λ j. (sym at j, sym is j)) (reads o slots seat h q m.1 op reply may clean)
+pub reads_as : (o w : Opening) (slots seat i : ℕ) (m : Seated) (h : UnitHeld) (q : CallerHeld) (op : Op) (reply : Reply)
+    → w ≡ o → m.0 ≡ pair_view h q → i ≡ 0 → CanRead o.layout h.unit h.part q.part op reply → are_clean (units_of o.layout) h.clean ≡ true
+    → Allows (ShowsCore o) slots seat m i (λ n. n) (read w op reply (step slots i 0 0 none) m)
+reads_as o w slots seat i m h q op reply same is at may clean =
+    subst (λ (z : ℕ × View × Opening). Allows (ShowsCore o) slots seat (z.1, m.1) z.0 (λ n. n) (read z.2 op reply
+    (step slots z.0 0 0 none) (z.1, m.1)))
+    (λ j. (sym at j, sym is j, sym same j)) (reads o slots seat h q m.1 op reply may clean)
 
 pub takes_list_as : (o : Opening) (slots seat i : ℕ) (m : Seated) (h : UnitHeld) → m.0 ≡ unit_view h → i ≡ 0
     → is_within h.part.stage ≡ true → h.turn.out ≡ false

@@ -26,7 +26,7 @@ use Rattle.core_steps.proofs.CloseLaws.{lost_apart}
 use Rattle.core_steps.proofs.UnitCloses.{due_lost, due_old}
 use Rattle.core_steps.proofs.UnitLists.{listed_without}
 use Rattle.core_steps.proofs.RowFacts.{row_from}
-use Rattle.core_steps.proofs.Rows.{row_set}
+use Rattle.core_steps.proofs.Rows.{row_set, row_here}
 use Rattle.core_steps.proofs.RoleFacts.{slot_looks_free, free_settled, writing_settled, writing_label}
 use Rattle.core_steps.proofs.StoreLaws.{some_slots}
 use Rattle.heap_rule.specs.declared.rule.Opening.{Opening}
@@ -35,9 +35,11 @@ use Rattle.heap_rule.specs.Views.{Cell, unit_view, is_among, with_clean, home_tu
 use Rattle.heap_rule.specs.TableWords.{durable_place}
 use Rattle.heap_rule.specs.Rule.{AreClean, ShowsCore}
 use Rattle.heap_rule.specs.Plays.{wrote, closed, persisted}
+use Rattle.heap_rule.specs.SoundUnits.{IsSoundUnit}
 use Rattle.heap_rule.proofs.WordPlaces.{slot_at_word, field_at_word}
 use Rattle.heap_rule.proofs.HomeSlots.{stage_same}
-use Rattle.heap_rule.proofs.RuleFrames.{goes}
+use Rattle.heap_rule.proofs.RuleFrames.{Reached, goes}
+use Rattle.heap_rule.proofs.RunFacts.{unit_sound}
 use Rattle.heap_rule.proofs.CoreFacts.{at_row, none_announced, stores_current, stores_durable, slot_word_within}
 use Rattle.heap_rule.proofs.UnitPlays.{IsOwnStep, own_store, still_clean, rest_home}
 
@@ -231,7 +233,7 @@ swept_lost slot p e = ap (λ (l : List ℕ). without_lost slot l) e
 pub persists_close : (o : Opening) (slots seat : ℕ) (h : UnitHeld) (c : List (ℕ × Cell)) (slot : ℕ) → CanPersistClose h.part slot
     → slot < total_of o.layout → h.turn ≡ home_turn
     → Allows (ShowsCore o) slots seat (unit_view h, c) (durable_place o.layout (word_of slot 0)) (λ _. 0)
-    (λ _ m. persisted (step slots (durable_place o.layout (word_of slot 0)) 0 0 none) (unit_view h, c) 0 m)
+    (λ _ m. persisted o (step slots (durable_place o.layout (word_of slot 0)) 0 0 none) (unit_view h, c) 0 m)
 persists_close o slots seat h c slot may inside home s k long at small =
     let f = (k.views seat (unit_view h) at).units.0 in
     let core = k.board.core in
@@ -250,18 +252,26 @@ persists_close o slots seat h c slot may inside home s k long at small =
       durable = (stores_change_one_field core.dur slot 0 0 low).clock;
       lost = swept_lost slot h.part;
       old_list = λ _. old;
-    } in (
+    } in
+    let y : Reached o k.states core d = goes o s k d (events.PersistClose h.unit)
+    (row_from (λ (p : UnitPart). (slot : ℕ) × CanPersistClose p slot) (slice_get core.units h.unit) h.part f.part (slot, may))
+    (ap (persist_close core h.unit h.part) (sym here)
+    ∙ at_row core.units h.unit h.part core (λ p. persist_close core h.unit p (closing_of p.stage)) f.part) in (
       unit_view (unit_persisted h slot),
       keeps,
       tt,
       own_store o s k seat h f (durable_place o.layout (word_of slot 0)) 0 c q (h.steps + 1) h.loaded (with_clean h.clean h.unit q) d
-          (goes o s k d (events.PersistClose h.unit)
-          (row_from (λ (p : UnitPart). (slot : ℕ) × CanPersistClose p slot) (slice_get core.units h.unit) h.part f.part (slot, may))
-          (ap (persist_close core h.unit h.part) (sym here)
-          ∙ at_row core.units h.unit h.part core (λ p. persist_close core h.unit p (closing_of p.stage)) f.part))
-          is refl (clean_closed core.units h.clean h.unit q (still_clean o s k seat h f q d is))
+          y is refl (clean_closed core.units h.clean h.unit q (still_clean o s k seat h f q d is))
           (rest_home o s k seat h f q (clock core) home young)
           (rest_home o s k seat h f q (clock core - 1) home old)
           (stores_durable o s k (word_of slot 0) 0 (slot_word_within o.layout slot 0 inside low)),
-      (λ i. (unit_view (unit_persisted h (sym here i)), c)),
+      (
+        (λ i. (unit_view (unit_persisted h (sym here i)), c)),
+        (
+          clock d,
+          durable_clock d,
+          subst (λ (z : ℕ). IsSoundUnit o (clock d) (durable_clock d) (unit_persisted h z)) (sym here)
+              (unit_sound o s k d y refl (unit_persisted h slot) (row_here core.units h.unit q h.part f.part)),
+        ),
+      ),
     )

@@ -29,9 +29,11 @@ use Rattle.heap_rule.specs.TableWords.{table_words, durable_place, announcement_
 use Rattle.heap_rule.specs.HomeLists.{unit_home, full_at, HomesFit, IsTouched}
 use Rattle.heap_rule.specs.Rule.{Owners, Board, HasPassed, Homes, Passed, AreClean, FitsUnit, FitsView, ShowsCore}
 use Rattle.heap_rule.specs.Plays.{looked, told, confirmed, withdrew, loaded_durable}
+use Rattle.heap_rule.specs.SoundUnits.{IsSoundUnit}
 use Rattle.heap_rule.proofs.HomeSlots.{same_moves, rest_same}
 use Rattle.heap_rule.proofs.Growing.{Sweeps, clean_still, learnt_still}
 use Rattle.heap_rule.proofs.RuleFrames.{Reached, goes, Moves, steps, loads}
+use Rattle.heap_rule.proofs.RunFacts.{unit_sound}
 use Rattle.heap_rule.proofs.CoreFacts.{at_row, none_clean, none_announced, is_clock, is_durable, stores_announced, found_clock, found_durable_clock}
 
 -- ---- one unit's part changes
@@ -205,7 +207,7 @@ looks o slots seat h c may s k long at small =
           (goes o s k core (events.Look h.unit) (row_from (λ (p : UnitPart). can_look p
           ≡ true) (slice_get core.units h.unit) h.part f.part may) refl)
           is refl (still_clean o s k seat h f h.part core is) refl refl refl,
-      (refl, is_clock _ core k.sound h.learnt x f.learnt (found_clock o s k)),
+      (refl, is_clock _ core k.sound h.learnt h.unit h.part x f.learnt f.part (found_clock o s k)),
     )
 
 -- ---- Tell
@@ -292,7 +294,7 @@ confirms o slots seat h c may home s k long at small =
           (at_row core.units h.unit h.part core (λ p. confirm core h.unit p) f.part))
           is refl (still_clean o s k seat h f q d is) (rest_home o s k seat h f q (clock core) home refl)
           (rest_home o s k seat h f q (clock core - 1) home refl) refl),
-      (refl, is_clock _ core k.sound h.learnt x f.learnt found),
+      (refl, is_clock _ core k.sound h.learnt h.unit h.part x f.learnt f.part found),
     )
 
 -- ---- Withdraw
@@ -343,7 +345,7 @@ withdraws o slots seat h c may home s k long at small =
 -- ---- LoadDurable
 pub loads_durable : (o : Opening) (slots seat : ℕ) (h : UnitHeld) (c : List (ℕ × Cell)) → can_load_durable h.part ≡ true
     → Allows (ShowsCore o) slots seat (unit_view h, c) (durable_place o.layout 0) (λ n. n)
-    (loaded_durable (step slots (durable_place o.layout 0) 0 0 none) (unit_view h, c))
+    (loaded_durable o (step slots (durable_place o.layout 0) 0 0 none) (unit_view h, c))
 loads_durable o slots seat h c may s k long at small =
     let f = (k.views seat (unit_view h) at).units.0 in
     let core = k.board.core in
@@ -362,6 +364,9 @@ loads_durable o slots seat h c may s k long at small =
       lost = λ e. e;
       old_list = λ _. refl;
     } in
+    let y : Reached o k.states core d = goes o s k d (events.LoadDurable (parts.Unit h.unit))
+    (row_from (λ (p : UnitPart). can_load_durable p ≡ true) (slice_get core.units h.unit) h.part f.part may)
+    (at_row core.units h.unit h.part core (λ p. load_durable core h.unit p) f.part) in
     let known = k.sound.clocks.of_units h.unit h.part f.part in
     let learnt = f.learnt.durable in (
       unit_view (unit_loaded_durable h x),
@@ -370,10 +375,14 @@ loads_durable o slots seat h c may s k long at small =
       subst (λ (y : ℕ). ShowsCore o (stepped s i x seat c (unit_view (moved h (after_load_durable h.part y)
           (h.steps + 1) x h.clean)) keeps))
           (sym found)
-          (own_load o s k seat h f i c q (h.steps + 1) x h.clean d
-          (goes o s k d (events.LoadDurable (parts.Unit h.unit))
-          (row_from (λ (p : UnitPart). can_load_durable p ≡ true) (slice_get core.units h.unit) h.part f.part may)
-          (at_row core.units h.unit h.part core (λ p. load_durable core h.unit p) f.part))
-          is refl (still_clean o s k seat h f q d is) refl refl refl),
-      (refl, is_durable _ core k.sound (max h.part.durable h.learnt.durable) x (omega arith) found),
+          (own_load o s k seat h f i c q (h.steps + 1) x h.clean d y is refl (still_clean o s k seat h f q d is) refl refl refl),
+      (
+        refl,
+        is_durable _ core k.sound (max h.part.durable h.learnt.durable) x (omega arith) found,
+        (
+          clock core,
+          subst (λ (z : ℕ). IsSoundUnit o (clock core) z (unit_loaded_durable h z)) (sym found)
+              (unit_sound o s k d y refl (unit_loaded_durable h (durable_clock core)) (row_here core.units h.unit q h.part f.part)),
+        ),
+      ),
     )

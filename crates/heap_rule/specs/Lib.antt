@@ -2,4 +2,5 @@ pub mod Views
 pub mod TableWords
 pub mod HomeLists
 pub mod Rule
+pub mod SoundUnits
 pub mod Plays

@@ -1,26 +1,33 @@
 -- What each step tells: the seat after it, and what the rule says of the word that was found.
-use Rattle.std.specs.Prelude.{◌≡◌, ℕ, ◌+◌, ◌*◌, ◌/◌, ◌<◌, ◌≤◌, List, ◌∷◌, ◌++◌, length, max, All}
+use Rattle.std.specs.Prelude.{◌≡◌, ℕ, ◌+◌, ◌*◌, ◌/◌, ◌<◌, ◌≤◌, ◌⊎◌, List, ◌∷◌, ◌++◌, length, max, All}
 use Rattle.atomic_table.specs.Table.{Step, rest}
 use Rattle.mont_base.specs.declared.constants.TheConstants.{FIRST_CLOCK, LAST}
 use Rattle.mont_base.specs.declared.operation.Entry.{Entry}
 use Rattle.mont_base.specs.declared.operation.Op.{Op}
 use Rattle.mont_base.specs.declared.operation.Reply.{Reply}
+use Rattle.core_steps.specs.declared.parts.UnitPart.{UnitPart}
 use Rattle.core_steps.specs.Stages.{epoch_of}
 use Rattle.core_steps.specs.Answering.{entry_of}
 use Rattle.core_steps.specs.Events.{closing_of}
+use Rattle.core_steps.specs.Notes.{last_epoch}
+use Rattle.heap_rule.specs.declared.rule.Opening.{Opening}
 use Rattle.heap_rule.specs.declared.views.Learnt.{Learnt}
 use Rattle.heap_rule.specs.declared.views.UnitHeld.{UnitHeld}
 use Rattle.heap_rule.specs.declared.views.AdvHeld.{AdvHeld}
 use Rattle.heap_rule.specs.declared.views.CallerHeld.{CallerHeld}
 use Rattle.heap_rule.specs.Views.{Cell, Seated, listing, list_place, list_at, listed_in, unit_view, advancer_view, caller_view, pair_view, the_unit, the_advancer, the_caller, unit_looked, unit_told, unit_confirmed, unit_wrote, unit_withdrew, unit_loaded_durable, unit_closed, unit_persisted, unit_left, unit_read, unit_frozen, unit_took, unit_gave, advancer_checked, advancer_loaded, advancer_persisted, advancer_set, advancer_rested, advancer_took, advancer_gave, caller_answered, caller_saw, caller_cut}
 use Rattle.heap_rule.specs.TableWords.{slot_at, field_at}
+use Rattle.heap_rule.specs.SoundUnits.{IsSoundUnit}
 
--- a clock that was loaded is in its range, and not below what is known from notes
-pub record IsClock (l : Learnt) (found : ℕ) : Type 0 where
+-- A clock that was loaded is in its range, and not below what is known from notes, nor below what
+-- the unit has seen itself.
+pub record IsClock (l : Learnt) (p : UnitPart) (found : ℕ) : Type 0 where
   pub low : FIRST_CLOCK ≤ found
   pub high : found ≤ LAST
   pub not_before : l.newest ≤ found
   pub not_behind : l.durable ≤ found
+  pub after_entries : last_epoch p.history ≤ found
+  pub after_durable : p.durable ≤ found
 
 -- a durable clock is not below one that was known
 pub record IsDurable (known found : ℕ) : Type 0 where
@@ -30,15 +37,16 @@ pub record IsDurable (known found : ℕ) : Type 0 where
 
 abbrev pub looked : Step Cell → Seated → ℕ → Seated → Type 0
 looked s m found n =
-    (n ≡ (unit_view (unit_looked (the_unit m.0) found), m.1)) × IsClock (the_unit m.0).learnt found
+    let h : UnitHeld = the_unit m.0 in
+    (n ≡ (unit_view (unit_looked h found), m.1)) × IsClock h.learnt h.part found
 
 abbrev pub told : Step Cell → Seated → ℕ → Seated → Type 0
 told s m found n = n ≡ (unit_view (unit_told (the_unit m.0) (s.first / 2)), m.1)
 
 abbrev pub confirmed : Step Cell → Seated → ℕ → Seated → Type 0
 confirmed s m found n =
-    (n ≡ (unit_view (unit_confirmed (the_unit m.0) found), m.1))
-    × IsClock (the_unit m.0).learnt found
+    let h : UnitHeld = the_unit m.0 in
+    (n ≡ (unit_view (unit_confirmed h found), m.1)) × IsClock h.learnt h.part found
 
 abbrev pub wrote : Step Cell → Seated → ℕ → Seated → Type 0
 wrote s m found n =
@@ -47,43 +55,46 @@ wrote s m found n =
 abbrev pub withdrew : Step Cell → Seated → ℕ → Seated → Type 0
 withdrew s m found n = n ≡ (unit_view (unit_withdrew (the_unit m.0)), m.1)
 
-abbrev pub loaded_durable : Step Cell → Seated → ℕ → Seated → Type 0
-loaded_durable s m found n =
+abbrev pub loaded_durable : Opening → Step Cell → Seated → ℕ → Seated → Type 0
+loaded_durable o s m found n =
     let h : UnitHeld = the_unit m.0 in
     (n ≡ (unit_view (unit_loaded_durable h found), m.1))
     × IsDurable (max h.part.durable h.learnt.durable) found
+    × ((now : ℕ) × IsSoundUnit o now found (unit_loaded_durable h found))
 
 abbrev pub closed : Step Cell → Seated → ℕ → Seated → Type 0
 closed s m found n = n ≡ (unit_view (unit_closed (the_unit m.0) (slot_at s.word)), m.1)
 
-abbrev pub persisted : Step Cell → Seated → ℕ → Seated → Type 0
-persisted s m found n =
+abbrev pub persisted : Opening → Step Cell → Seated → ℕ → Seated → Type 0
+persisted o s m found n =
     let h : UnitHeld = the_unit m.0 in
-    n ≡ (unit_view (unit_persisted h (closing_of h.part.stage)), m.1)
+    let w : UnitHeld = unit_persisted h (closing_of h.part.stage) in
+    (n ≡ (unit_view w, m.1)) × ((now durable : ℕ) × IsSoundUnit o now durable w)
 
 -- ---- answers
 -- the entry of a caller's operation
 abbrev pub answer_of : CallerHeld → Op → Reply → ℕ → Entry
 answer_of q op reply epoch = entry_of q.caller q.part op reply epoch
 
-abbrev pub left : Op → Reply → Step Cell → Seated → ℕ → Seated → Type 0
-left op reply s m found n =
+abbrev pub left : Opening → Op → Reply → Step Cell → Seated → ℕ → Seated → Type 0
+left o op reply s m found n =
     let h : UnitHeld = the_unit m.0 in
     let q : CallerHeld = the_caller m.0 in
     let e : Entry = answer_of q op reply (epoch_of h.part.stage) in
-    n ≡ (pair_view (unit_left h e) (caller_answered q h e), m.1)
+    (n ≡ (pair_view (unit_left h e) (caller_answered q h e), m.1))
+    × ((now durable : ℕ) × IsSoundUnit o now durable (unit_left h e))
 
-abbrev pub read : Op → Reply → Step Cell → Seated → ℕ → Seated → Type 0
-read op reply s m found n =
+abbrev pub read : Opening → Op → Reply → Step Cell → Seated → ℕ → Seated → Type 0
+read o op reply s m found n =
     let h : UnitHeld = the_unit m.0 in
     let q : CallerHeld = the_caller m.0 in
     let e : Entry = answer_of q op reply found in
     (n ≡ (pair_view (unit_read h found e) (caller_answered q h e), m.1))
     × IsClock (record {
       newest = max h.learnt.newest q.part.newest;
-      durable = max
-          h.learnt.durable q.part.durable;
-    }) found
+      durable = max h.learnt.durable q.part.durable;
+    }) h.part found
+    × ((durable : ℕ) × IsSoundUnit o found durable (unit_read h found e))
 
 abbrev pub frozen : Step Cell → Seated → ℕ → Seated → Type 0
 frozen s m found n =
@@ -97,9 +108,18 @@ saw_durable s m found n =
     (n ≡ (caller_view (caller_saw q found), m.1)) × IsDurable q.part.durable found
 
 -- ---- the advancer
+-- an announcement is nothing, or an epoch, twice, and one more where a caller was cut
+pub record IsEpoch (epoch : ℕ) : Type 0 where
+  pub low : FIRST_CLOCK ≤ epoch
+  pub high : epoch ≤ LAST
+
+abbrev pub IsAnnouncement : ℕ → Type 0
+IsAnnouncement found = (found ≡ 0) ⊎ IsEpoch (found / 2)
+
 abbrev pub checked : Step Cell → Seated → ℕ → Seated → Type 0
 checked s m found n =
-    (list : List ℕ) × (n ≡ (advancer_view (advancer_checked (the_advancer m.0) found list), m.1))
+    ((list : List ℕ) × (n ≡ (advancer_view (advancer_checked (the_advancer m.0) found list), m.1)))
+    × IsAnnouncement found
 
 abbrev pub loaded_word : Step Cell → Seated → ℕ → Seated → Type 0
 loaded_word s m found n = n ≡ (advancer_view (advancer_loaded (the_advancer m.0) found), m.1)
@@ -113,8 +133,18 @@ set_clock s m found n =
     let a : AdvHeld = the_advancer m.0 in
     (n ≡ (advancer_view (advancer_set a), m.1)) × (a.clock < LAST)
 
+-- the clock that is made durable is above every durable clock, and not below any epoch
+pub record IsAhead (a : AdvHeld) : Type 0 where
+  pub low : FIRST_CLOCK ≤ a.durable
+  pub next : a.clock ≡ a.durable + 1
+  pub high : a.clock ≤ LAST
+  pub reached : a.learnt.newest ≤ a.clock
+  pub ahead : a.learnt.durable < a.clock
+
 abbrev pub persisted_clock : Step Cell → Seated → ℕ → Seated → Type 0
-persisted_clock s m found n = n ≡ (advancer_view (advancer_rested (the_advancer m.0)), m.1)
+persisted_clock s m found n =
+    let a : AdvHeld = the_advancer m.0 in
+    (n ≡ (advancer_view (advancer_rested a), m.1)) × IsAhead a
 
 -- ---- lists
 -- there is room for all that was written

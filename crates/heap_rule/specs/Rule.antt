@@ -6,7 +6,7 @@ use mathlib.Core.Option.{Option, some}
 use lib.ListN.{get_elem?}
 use Rattle.atomic_table.specs.Table.{State}
 use Rattle.mont_base.specs.declared.operation.Entry.{Entry}
-use Rattle.mont_base.specs.Image.{clock_of, IsRecovered}
+use Rattle.mont_base.specs.Image.{clock_of, IsWellFormed, IsRecovered}
 use Rattle.mont_base.specs.State.{State as Contents}
 use Rattle.core_steps.specs.declared.event.Event.{Event}
 use Rattle.core_steps.specs.declared.parts.Core.{Core}
@@ -134,6 +134,7 @@ IsRun start (e ∷ es) c =
 pub record ShowsCore (o : Opening) (s : State Cell View) : Type 0 where
   pub board : Board
   pub own : Owners
+  pub accepted : IsWellFormed o.layout o.words
   pub states : List Contents
   pub base : IsRecovered o.layout o.words states
   pub events : List Event

@@ -14,8 +14,8 @@ mod views;
 
 pub use plays::{
     Answer, Checks, ClosesLabel, Confirms, Freezes, GivesEmpty, GivesList, Leaves, LoadsDurable,
-    LoadsWord, Looks, PersistsClock, PersistsClose, PersistsWord, Reads, SeesDurable, SetsClock,
-    Stores, TakesFull, TakesList, Tells, Withdraws,
+    LoadsWord, Looks, Opened, PersistsClock, PersistsClose, PersistsWord, Reads, SeesDurable,
+    SetsClock, Stores, TakesFull, TakesList, Tells, Withdraws,
 };
 pub use rule::{Opening, Rule};
 pub use seat_moves::{

@@ -3,10 +3,26 @@ use crate::views::{Cell, View};
 use atomic_table::Play;
 use std::marker::{Brand, PhantomData};
 
-/// Names an operation and its reply, for a proof alone.
+/// Names with what the store opened, for a proof alone.
+pub trait Opened {
+    ghost use Rattle.heap_rule.specs.declared.rule.Opening.{Opening};
+
+    ghost opening: { Opening };
+}
+
+impl Opened for Brand {
+    ghost use Rattle.heap_rule.specs.Views.{some_opening};
+
+    ghost opening = { some_opening };
+}
+
+/// Names with what the store opened, an operation and its reply, for a proof alone.
 pub trait Answer {
     ghost use Rattle.mont_base.specs.declared.operation.Op.{Op};
     ghost use Rattle.mont_base.specs.declared.operation.Reply.{Reply};
+    ghost use Rattle.heap_rule.specs.declared.rule.Opening.{Opening};
+
+    ghost opening: { Opening };
 
     ghost op: { Op };
 
@@ -16,6 +32,9 @@ pub trait Answer {
 impl Answer for Brand {
     ghost use Rattle.mont_base.specs.declared.operation.Op.TheVariants.{Len};
     ghost use Rattle.mont_base.specs.declared.operation.Reply.TheVariants.{Nothing};
+    ghost use Rattle.heap_rule.specs.Views.{some_opening};
+
+    ghost opening = { some_opening };
 
     ghost op = { Len 0 };
 
@@ -30,7 +49,7 @@ pub struct Leaves<N> {
 impl<N: Answer> Play<Cell, View> for Leaves<N> {
     ghost use Rattle.heap_rule.specs.Plays.{left};
 
-    ghost then = { left N.op N.reply };
+    ghost then = { left N.opening N.op N.reply };
 }
 
 /// The unit answers what changes nothing.
@@ -41,7 +60,7 @@ pub struct Reads<N> {
 impl<N: Answer> Play<Cell, View> for Reads<N> {
     ghost use Rattle.heap_rule.specs.Plays.{read};
 
-    ghost then = { read N.op N.reply };
+    ghost then = { read N.opening N.op N.reply };
 }
 
 /// The unit loads the clock.
@@ -90,12 +109,14 @@ impl Play<Cell, View> for Withdraws {
 }
 
 /// The unit loads the durable clock.
-pub struct LoadsDurable;
+pub struct LoadsDurable<N> {
+    of: PhantomData<N>,
+}
 
-impl Play<Cell, View> for LoadsDurable {
+impl<N: Opened> Play<Cell, View> for LoadsDurable<N> {
     ghost use Rattle.heap_rule.specs.Plays.{loaded_durable};
 
-    ghost then = { loaded_durable };
+    ghost then = { loaded_durable N.opening };
 }
 
 /// The unit closes a label.
@@ -108,12 +129,14 @@ impl Play<Cell, View> for ClosesLabel {
 }
 
 /// The unit makes that label durable.
-pub struct PersistsClose;
+pub struct PersistsClose<N> {
+    of: PhantomData<N>,
+}
 
-impl Play<Cell, View> for PersistsClose {
+impl<N: Opened> Play<Cell, View> for PersistsClose<N> {
     ghost use Rattle.heap_rule.specs.Plays.{persisted};
 
-    ghost then = { persisted };
+    ghost then = { persisted N.opening };
 }
 
 /// The caller is cut in the unit.

@@ -1,4 +1,4 @@
-use Rattle.std.proofs.Common.{refl, ap, subst, sym, arith}
+use Rattle.std.proofs.Common.{refl, ap, subst, sym}
 use Rattle.core_steps.specs.Closing.{CanClose}
 use Rattle.heap_rule.specs.Views.{Seated, the_unit}
 use Rattle.heap_rule.proofs.SeatedPlays.{closes_label_as}

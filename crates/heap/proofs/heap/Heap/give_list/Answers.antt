@@ -15,7 +15,7 @@ pub exchange-requires : goal.exchange-requires
 exchange-requires c = (
   unit_table _ _ _ _ c.seat.view_is c.requires.heap c.self.view_is,
   out_slot _ _ _ _ _ _ c.seat.inside.seat.me c.seat.invariant _
-      (ap (λ (x : UnitShown). x.held.turn.out) c.seat.view_is ∙ c.requires.out) c.place-place.ensures,
+      (ap (λ (x : UnitShown). x.held.turn.out) c.seat.view_is ∙ c.requires.out) c.place-home.ensures,
 )
 
 pub load-requires : goal.load-requires
@@ -28,7 +28,7 @@ load-requires c =
       omega (arith, words),
       gives_list_as _ _ _ _ _ _ _
           (gave_slot _ _ _ _ _ _ c.seat.inside.seat.me s _ _ c.args.list
-          (ap (λ (x : UnitShown). x.held.turn.out) c.seat.view_is ∙ c.requires.out) c.place-place.ensures e.3)
+          (ap (λ (x : UnitShown). x.held.turn.out) c.seat.view_is ∙ c.requires.out) c.place-home.ensures e.3)
           refl
           (ap (λ (x : UnitShown). is_within x.held.part.stage) c.seat.view_is ∙ c.requires.may)
           (c.requires.list ∙ sym (ap (λ (x : UnitShown). whole_list x.held) c.seat.view_is)),

@@ -1,4 +1,4 @@
-use Rattle.std.proofs.Common.{rules, ap, sym, refl, arith, ◌∙◌}
+use Rattle.std.proofs.Common.{rules, ap, arith, ◌∙◌}
 use Rattle.heap_rule.specs.Views.{the_unit}
 use Rattle.heap_rule.proofs.SeatPlays.{splits_whole, splits_callers, joins_heard_as}
 use Rattle.heap.proofs.HeardSeats.{unit_heard}

@@ -1,6 +1,8 @@
-use Rattle.std.proofs.Common.{rules, ap, sym, arith, ◌∙◌}
+use Rattle.std.proofs.Common.{rules, ap, subst, sym, arith, ◌∙◌}
 use Rattle.core_steps.specs.Stages.{epoch_of}
+use Rattle.heap_rule.specs.declared.views.UnitHeld.{UnitHeld}
 use Rattle.heap_rule.specs.Plays.{answer_of}
+use Rattle.heap_rule.specs.SoundUnits.{IsSoundUnit}
 use Rattle.heap_rule.specs.Views.{the_unit, the_caller}
 use Rattle.heap_rule.proofs.SeatPlays.{splits_whole, splits_callers, joins_callers}
 use Rattle.heap.proofs.AnsweredSeats.{left_keeps}
@@ -37,3 +39,8 @@ invariant_of-seat g c = left_keeps _ _ _ _ _ _ c.seat.inside.seat.me c.seat.inva
     (answer_of (the_caller c.ticket.inside.seat.me.0) c.args.op.now c.args.reply.now (epoch_of
     (the_unit c.seat.inside.seat.me.0).part.stage))
     (search rules) (sym c.seat.invariant.epoch_is) (search rules)
+
+pub returns-clause-sound : goal.returns-clause-sound
+returns-clause-sound g c =
+    let k = c.store_left.ensures.sound in
+    (k.0, k.1, subst (λ (h : UnitHeld). IsSoundUnit c.args.self.now.opening k.0 k.1 h) (search rules) k.2)

@@ -1,4 +1,4 @@
-use Rattle.std.proofs.Common.{◌≡◌, ap, subst, sym, arith, ◌∙◌, true}
+use Rattle.std.proofs.Common.{◌≡◌, ap, subst, sym, arith, true}
 use Rattle.mont_base.specs.Layout.{units_of}
 use Rattle.core_steps.specs.declared.parts.AdvPart.TheVariants.{Rest}
 use Rattle.core_steps.specs.Advancing.{can_check, unit_at_hand}

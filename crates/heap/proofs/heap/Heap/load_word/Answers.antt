@@ -1,10 +1,9 @@
 use Rattle.std.proofs.Common.{◌≡◌, ◌<◌, length, ap, subst, sym, ◌∙◌, true}
-use Rattle.mont_base.specs.Layout.{total_of, word_of}
 use Rattle.mont_base.specs.declared.constants.TheConstants.{FIELDS}
 use Rattle.core_steps.specs.Flushing.{can_load_word}
-use Rattle.heap_rule.specs.Views.{Seated, joined, slot_at_hand, field_at_hand}
+use Rattle.heap_rule.specs.Views.{Seated, joined, field_at_hand}
 use Rattle.heap_rule.proofs.SeatedPlays.{loads_word_as}
-use Rattle.heap.specs.HeapShown.{HeapShown, AdvShown}
+use Rattle.heap.specs.HeapShown.{AdvShown}
 use Rattle.heap.proofs.SeatTables.{advancer_table, word_inside, hand_inside, hand_field, hand_word}
 use Rattle.heap.proofs.heap.Heap.load_word.Goals as goal
 

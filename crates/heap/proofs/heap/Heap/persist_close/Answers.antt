@@ -1,20 +1,11 @@
-use Rattle.std.proofs.Common.{refl, ap, subst, sym, arith}
+use Rattle.std.proofs.Common.{subst, sym}
 use Rattle.core_steps.specs.Closing.{CanPersistClose}
-use Rattle.heap_rule.specs.Views.{Seated, the_unit}
-use Rattle.heap_rule.proofs.SeatedPlays.{persists_close_as}
+use Rattle.heap_rule.specs.Views.{the_unit}
 use Rattle.heap.specs.HeapShown.{UnitShown}
-use Rattle.heap.proofs.SeatTables.{unit_table, word_inside, slot_inside, persist_close_rests, place_durable}
+use Rattle.heap.proofs.SeatTables.{persist_close_rests}
 use Rattle.heap.proofs.heap.Heap.persist_close.Goals as goal
 
-pub store-requires : goal.store-requires
-store-requires g c =
-    let s = c.seat.invariant in
-    let place = c.durable-place.ensures in
-    let may = subst (λ (x : UnitShown). CanPersistClose x.held.part c.args.slot) (sym c.seat.view_is) c.requires.may in (
-      unit_table _ _ _ _ c.seat.view_is c.requires.heap c.self.view_is,
-      word_inside _ _ _ c.self.view_is place.inside,
-      persists_close_as _ _ _ _ _ _ _ c.args.slot (ap (λ (x : Seated). x.0) s.whole)
-          (place_durable _ _ _ _ c.self.view_is place.place) refl may
-          (slot_inside _ _ _ c.self.view_is c.requires.slot) (s.rests (persist_close_rests
-          (the_unit c.seat.inside.seat.me.0).part c.args.slot may)),
-    )
+pub store_closed-requires-clause-home : goal.store_closed-requires-clause-home
+store_closed-requires-clause-home g c =
+    c.seat.invariant.rests (persist_close_rests (the_unit c.seat.inside.seat.me.0).part c.args.slot
+    (subst (λ (x : UnitShown). CanPersistClose x.held.part c.args.slot) (sym c.seat.view_is) c.requires.may))

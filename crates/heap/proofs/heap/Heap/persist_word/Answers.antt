@@ -4,7 +4,7 @@ use Rattle.core_steps.specs.Flushing.{can_persist_word}
 use Rattle.heap_rule.specs.TableWords.{durable_place}
 use Rattle.heap_rule.specs.Views.{Seated, field_at_hand, word_in_hand}
 use Rattle.heap_rule.proofs.SeatedPlays.{persists_word_as}
-use Rattle.heap.specs.HeapShown.{HeapShown, AdvShown}
+use Rattle.heap.specs.HeapShown.{AdvShown}
 use Rattle.heap.proofs.SeatTables.{advancer_table, word_inside, place_durable, hand_inside, hand_field, hand_word}
 use Rattle.heap.proofs.heap.Heap.persist_word.Goals as goal
 

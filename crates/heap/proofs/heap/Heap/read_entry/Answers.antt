@@ -1,6 +1,6 @@
 use Rattle.std.proofs.Common.{rules, ap, refl, arith, ◌∙◌}
 use Rattle.heap_rule.specs.Plays.{answer_of}
-use Rattle.heap_rule.specs.Views.{the_unit, the_caller}
+use Rattle.heap_rule.specs.Views.{the_caller}
 use Rattle.heap_rule.proofs.SeatPlays.{splits_whole, splits_callers, joins_callers}
 use Rattle.heap.proofs.AnsweredSeats.{read_keeps}
 use Rattle.heap.proofs.SeatTables.{unit_table, caller_table}

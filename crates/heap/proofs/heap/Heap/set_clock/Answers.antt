@@ -1,4 +1,4 @@
-use Rattle.std.proofs.Common.{◌≡◌, ◌+◌, ℕ, length, refl, ap, subst, sym, arith, ◌∙◌, true}
+use Rattle.std.proofs.Common.{◌≡◌, ◌+◌, ℕ, length, refl, ap, subst, sym, arith, true}
 use Rattle.core_steps.specs.Flushing.{is_flushed}
 use Rattle.heap_rule.specs.Views.{Seated, joined}
 use Rattle.heap_rule.proofs.SeatedPlays.{sets_clock_as}

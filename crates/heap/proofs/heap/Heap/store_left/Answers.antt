@@ -16,7 +16,7 @@ store-requires g c =
     let q = the_caller c.args.seat.now.me.0 in (
       heap_table _ _ _ c.requires.heap c.self.view_is,
       word_inside _ _ _ c.self.view_is c.requires.inside,
-      leaves_as _ _ _ _ _ _ _ _ _ _ c.requires.view
+      leaves_as _ _ _ _ _ _ _ _ _ _ _ (c.requires.opening ∙ ap (λ (z : HeapShown). z.opening) (sym c.self.view_is)) c.requires.view
           (c.requires.place ∙ ap (λ (z : HeapShown). announcement_place z.opening.layout h.unit) (sym c.self.view_is)) refl
           (subst (λ (z : HeapShown × Op × Reply). CanLeave z.0.opening.layout h.unit h.part q.part z.1 z.2 (epoch_of h.part.stage))
           (λ j. (sym c.self.view_is j, sym c.requires.op j, sym c.requires.reply j)) c.requires.may)

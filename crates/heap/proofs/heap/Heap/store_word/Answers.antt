@@ -1,5 +1,4 @@
-use Rattle.std.proofs.Common.{◌<◌, refl, ap, subst, sym, ◌∙◌}
-use Rattle.mont_base.specs.Layout.{total_of}
+use Rattle.std.proofs.Common.{refl, ap, subst, sym}
 use Rattle.core_steps.specs.Storing.{IsFreeSlot, CanStore}
 use Rattle.heap_rule.specs.Views.{Seated}
 use Rattle.heap_rule.proofs.SeatedPlays.{stores_as}

@@ -1,0 +1,100 @@
+// Notes of a caller that are carried to others.
+ghost use Rattle.std.specs.Prelude.{◌≡◌, length, IfOk};
+ghost use Rattle.core_steps.specs.Notes.{greater_fronts};
+ghost use Rattle.heap_rule.specs.Views.{caller_heard, note_of_caller};
+
+use crate::heap::Heap;
+use crate::seats::Ticket;
+use atomic_table::Seat;
+use heap_rule::{Cell, CopiesCaller, HearsNews, View};
+use mont_base::{Epoch, Sequence};
+use std::alloc::{AllocError, Global};
+use std::marker::Model;
+
+/// A note of a caller: what its ticket had seen when it was copied.
+#[derive(Drop)]
+pub struct News {
+    seat: Seat<Cell, View>,
+    fronts: Sequence<u64>,
+    newest: Epoch,
+    durable: Epoch,
+}
+
+impl Model for News {
+    ghost use Rattle.heap_rule.specs.Views.{the_note};
+    ghost use Rattle.heap.specs.NewsShown.{NewsShown, IsNews};
+
+    ghost Value = { NewsShown };
+
+    ghost view = { λ n. record { table = n.seat.table_id; held = the_note n.seat.me.0 } };
+
+    ghost invariant = { λ n. IsNews n.seat.table_id n.fronts n.newest n.durable n.seat.me };
+}
+
+impl Heap {
+    /// A note of the ticket, which stays as it is.
+    pub fn copy_ticket(&self, alloc: Global, ticket: &mut Ticket) -> Result<News, AllocError>
+        requires ticket { ticket.old.table ≡ self.now.table }
+        ensures news { IfOk result (λ news. news ≡ record {
+          table = self.now.table;
+          held = note_of_caller ticket.old.held;
+        }) }
+        ensures caller { ticket.new ≡ ticket.old }
+    {
+        let fronts = copied(alloc, &ticket.fronts)?;
+        let seat = self
+            .table
+            .shared
+            .split_seat::<CopiesCaller>(&mut ticket.seat);
+        Ok(News {
+            seat,
+            fronts,
+            newest: ticket.newest,
+            durable: ticket.durable,
+        })
+    }
+
+    /// The ticket takes the note.
+    pub fn hear_news(&self, ticket: &mut Ticket, news: News)
+        requires ticket { ticket.old.table ≡ self.now.table }
+        requires news { news.table ≡ self.now.table }
+        ensures { ticket.new ≡ record {
+          table = ticket.old.table;
+          held = caller_heard ticket.old.held news.held;
+        } }
+    {
+        let News {
+            seat,
+            fronts,
+            newest,
+            durable,
+        } = news;
+        self.table
+            .shared
+            .join_seat::<HearsNews>(&mut ticket.seat, seat);
+        raise_each(&mut ticket.fronts, &fronts);
+        ticket.newest = ticket.newest.max(newest);
+        ticket.durable = ticket.durable.max(durable);
+    }
+}
+
+// The same numbers.
+fn copied(alloc: Global, numbers: &Sequence<u64>) -> Result<Sequence<u64>, AllocError>
+    ensures { IfOk result (λ copy. copy ≡ numbers.now) }
+{
+    let mut copy = Vec::new(alloc);
+    copy.extend_from_slice(numbers.as_slice())?;
+    Ok(Sequence::from_vec(copy))
+}
+
+// Makes each number the greater of itself and the one at its place in another list that is as long.
+fn raise_each(numbers: &mut Sequence<u64>, others: &Sequence<u64>)
+    requires { length numbers.old ≡ length others.now }
+    ensures { numbers.new ≡ greater_fronts numbers.old others.now }
+{
+    for place in 0..others.len() {
+        let number = numbers.as_slice()[place as usize];
+        let other = others.as_slice()[place as usize];
+        numbers.set(place, number.max(other));
+    }
+}
