@@ -59,4 +59,6 @@ pub use report_writer::write_report;
 #[cfg(test)]
 mod map_runs;
 #[cfg(test)]
+mod round_trips;
+#[cfg(test)]
 mod tests;

@@ -397,44 +397,6 @@ fn longest_put(alloc: Global) -> Result<Vec<u8>, AllocError> {
     Ok(text)
 }
 
-// lines that each job of the header has room for, as often as they come
-static EITHER: &[&[u8]] = &[
-    b"0 tick\n",
-    b"1 sync\n",
-    b"1 put a%20b %\n",
-    b"0 get a%20b\n",
-    b"1 del 18446744073709551615\n",
-    b"0 enq 0 7\n",
-    b"1 deq 2\n",
-    b"0 len 2\n",
-];
-
-// A job's text whose lines a seed picks, by steps of a linear congruence.
-fn picked(alloc: Global, seed: u64) -> Result<Vec<u8>, AllocError> {
-    let mut text = TWO_QUEUES.to_vec(alloc)?;
-    let mut word = seed;
-    for _ in 0..200 {
-        word = word
-            .wrapping_mul(6_364_136_223_846_793_005)
-            .wrapping_add(1_442_695_040_888_963_407);
-        text.extend_from_slice(EITHER[(word >> 61) as usize])?;
-    }
-    Ok(text)
-}
-
-#[test]
-fn picked_jobs_are_read_and_written(rt: HostRuntime) -> Result<(), Fail> {
-    for seed in 0..6 {
-        let text = picked(rt.alloc(), seed)?;
-        for piece in [1, 7, 32_200_001] {
-            let (written, _, lines) = rewritten(rt.alloc(), text.as_slice(), piece)?;
-            assert_eq!(rt; written.as_slice(), text.as_slice());
-            assert_eq!(rt; lines, 200);
-        }
-    }
-    Ok(())
-}
-
 #[test]
 fn long_texts_end_at_the_last_line(rt: HostRuntime) -> Result<(), Fail> {
     let mut text = HEADER.to_vec(rt.alloc())?;
