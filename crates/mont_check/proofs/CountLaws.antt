@@ -52,13 +52,13 @@ moment_as r before after op P Q then m = record {
 
 pub count_told :
     (r : Report) (records : List (List Held)) (before after : List Outcome) (p : Progress) (op : Op) (which : Which)
-    → HasShown r.histories before p → (b : Bool) → (IsTrue b ↔ HasMoment r records p after op (AtEnd which p.calls))
-    → IsTrue b ↔ SomeMoment r before after op (λ unit base h. IsAtEnd (records_in records unit) (count_by is_at before) which op base h)
-count_told r records before after p op which shown b says =
+    → HasShown r.histories before p → (X : Type 0) → (X ↔ HasMoment r records p after op (AtEnd which p.calls))
+    → X ↔ SomeMoment r before after op (λ unit base h. IsAtEnd (records_in records unit) (count_by is_at before) which op base h)
+count_told r records before after p op which shown X says =
     let Ends : ℕ → ℕ → State → List Entry → Type 0 = λ calls unit base h. IsAtEnd (records_in records unit) calls which op base h in
     let Held_now : ℕ → State → List Entry → Type 0 = HeldThen r records op (AtEnd which p.calls) in
     let same = moments r records before after p op (AtEnd which p.calls) shown in
-    subst (λ (calls : ℕ). IsTrue b ↔ SomeMoment r before after op (Ends calls)) shown.calls (
+    subst (λ (calls : ℕ). X ↔ SomeMoment r before after op (Ends calls)) shown.calls (
       λ yes. moment_as r before after op Held_now (Ends p.calls) (λ unit base h. ended r records op p.calls unit base h which)
           (same.0 (says.0 yes)),
       λ m. says.1

@@ -62,18 +62,17 @@ module _ (r : Report) (before after : List Outcome) (p : Progress) (op : Op) (sh
       let low = first_below p.clock r.base_clock d known_low begun in
       omega arith
 
-  pub never_full : r.image_clock < clock → IsTrue false ↔ MayBeFull r before after op
+  pub never_full : r.image_clock < clock → ⊥ ↔ MayBeFull r before after op
   never_full past = (
-    λ yes. absurd cc,
+    λ never. absurd never,
     λ m. absurd (let low = is_first m.clock m.reached.begun m.learnt in let last = m.reached.last in omega arith),
   )
 
 module _ (r : Report) (records : List (List Held)) (before after : List Outcome) (p : Progress) (op : Op)
     (shown : HasShown r.histories before p) (clock : ℕ) (is : clock ≡ first_clock p.clock r.base_clock) where
   pub full_told :
-      clock ≤ r.image_clock → (b : Bool) → (IsTrue b ↔ HasMoment r records p after op (NeedsMore clock))
-      → IsTrue b ↔ MayBeFull r before after op
-  full_told low b says =
+      clock ≤ r.image_clock → (X : Type 0) → (X ↔ HasMoment r records p after op (NeedsMore clock)) → X ↔ MayBeFull r before after op
+  full_told low X says =
       let same = moments r records before after p op (NeedsMore clock) shown in (
         λ yes. record {
           clock = clock;

@@ -9,4 +9,9 @@ pub mod WalkLaws
 pub mod MomentLaws
 pub mod FullLaws
 pub mod CountLaws
+pub mod LineLaws
 pub mod AnswerLaws
+pub mod AheadLaws
+pub mod PointLaws
+pub mod QuestionLaws
+pub mod ReadyLaws

@@ -17,44 +17,16 @@ use Rattle.job_text.specs.Report.{Report}
 use Rattle.mont_check.specs.declared.cause.Case.{Case}
 use Rattle.mont_check.specs.declared.cause.Cause.{Cause}
 use Rattle.mont_check.specs.declared.moments.Span.{Span}
+use Rattle.mont_check.specs.declared.moments.Question.{Question}
 use Rattle.mont_check.specs.declared.progress.Progress.{Progress}
 use Rattle.mont_check.specs.Bounds.{IsAtLeast, IsBelow, least}
 use Rattle.mont_check.specs.Causes.{HeldAfter, IsCause, clock_of_cause}
-use Rattle.mont_check.specs.Moments.{Fits, HasMoment, IsWithin, SomePoint, case_of, span_of}
+use Rattle.mont_check.specs.Moments.{HasMoment, IsMet, IsWithin, case_of, span_of}
 use Rattle.mont_check.specs.Progress.{HasShown}
 use Rattle.mont_check.specs.Shown.{place_in}
 use Rattle.mont_check.specs.Walk.{Facts, facts_after}
 use Rattle.mont_check.proofs.Joined.{all_bounded}
 use Rattle.mont_check.proofs.ProgressLaws.{all_below, place_shown, shown_place}
-
--- ---- some point
-module _ (base : State) (h : List Entry) (span : Span) (c : Case) (records : List Held) where
-  -- what is true after so many entries
-  abbrev pub facts_at : ℕ → Facts
-  facts_at n = facts_after (clock_of_cause c.cause) base (take n h)
-
-  abbrev pub FitsAt : ℕ → Type 0
-  FitsAt n = Fits (facts_at n) span c records
-
-  pub some_fits :
-      (i : ℕ) (f : Facts) → i ≤ length h → f ≡ facts_at i → Fits f span c records → IsTrue true ↔ SomePoint base h span c records
-  some_fits i f within is fits =
-      (λ _. record { point = i; there = within; fits = subst (λ (g : Facts). Fits g span c records) is fits }, λ _. refl)
-
-  -- no earlier one does, and the last one may
-  pub last_fits :
-      (i : ℕ) (f : Facts) (b : Bool) → length h ≤ i → i ≤ length h → f ≡ facts_at i → ((n : ℕ) → n < i → ¬ FitsAt n)
-      → (IsTrue b ↔ Fits f span c records) → IsTrue b ↔ SomePoint base h span c records
-  last_fits i f b past within is none says = (
-    λ yes. record { point = i; there = within; fits = subst (λ (g : Facts). Fits g span c records) is (says.0 yes) },
-    λ some. says.1 (at_end some (cases_lt some.point i)),
-  )
-    where
-      at_end : (some : SomePoint base h span c records) → (some.point < i) ⊎ (i ≤ some.point) → Fits f span c records
-      at_end some (inl low) = absurd (none some.point low some.fits)
-      at_end some (inr high) =
-          let same : some.point ≡ i = (let there = some.there in omega arith) in
-          subst (λ (g : Facts). Fits g span c records) (ap facts_at same ∙ sym is) some.fits
 
 -- ---- places as bounds
 all_at_least :
@@ -135,30 +107,19 @@ module _ (r : Report) (records : List (List Held)) (before after : List Outcome)
   pub moments : HasMoment r records p after op cause ↔ SomeMoment r before after op (HeldThen r records op cause)
   moments = (moment, moment_back)
 
--- a unit, its base and its history are known
+-- what has to be asked where the unit is known
 pub known_moment :
-    (r : Report) (records : List (List Held)) (p : Progress) (after : List Outcome) (op : Op) (cause : Cause) (unit : ℕ) (base : State)
-    (h : List Entry) (b : Bool) → unit_of_op r.layout op ≡ Some unit → slice_get r.base unit ≡ Some base
-    → slice_get r.histories unit ≡ Some h
-    → (IsTrue b ↔ SomePoint base h (span_of p after unit) (case_of r op cause) (records_in records unit))
-    → IsTrue b ↔ HasMoment r records p after op cause
-known_moment r records p after op cause unit base h b of_unit opened kept says = (
-  λ yes. record { unit = unit; of_unit = of_unit; base = base; opened = opened; history = h; kept = kept; some = says.0 yes },
-  λ m. says.1
+    (r : Report) (records : List (List Held)) (p : Progress) (after : List Outcome) (op : Op) (cause : Cause) (unit : ℕ) (q : Question)
+    → unit_of_op r.layout op ≡ Some unit → q ≡ record { unit = unit; span = span_of p after unit; case = case_of r op cause }
+    → IsMet r records q ↔ HasMoment r records p after op cause
+known_moment r records p after op cause unit q of_unit is = (
+  λ met. let m = subst (IsMet r records) is met in
+      record { unit = unit; of_unit = of_unit; base = m.base; opened = m.opened; history = m.history; kept = m.kept; some = m.some },
+  λ m. subst (IsMet r records) (sym is)
       (let same : m.unit ≡ unit = same_Some m.unit unit (sym m.of_unit ∙ of_unit) in
-      let base_same : m.base ≡ base = same_Some m.base base (sym m.opened ∙ ap (slice_get r.base) same ∙ opened) in
-      let history_same : m.history ≡ h = same_Some m.history h (sym m.kept ∙ ap (slice_get r.histories) same ∙ kept) in
-      subst (λ (t : ℕ × State × List Entry). SomePoint t.1 t.2 (span_of p after t.0) (case_of r op cause) (records_in records t.0))
-      (λ i. (same i, base_same i, history_same i)) m.some),
+      subst (λ (u : ℕ). IsMet r records (record { unit = u; span = span_of p after u; case = case_of r op cause })) same
+      (record { base = m.base; opened = m.opened; history = m.history; kept = m.kept; some = m.some })),
 )
-
--- a point is told of equal things
-pub same_points :
-    (base : State) (h g : List Entry) (s t : Span) (c d : Case) (rs qs : List Held) (b : Bool) → h ≡ g → s ≡ t → c ≡ d → rs ≡ qs
-    → (IsTrue b ↔ SomePoint base h s c rs) → IsTrue b ↔ SomePoint base g t d qs
-same_points base h g s t c d rs qs b history span case records says =
-    subst (λ (x : List Entry × Span × Case × List Held). IsTrue b ↔ SomePoint base x.0 x.1 x.2 x.3)
-    (λ i. (history i, span i, case i, records i)) says
 
 -- what a list has at a place, in another form
 pub map_there :

@@ -3,7 +3,11 @@ pub mod Shown
 pub mod Names
 pub mod Progress
 pub mod Walk
+pub mod Opening
 pub mod Causes
 pub mod Moments
+pub mod Ahead
+pub mod Points
+pub mod Questions
 pub mod LineAnswers
 pub mod Answered

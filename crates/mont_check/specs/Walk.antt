@@ -1,5 +1,5 @@
 -- What the first entries of a unit's history lead to and did.
-use Rattle.std.specs.Prelude.{ℕ, ◌+◌, nat_lt, Bool, true, false, List, length, sum_by, count_by, if◌then◌else◌}
+use Rattle.std.specs.Prelude.{ℕ, ◌+◌, ◌-◌, nat_lt, Bool, true, false, List, length, sum_by, count_by, if◌then◌else◌}
 use Rattle.mont_base.specs.declared.operation.Entry.{Entry}
 use Rattle.mont_base.specs.declared.effect.Effect.{Effect}
 use Rattle.mont_base.specs.declared.effect.Effect.TheVariants.{Replaces, Removes}
@@ -52,12 +52,23 @@ more_facts clock f e = record {
   enqueued = f.enqueued + (if is_enq e.op then 1 else 0);
 }
 
--- what a walk shows
+-- what is true at a later durable clock, at which so many of the retired slots are closed
+abbrev pub closed_later : ℕ → Facts → Facts
+closed_later closed f = record {
+  state = f.state;
+  entries = f.entries;
+  waiting = f.waiting - closed;
+  inserted = f.inserted;
+  changed = f.changed;
+  enqueued = f.enqueued;
+}
+
+-- what a walk shows, where nothing is closed yet
 abbrev pub facts_of : Walk → Facts
 facts_of w = record {
   state = state_of w.state;
   entries = w.entries;
-  waiting = w.waiting;
+  waiting = w.retired;
   inserted = w.inserted;
   changed = w.changed;
   enqueued = w.enqueued;

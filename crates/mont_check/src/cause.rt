@@ -1,11 +1,12 @@
 // What may have kept a call from being answered, at some moment of its unit's history.
-ghost use Rattle.std.specs.Prelude.{◌≡◌, ◌↔◌, IsTrue, IfOk};
-ghost use Rattle.mont_check.specs.Causes.{HeldAfter, LacksSerial, clock_of_cause, room_in};
-ghost use Rattle.mont_check.specs.Walk.{facts_of};
+ghost use Rattle.std.specs.Prelude.{◌≡◌, ◌↔◌, IsTrue, IfOk, IfSome};
+ghost use Rattle.mont_check.specs.Causes.{FreesAtMost, TellsEnd, TellsHeld, clock_of_cause, is_del_v, room_in};
+ghost use Rattle.mont_check.specs.Walk.{closed_later, facts_of};
 
-use crate::last_numbers::{greatest_serial, lacks_identity, lacks_version, reaches_last};
+use crate::last_numbers::{any_lacks_version, is_insertion, reaches_last};
+use crate::opening::Opening;
 use crate::walk::{Walk, is_enq, sum};
-use mont_base::{Epoch, Held, LAST, Op, Which};
+use mont_base::{Effect, Epoch, LAST, Op, Which};
 use std::alloc::{AllocError, Global};
 
 /// What may have held at the moment of a call.
@@ -38,55 +39,85 @@ impl Case {
         }
     }
 
-    /// Whether the cause held after the entries that a walk has passed, where these are the records
-    /// that the unit was opened with.
-    pub fn holds(&self, alloc: Global, records: &[Held], walk: &Walk) -> Result<bool, AllocError>
-        ensures { IfOk result (λ b. IsTrue b
-            ↔ HeldAfter self.now records.now (facts_of walk.now)) }
+    /// Whether the cause held after the entries that a walk has passed, in a unit that was opened
+    /// so, at a clock at which so many of the slots that they retired are closed.
+    pub fn holds(
+        &self,
+        alloc: Global,
+        opening: &Opening,
+        walk: &Walk,
+        closed: u64,
+    ) -> Result<bool, AllocError>
+        ensures { IfOk result (TellsHeld self.now opening.now
+            (closed_later closed (facts_of walk.now))) }
     {
         let effects = walk.state.effects(alloc, &self.op)?;
         let effects = effects.as_slice();
         let needed = effects.len() as u64;
         match self.cause {
             Cause::LacksRoom { need, free, .. } => {
-                let room = self.room(walk)?;
+                let room = self.room(walk, closed)?;
                 Ok(needed == need && room == free && free < need)
             }
-            Cause::NeedsMore { .. } => Ok(self.room(walk)? < needed),
-            Cause::AtEnd { which, calls } => match which {
-                Which::Call => Ok(calls > LAST),
-                Which::Place => Ok(walk.entries > LAST),
-                Which::Identity => Ok(lacks_identity(records, walk.inserted, effects)),
-                Which::Version => {
-                    let lacks = lacks_version(alloc, records, walk.changed, effects)?;
-                    Ok(lacks)
-                }
-                Which::Serial => self.lacks_serial(alloc, records, walk.enqueued),
-            },
+            Cause::NeedsMore { .. } => Ok(self.room(walk, closed)? < needed),
+            Cause::AtEnd { which, calls } => {
+                Ok(self.is_at_end(which, calls, opening, walk, effects))
+            }
         }
     }
 
     // The slots that were free.
-    fn room(&self, walk: &Walk) -> Result<u64, AllocError>
-        ensures { IfOk result (λ n. n ≡ room_in self.now.slots (facts_of walk.now)) }
+    fn room(&self, walk: &Walk, closed: u64) -> Result<u64, AllocError>
+        ensures { IfOk result (λ n. n ≡ room_in self.now.slots
+            (closed_later closed (facts_of walk.now))) }
     {
-        let used = sum(walk.state.size(), walk.waiting)?;
+        let waiting = walk.retired.saturating_sub(closed);
+        let used = sum(walk.state.size(), waiting)?;
         Ok(self.slots.saturating_sub(used))
     }
 
-    // Whether the operation adds an item, whose serial would be above the last.
-    fn lacks_serial(
+    // Whether the number was at its end, where the caller had made so many calls and the operation
+    // would have done this.
+    fn is_at_end(
         &self,
-        alloc: Global,
-        records: &[Held],
-        enqueued: u64,
-    ) -> Result<bool, AllocError>
-        ensures { IfOk result (λ b. IsTrue b
-            ↔ LacksSerial records.now enqueued self.now.op) }
+        which: Which,
+        calls: u64,
+        opening: &Opening,
+        walk: &Walk,
+        effects: &[Effect],
+    ) -> bool
+        ensures { TellsEnd which calls self.now.op opening.now (facts_of walk.now) effects.now
+            result }
     {
-        if !is_enq(&self.op) {
-            return Ok(false);
+        match which {
+            Which::Call => calls > LAST,
+            Which::Place => walk.entries > LAST,
+            Which::Identity => {
+                effects.iter().any(|effect| is_insertion(effect))
+                    && reaches_last(opening.identity, walk.inserted)
+            }
+            Which::Version => {
+                any_lacks_version(opening.objects.as_slice(), walk.changed, effects)
+            }
+            Which::Serial => is_enq(&self.op) && reaches_last(opening.serial, walk.enqueued),
         }
-        Ok(reaches_last(greatest_serial(alloc, records)?, enqueued))
     }
+
+    /// The most slots that may have been free where the cause held, if it speaks of room.
+    pub fn most_free(&self) -> Option<u64>
+        ensures { IfSome result (FreesAtMost self.now) }
+    {
+        match self.cause {
+            Cause::LacksRoom { free, .. } => Some(free),
+            Cause::NeedsMore { .. } if !is_del_v(&self.op) => Some(0),
+            Cause::NeedsMore { .. } | Cause::AtEnd { .. } => None,
+        }
+    }
+}
+
+// Whether an operation deletes a vertex, which is the only one that changes several things.
+fn is_del_v(op: &Op) -> bool
+    ensures { result ≡ is_del_v op.now }
+{
+    matches!(op, Op::DelV { .. })
 }

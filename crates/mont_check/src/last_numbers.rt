@@ -1,25 +1,13 @@
 // The identities, versions and serials that the next change of a unit would be given.
-ghost use Rattle.std.specs.Prelude.{◌≡◌, ◌↔◌, ◌+◌, ◌≤◌, true, IsTrue, IfOk, Any};
+ghost use Rattle.std.specs.Prelude.{◌≡◌, ◌↔◌, ◌+◌, ◌≤◌, IsTrue, Any};
 ghost use Rattle.std.specs.Ordering.{eq_by_cmp};
 ghost use Rattle.mont_base.specs.declared.constants.TheConstants.{LAST};
 ghost use Rattle.mont_base.specs.State.{key_cmp};
 ghost use Rattle.mont_base.specs.Structure.{has_edge, has_key, has_vertex};
-ghost use Rattle.mont_base.specs.Versions.{live_objects};
 ghost use Rattle.job_text.specs.Causes.{LacksVersion, greatest_by, identity_of, is_insertion, is_of, renewed, serial_of, version_if, version_in};
 
 use mont_base::{Effect, Held, LAST, Object, Text, Thing};
 use payload::{edge_in, item_in, pair_in, vertex_in};
-use plain::live_objects;
-use std::alloc::{AllocError, Global};
-
-/// Whether a thing is inserted, whose identity would be above the last.
-pub fn lacks_identity(records: &[Held], inserted: u64, effects: &[Effect]) -> bool
-    ensures { IsTrue result ↔ (Any (λ e. is_insertion e ≡ true) effects.now
-        × (LAST ≤ greatest_by identity_of records.now + inserted)) }
-{
-    effects.iter().any(|effect| is_insertion(effect))
-        && reaches_last(greatest_identity(records), inserted)
-}
 
 /// Whether an effect inserts a thing.
 pub fn is_insertion(effect: &Effect) -> bool
@@ -28,8 +16,8 @@ pub fn is_insertion(effect: &Effect) -> bool
     matches!(effect, Effect::Inserts { .. })
 }
 
-// The greatest identity of the records, and 0 without one.
-fn greatest_identity(records: &[Held]) -> u64
+/// The greatest identity of the records, and 0 without one.
+pub fn greatest_identity(records: &[Held]) -> u64
     ensures { result ≡ greatest_by identity_of records.now }
 {
     let mut greatest = 0;
@@ -40,20 +28,7 @@ fn greatest_identity(records: &[Held]) -> u64
 }
 
 /// Whether a thing is replaced or removed, whose next version would be above the last.
-pub fn lacks_version(
-    alloc: Global,
-    records: &[Held],
-    changed: u64,
-    effects: &[Effect],
-) -> Result<bool, AllocError>
-    ensures { IfOk result (λ b. IsTrue b
-        ↔ Any (LacksVersion (live_objects records.now) changed) effects.now) }
-{
-    let objects = live_objects(alloc, records)?;
-    Ok(any_lacks_version(objects.as_slice(), changed, effects))
-}
-
-fn any_lacks_version(objects: &[Object], changed: u64, effects: &[Effect]) -> bool
+pub fn any_lacks_version(objects: &[Object], changed: u64, effects: &[Effect]) -> bool
     ensures { IsTrue result ↔ Any (LacksVersion objects.now changed) effects.now }
 {
     effects
@@ -147,14 +122,7 @@ fn has_edge(object: &Object, from: u64, to: u64) -> bool
 }
 
 /// The greatest serial of the items among the live objects, and 0 without one.
-pub fn greatest_serial(alloc: Global, records: &[Held]) -> Result<u64, AllocError>
-    ensures { IfOk result (λ n. n ≡ greatest_by serial_of (live_objects records.now)) }
-{
-    let objects = live_objects(alloc, records)?;
-    Ok(serial_in(objects.as_slice()))
-}
-
-fn serial_in(objects: &[Object]) -> u64
+pub fn greatest_serial(objects: &[Object]) -> u64
     ensures { result ≡ greatest_by serial_of objects.now }
 {
     let mut greatest = 0;

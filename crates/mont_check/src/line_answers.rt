@@ -1,62 +1,92 @@
 // Whether an outcome answers what its line asks.
-ghost use Rattle.std.specs.Prelude.{◌≡◌, ◌↔◌, ℕ, IsTrue, IfOk};
-ghost use Rattle.job_text.specs.AnsweredLines.{EndsWait, IsAnswer};
+ghost use Rattle.std.specs.Prelude.{◌≡◌, ◌↔◌, ℕ, IsTrue, Some};
+ghost use Rattle.mont_base.specs.State.{unit_of_op};
+ghost use Rattle.job_text.specs.AnsweredLines.{AnswersSync, AnswersTick, EndsWait, IsAnswer};
 ghost use Rattle.job_text.specs.Causes.{IsHalted, IsReached, IsStuck, WasCutIn};
 ghost use Rattle.job_text.specs.Faithful.{HasStop};
 ghost use Rattle.job_text.specs.PlainReport.{report_of};
-ghost use Rattle.mont_check.specs.LineAnswers.{TellsAnswer, TellsCountEnd, TellsFull, TellsMayBeFull, first_clock};
+ghost use Rattle.mont_check.specs.LineAnswers.{TellsAnswer, TellsCall, TellsCountEnd, TellsFull, TellsMayBeFull, first_clock};
 
 use crate::cause::Cause;
-use crate::moments::has_moment;
+use crate::moments::{Finding, moment};
 use crate::progress::Progress;
 use crate::shown::entry_at;
 use job_text::{Deed, Job, Line, Outcome, Report};
-use mont_base::{Epoch, Held, LAST, Op, Sequence, Unit, Which};
-use std::alloc::{AllocError, Global};
+use mont_base::{Epoch, LAST, Op, Unit, Which};
 
-/// Whether an outcome answers what a line asks, where its caller's earlier outcomes have shown this
-/// and the later ones are these.
+/// What is found of the answer to a line by an outcome, where its caller's earlier outcomes have
+/// shown this, and this is the first place that the later ones name in the unit of its operation.
 pub fn answers(
-    alloc: Global,
     job: &Job,
     report: &Report,
-    records: &[Sequence<Held>],
     line: &Line,
     progress: &Progress,
     outcome: &Outcome,
-    after: &[Outcome],
-) -> Result<bool, AllocError>
-    ensures { IfOk result (TellsAnswer job.now (report_of report.now) records.now line.now
-        progress.now outcome.now after.now) }
+    ahead: Option<u64>,
+) -> Finding
+    ensures { TellsAnswer job.now (report_of report.now) line.now progress.now outcome.now ahead
+        result }
 {
     let caller = line.caller;
-    match (&line.deed, outcome) {
-        (Deed::Call { op }, Outcome::At { unit, place }) => {
-            Ok(is_answer(report, caller, progress.calls, op, *unit, *place))
+    match &line.deed {
+        Deed::Call { op } => answers_call(job, report, caller, progress, op, outcome, ahead),
+        Deed::Tick => Finding::told(answers_tick(job, report, caller, outcome)),
+        Deed::Sync => Finding::told(answers_sync(job, report, caller, outcome)),
+    }
+}
+
+// What is found of the answer to a call.
+fn answers_call(
+    job: &Job,
+    report: &Report,
+    caller: u64,
+    progress: &Progress,
+    op: &Op,
+    outcome: &Outcome,
+    ahead: Option<u64>,
+) -> Finding
+    ensures { TellsCall job.now (report_of report.now) caller progress.now op.now outcome.now ahead
+        result }
+{
+    match outcome {
+        Outcome::At { unit, place } => {
+            Finding::told(is_answer(report, caller, progress.calls, op, *unit, *place))
         }
-        (Deed::Call { op }, Outcome::Full { need, free, clock }) => {
-            is_full(
-                alloc, report, records, progress, after, op, *need, *free, *clock,
-            )
+        Outcome::Full { need, free, clock } => {
+            is_full(report, progress, ahead, op, *need, *free, *clock)
         }
-        (Deed::Call { op }, Outcome::CountEnd { which }) => {
-            ends_count(alloc, report, records, progress, after, op, *which)
+        Outcome::CountEnd { which } => ends_count(report, progress, ahead, op, *which),
+        Outcome::Halted { unit, by } => Finding::told(is_halted(report, op, *unit, *by)),
+        Outcome::CutIn { unit } => Finding::told(may_be_cut_in(job, report, caller, op, *unit)),
+        ended => {
+            if ends_wait(job, report, caller, ended) {
+                may_be_full(report, progress, ahead, op)
+            } else {
+                Finding::Wrong
+            }
         }
-        (Deed::Call { op }, Outcome::Halted { unit, by }) => {
-            Ok(is_halted(report, op, *unit, *by))
-        }
-        (Deed::Call { op }, Outcome::CutIn { unit }) => {
-            Ok(has_stop(job, caller) && op.unit(report.layout) == Some(*unit))
-        }
-        (Deed::Call { op }, ended) => {
-            let full = may_be_full(alloc, report, records, progress, after, op)?;
-            Ok(full && ends_wait(job, report, caller, ended))
-        }
-        (Deed::Tick, Outcome::Ticked { epoch }) => {
-            Ok(report.base_clock < *epoch && *epoch <= report.image_clock)
-        }
-        (Deed::Sync, Outcome::Synced { epoch }) => Ok(*epoch <= report.image_clock),
-        (Deed::Tick | Deed::Sync, ended) => Ok(ends_wait(job, report, caller, ended)),
+    }
+}
+
+// Whether a tick may have ended so: it moved the clock on from the base clock, unless it waited.
+fn answers_tick(job: &Job, report: &Report, caller: u64, outcome: &Outcome) -> bool
+    ensures { IsTrue result
+        ↔ AnswersTick (report_of report.now) (HasStop job.now caller) outcome.now }
+{
+    match outcome {
+        Outcome::Ticked { epoch } => { report.base_clock < *epoch && *epoch <= report.image_clock }
+        ended => ends_wait(job, report, caller, ended),
+    }
+}
+
+// Whether a sync may have ended so.
+fn answers_sync(job: &Job, report: &Report, caller: u64, outcome: &Outcome) -> bool
+    ensures { IsTrue result
+        ↔ AnswersSync (report_of report.now) (HasStop job.now caller) outcome.now }
+{
+    match outcome {
+        Outcome::Synced { epoch } => *epoch <= report.image_clock,
+        ended => ends_wait(job, report, caller, ended),
     }
 }
 
@@ -78,44 +108,36 @@ fn is_answer(report: &Report, caller: u64, call: u64, op: &Op, unit: Unit, place
 
 // Whether the operation may have found its unit full as it is told.
 fn is_full(
-    alloc: Global,
     report: &Report,
-    records: &[Sequence<Held>],
     progress: &Progress,
-    after: &[Outcome],
+    ahead: Option<u64>,
     op: &Op,
     need: u64,
     free: u64,
     clock: Epoch,
-) -> Result<bool, AllocError>
-    ensures { IfOk result (TellsFull (report_of report.now) progress.now after.now op.now
-        need free clock) }
+) -> Finding
+    ensures { TellsFull (report_of report.now) progress.now ahead op.now need free clock result }
 {
     if !is_reached(report, clock) {
-        return Ok(false);
+        return Finding::Wrong;
     }
     let cause = Cause::LacksRoom { need, free, clock };
-    let found = has_moment(alloc, report, records, progress, after, op, cause)?;
-    Ok(found)
+    moment(report, progress, ahead, op, cause)
 }
 
 // Whether the operation may have found the number at its end.
 fn ends_count(
-    alloc: Global,
     report: &Report,
-    records: &[Sequence<Held>],
     progress: &Progress,
-    after: &[Outcome],
+    ahead: Option<u64>,
     op: &Op,
     which: Which,
-) -> Result<bool, AllocError>
-    ensures { IfOk result (TellsCountEnd (report_of report.now) records.now progress.now
-        after.now op.now which) }
+) -> Finding
+    ensures { TellsCountEnd (report_of report.now) progress.now ahead op.now which result }
 {
     let calls = progress.calls;
     let cause = Cause::AtEnd { which, calls };
-    let found = has_moment(alloc, report, records, progress, after, op, cause)?;
-    Ok(found)
+    moment(report, progress, ahead, op, cause)
 }
 
 // Whether the run may have had the clock.
@@ -127,23 +149,15 @@ fn is_reached(report: &Report, clock: Epoch) -> bool
 
 // Whether the operation may have found its unit full. There is the more room the later the clock,
 // so the earliest clock tells that the caller may have met.
-fn may_be_full(
-    alloc: Global,
-    report: &Report,
-    records: &[Sequence<Held>],
-    progress: &Progress,
-    after: &[Outcome],
-    op: &Op,
-) -> Result<bool, AllocError>
-    ensures { IfOk result (TellsMayBeFull (report_of report.now) progress.now after.now op.now) }
+fn may_be_full(report: &Report, progress: &Progress, ahead: Option<u64>, op: &Op) -> Finding
+    ensures { TellsMayBeFull (report_of report.now) progress.now ahead op.now result }
 {
     let clock = first_clock(progress.clock, report.base_clock);
     if clock > report.image_clock {
-        return Ok(false);
+        return Finding::Wrong;
     }
     let cause = Cause::NeedsMore { clock };
-    let found = has_moment(alloc, report, records, progress, after, op, cause)?;
-    Ok(found)
+    moment(report, progress, ahead, op, cause)
 }
 
 // The clock that a caller knows, or the base clock where that is greater.
@@ -161,6 +175,14 @@ fn is_halted(report: &Report, op: &Op, unit: Unit, by: u64) -> bool
     ensures { IsTrue result ↔ IsHalted (report_of report.now) op.now unit by }
 {
     op.unit(report.layout) == Some(unit) && was_cut_in(report, by, unit)
+}
+
+// Whether the job stops the caller, and the operation's unit is that one.
+fn may_be_cut_in(job: &Job, report: &Report, caller: u64, op: &Op, unit: Unit) -> bool
+    ensures { IsTrue result
+        ↔ (HasStop job.now caller × (unit_of_op report.now.layout op.now ≡ Some unit)) }
+{
+    has_stop(job, caller) && op.unit(report.layout) == Some(unit)
 }
 
 // Whether a tick or a sync may have ended so, without its clock.

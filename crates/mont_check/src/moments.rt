@@ -1,21 +1,15 @@
-// Whether a call has a moment at which its cause held.
-ghost use Rattle.std.specs.Prelude.{◌≡◌, ◌↔◌, IsTrue, IfOk, min};
-ghost use Rattle.plain.specs.States.{state_of};
-ghost use Rattle.job_text.specs.AnsweredLines.{records_in};
+// The moments of calls: what is asked of them, and what is found of a line before they are asked.
+ghost use Rattle.std.specs.Prelude.{◌≡◌, ◌↔◌, ◌<◌, ◌++◌, ℕ, IsTrue, OnOk};
 ghost use Rattle.job_text.specs.PlainReport.{report_of};
-ghost use Rattle.mont_check.specs.Bounds.{IsAtLeast, joined, least};
-ghost use Rattle.mont_check.specs.Moments.{Fits, HasMoment, IsWithin, SomePoint};
-ghost use Rattle.mont_check.specs.Shown.{place_in};
-ghost use Rattle.mont_check.specs.Walk.{facts_of};
+ghost use Rattle.mont_check.specs.Bounds.{IsAtLeast};
+ghost use Rattle.mont_check.specs.LineAnswers.{TellsMoment};
+ghost use Rattle.mont_check.specs.Moments.{IsWithin, TellsRight, is_wrong, questions_in};
 
 use crate::cause::{Case, Cause};
 use crate::progress::{Progress, is_below};
-use crate::shown::place_of;
-use crate::walk::Walk;
-use job_text::{Outcome, Report};
-use mont_base::{Entry, Held, Op, Sequence, Unit};
-use plain::UnitState;
-use std::alloc::{AllocError, Global};
+use job_text::Report;
+use mont_base::{Op, Unit};
+use std::alloc::AllocError;
 
 /// The places of a caller in a unit before a call and behind it, between which the call was made.
 #[derive(Clone, Copy, Debug, PartialEq, Eq)]
@@ -33,6 +27,16 @@ impl Span {
     {
         is_below(self.behind, entries) && is_at_least(self.ahead, entries)
     }
+
+    /// The fewest entries that it may allow.
+    pub fn first(&self) -> u64
+        ensures { (n : ℕ) → n < result → ¬ IsWithin self.now n }
+    {
+        match self.behind {
+            Some(place) => place.saturating_add(1),
+            None => 0,
+        }
+    }
 }
 
 // Whether a number is at least the bound, if there is one.
@@ -45,121 +49,77 @@ fn is_at_least(number: Option<u64>, bound: u64) -> bool
     }
 }
 
-/// Whether the operation of a line has a moment at which the cause held: between what its caller
-/// did before, as its progress tells, and the outcomes behind the line's.
-pub fn has_moment(
-    alloc: Global,
+/// Whether the cause held at some moment of the unit that the span allows.
+#[derive(Clone, Copy, Debug, PartialEq, Eq)]
+pub struct Question {
+    pub unit: Unit,
+    pub span: Span,
+    pub case: Case,
+}
+
+/// What is found of the answer to a line before any moment is looked for.
+#[derive(Clone, Copy, Debug, PartialEq, Eq)]
+pub enum Finding {
+    Right,
+    Wrong,
+    /// It is right where the answer to the question is yes.
+    Asks { question: Question },
+}
+
+impl Finding {
+    /// What is found where nothing has to be asked.
+    pub fn told(right: bool) -> Finding
+        ensures { TellsRight right result }
+    {
+        if right {
+            Finding::Right
+        } else {
+            Finding::Wrong
+        }
+    }
+
+    /// Adds the question that has to be asked, if there is one.
+    pub fn ask(&self, questions: &mut Vec<Question>) -> Result<(), AllocError>
+        ensures { OnOk result (questions.new.items ≡ questions.old.items
+            ++ questions_in self.now) }
+    {
+        match self {
+            Finding::Asks { question } => questions.extend_from_slice(&[*question]),
+            Finding::Right | Finding::Wrong => Ok(()),
+        }
+    }
+
+    /// Whether the line isn't answered.
+    pub fn is_wrong(&self) -> bool
+        ensures { result ≡ is_wrong self.now }
+    {
+        matches!(self, Finding::Wrong)
+    }
+}
+
+/// What has to be asked for the operation of a line to have a moment at which the cause held:
+/// between what its caller did before, as its progress tells, and the first place ahead of it.
+pub fn moment(
     report: &Report,
-    records: &[Sequence<Held>],
     progress: &Progress,
-    after: &[Outcome],
+    ahead: Option<u64>,
     op: &Op,
     cause: Cause,
-) -> Result<bool, AllocError>
-    ensures { IfOk result (λ b. IsTrue b
-        ↔ HasMoment (report_of report.now) records.now progress.now after.now op.now cause) }
+) -> Finding
+    ensures { TellsMoment (report_of report.now) progress.now ahead op.now cause result }
 {
     let Some(unit) = op.unit(report.layout) else {
-        return Ok(false);
+        return Finding::Wrong;
     };
-    let Some(base) = report.base.units.get(unit) else {
-        return Ok(false);
-    };
-    let Some(history) = report.histories.get(unit) else {
-        return Ok(false);
+    let span = Span {
+        behind: progress.last_place(unit),
+        ahead,
     };
     let case = Case {
         op: *op,
         slots: report.layout.slots(),
         cause,
     };
-    let span = Span {
-        behind: progress.last_place(unit),
-        ahead: first_place(after, unit),
-    };
-    let records = records_in(records, unit);
-    let found = has_point(alloc, base, history.as_slice(), span, case, records)?;
-    Ok(found)
-}
-
-// The records that a unit was opened with.
-fn records_in(records: &[Sequence<Held>], unit: Unit) -> &[Held]
-    ensures { result.now ≡ records_in records.now unit }
-{
-    match records.get(unit as usize) {
-        Some(of_unit) => of_unit.as_slice(),
-        None => &[],
-    }
-}
-
-// The least place that the outcomes name in a unit.
-fn first_place(outcomes: &[Outcome], unit: Unit) -> Option<u64>
-    ensures { result ≡ least (place_in unit) outcomes.now }
-{
-    let mut first = None;
-    for outcome in outcomes {
-        first = lesser(first, place_in(outcome, unit));
-    }
-    first
-}
-
-// The place that an outcome names in a unit.
-fn place_in(outcome: &Outcome, unit: Unit) -> Option<u64>
-    ensures { result ≡ place_in unit outcome.now }
-{
-    match place_of(outcome) {
-        Some((named, place)) if named == unit => Some(place),
-        _ => None,
-    }
-}
-
-// The lesser of two numbers, where there are two.
-fn lesser(a: Option<u64>, b: Option<u64>) -> Option<u64>
-    ensures { result ≡ joined min a b }
-{
-    match (a, b) {
-        (Some(a), Some(b)) => Some(a.min(b)),
-        (None, b) => b,
-        (a, None) => a,
-    }
-}
-
-// Whether the case's cause held after some first entries of the history that the span allows.
-fn has_point(
-    alloc: Global,
-    base: &UnitState,
-    history: &[Entry],
-    span: Span,
-    case: Case,
-    records: &[Held],
-) -> Result<bool, AllocError>
-    ensures { IfOk result (λ b. IsTrue b
-        ↔ SomePoint (state_of base.now) history.now span case records.now) }
-{
-    let clock = case.clock();
-    let mut walk = Walk::new(base)?;
-    for entry in history {
-        if fits(alloc, &walk, span, case, records)? {
-            return Ok(true);
-        }
-        walk.pass(alloc, entry, clock)?;
-    }
-    let last = fits(alloc, &walk, span, case, records)?;
-    Ok(last)
-}
-
-// Whether the case's cause held after the entries that a walk has passed, and the span allows them.
-fn fits(
-    alloc: Global,
-    walk: &Walk,
-    span: Span,
-    case: Case,
-    records: &[Held],
-) -> Result<bool, AllocError>
-    ensures { IfOk result (λ b. IsTrue b ↔ Fits (facts_of walk.now) span case records.now) }
-{
-    if !span.allows(walk.entries) {
-        return Ok(false);
-    }
-    case.holds(alloc, records, walk)
+    let question = Question { unit, span, case };
+    Finding::Asks { question }
 }

@@ -1,12 +1,12 @@
 // A walk along a unit's history: what its first entries lead to and did.
-ghost use Rattle.std.specs.Prelude.{◌≡◌, ◌+◌, nat_lt, IfOk, OnOk, count_by, sum_by};
+ghost use Rattle.std.specs.Prelude.{◌≡◌, ◌+◌, IfOk, OnOk, count_by, sum_by};
 ghost use Rattle.mont_base.specs.Room.{retires};
 ghost use Rattle.plain.specs.States.{state_of};
 ghost use Rattle.job_text.specs.Causes.{is_enq, is_insertion};
 ghost use Rattle.mont_check.specs.Walk.{facts_of, is_removal, is_replacement, more_facts, no_facts};
 
 use crate::last_numbers::is_insertion;
-use mont_base::{Effect, Entry, Epoch, Op};
+use mont_base::{Effect, Entry, Op};
 use plain::UnitState;
 use std::alloc::{AllocError, Global};
 
@@ -15,8 +15,8 @@ use std::alloc::{AllocError, Global};
 pub struct Walk {
     pub state: UnitState,
     pub entries: u64,
-    /// The slots that they retired and that aren't closed at the durable clock.
-    pub waiting: u64,
+    /// The slots that they retired, closed or not.
+    pub retired: u64,
     /// The things that they inserted.
     pub inserted: u64,
     /// All things that they inserted, replaced or removed.
@@ -34,23 +34,21 @@ impl Walk {
         Ok(Walk {
             state,
             entries: 0,
-            waiting: 0,
+            retired: 0,
             inserted: 0,
             changed: 0,
             enqueued: 0,
         })
     }
 
-    /// Passes an entry, where the durable clock tells which slots are closed. A sum above
-    /// `u64::MAX`, for which no memory has room, is want of memory too.
-    pub fn pass(&mut self, alloc: Global, entry: &Entry, clock: Epoch) -> Result<(), AllocError>
-        ensures { OnOk result (facts_of self.new ≡ more_facts clock (facts_of self.old) entry.now) }
+    /// Passes an entry. A sum above `u64::MAX`, for which no memory has room, is want of memory
+    /// too.
+    pub fn pass(&mut self, alloc: Global, entry: &Entry) -> Result<(), AllocError>
+        ensures { OnOk result (facts_of self.new ≡ more_facts 0 (facts_of self.old) entry.now) }
     {
         let effects = self.state.effects(alloc, &entry.op)?;
         self.entries = sum(self.entries, 1)?;
-        if is_late(entry.epoch, clock) {
-            self.waiting = sum(self.waiting, retired_by(effects.as_slice())?)?;
-        }
+        self.retired = sum(self.retired, retired_by(effects.as_slice())?)?;
         self.inserted = sum(self.inserted, inserted_by(effects.as_slice()))?;
         self.changed = sum(self.changed, effects.len() as u64)?;
         if is_enq(&entry.op) {
@@ -66,13 +64,6 @@ pub fn copied(state: &UnitState) -> Result<UnitState, AllocError>
     ensures { IfOk result (λ copy. state_of copy ≡ state_of state.now) }
 {
     state.clone()
-}
-
-// Whether what was retired with this epoch waits until a later durable clock.
-fn is_late(epoch: Epoch, clock: Epoch) -> bool
-    ensures { result ≡ nat_lt clock (epoch + 2) }
-{
-    clock < 2 || epoch > clock - 2
 }
 
 // How many slots the effects retire: a version each, and an anti-payload for each removal.

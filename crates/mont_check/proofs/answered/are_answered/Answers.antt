@@ -1,24 +1,33 @@
-use Rattle.std.proofs.Common.{refl, below_more, arith}
-use Rattle.job_text.specs.AnsweredLines.{AnswersLines}
-use Rattle.job_text.specs.Faithful.{AnsweredAt, HasStop}
+use Rattle.std.proofs.Common.{ℕ, ◌<◌, List, refl, sym, subst, arith}
+use Rattle.std.specs.Prelude.{◌↔◌, IsTrue}
+use Rattle.std.proofs.lemmas.Option.{slice_get_within}
+use Rattle.mont_base.specs.declared.record.Held.{Held}
+use Rattle.job_text.specs.Faithful.{AnsweredAt}
 use Rattle.job_text.specs.PlainReport.{report_of}
-use Rattle.job_text.specs.Report.{lines_of}
-use Rattle.mont_check.proofs.Places.{fails_at, all_at}
+use Rattle.mont_check.specs.declared.moments.Question.{Question}
+use Rattle.mont_check.specs.Answered.{AllMet}
+use Rattle.mont_check.proofs.AnswerLaws.{ask_caller, never_caller}
 use Rattle.mont_check.proofs.answered.are_answered.Goals as goal
 
 pub returns-then-not-branch : goal.returns-then-not-branch
 returns-then-not-branch c =
-    fails_at (AnsweredAt c.args.job.now c.args.records.now (report_of c.args.report.now)) c.loop-caller.caller _ c.if-not-branch.true
-    c.in_ok-is_answered.ensures
+    never_caller c.args.job.now (report_of c.args.report.now) c.loop-caller.caller c.loop-caller.questions.items
+    c.is_answered.new.questions.items
+    c.in_ok-is_answered.field-0 c.if-not-branch.true c.loop-caller.invariant c.in_ok-is_answered.ensures c.args.records.now
 
 pub loop-caller-preserved : goal.loop-caller-preserved
-loop-caller-preserved c = below_more _ _ c.loop-caller.invariant (c.in_ok-is_answered.ensures.0 c.if-not-branch.false)
+loop-caller-preserved c =
+    ask_caller c.args.job.now (report_of c.args.report.now) c.loop-caller.caller c.loop-caller.questions.items
+    c.is_answered.new.questions.items
+    c.in_ok-is_answered.field-0 c.if-not-branch.false c.loop-caller.invariant c.in_ok-is_answered.ensures
 
 pub returns : goal.returns
 returns c =
-    let j = c.args.job.now in
-    let r = report_of c.args.report.now in (
-      λ _. all_at (λ caller os. AnswersLines r (HasStop j caller) c.args.records.now caller (lines_of j caller) os) r.outcomes
-          c.loop-caller.caller (omega arith) c.loop-caller.invariant,
-      λ _. refl,
+    let records = c.args.records.now in
+    let asked = c.loop-caller.invariant c.args.records.now in
+    let met = subst (λ (qs : List Question). IsTrue c.in_ok-met.met ↔ AllMet (report_of c.args.report.now) c.args.records.now qs)
+    c.as_slice.ensures.value c.in_ok-met.ensures in (
+      λ yes caller os there. asked.0 (met.0 yes) caller
+          (let low = slice_get_within c.args.report.now.outcomes caller os there in omega arith) os there,
+      λ each. met.1 (asked.1 (λ u low. each u)),
     )

@@ -1,6 +1,7 @@
-use Rattle.std.proofs.Common.{ℕ, Bool, refl, subst}
-use Rattle.std.specs.Prelude.{◌↔◌, IsTrue}
+use Rattle.std.proofs.Common.{◌≡◌, ℕ, Bool, List, Some, refl, subst}
+use Rattle.std.specs.Prelude.{◌↔◌, IsTrue, slice_get}
 use Rattle.std.proofs.lemmas.Result.{IfOk-weaker}
+use Rattle.mont_base.specs.State.{State}
 use Rattle.plain.specs.States.{states_of}
 use Rattle.job_text.specs.Faithful.{CutAt, IsFaithful}
 use Rattle.job_text.specs.PlainReport.{report_of}
@@ -16,6 +17,11 @@ returns-then-not-branch c =
 pub returns-then-not-branch-2 : goal.returns-then-not-branch-2
 returns-then-not-branch-2 c =
     (λ yes. absurd cc, λ f. subst (λ (v : Bool). IsTrue v) c.if-not-branch-2.true (c.in_ok-are_legal.ensures.1 f.legal))
+
+pub are_answered-requires : goal.are_answered-requires
+are_answered-requires c unit base h opened kept =
+    ((c.in_ok-are_legal.ensures.0 c.if-not-branch-2.false) unit base h
+    (subst (λ (bs : List State). slice_get bs unit ≡ Some base) (c.if-not-same_contents.ensures.0 refl) opened) kept).rising
 
 pub returns-then-not-branch-3 : goal.returns-then-not-branch-3
 returns-then-not-branch-3 c =

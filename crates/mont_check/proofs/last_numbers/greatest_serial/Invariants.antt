@@ -1,6 +1,6 @@
 use Rattle.std.proofs.Common.{◌≡◌, take}
 use Rattle.job_text.specs.Causes.{greatest_by, serial_of}
-use Rattle.mont_check.proofs.last_numbers.serial_in.Given as goal
+use Rattle.mont_check.proofs.last_numbers.greatest_serial.Given as goal
 
 abbrev pub invariant-loop-object : goal.invariant-loop-object
 invariant-loop-object l = l.greatest ≡ greatest_by serial_of (take l.object-index l.objects)
