@@ -5,7 +5,7 @@ ghost use Rattle.mont_base.specs.Layout.{units_of, total_of};
 ghost use Rattle.core_steps.specs.declared.parts.AdvPart.TheVariants.{Rest};
 ghost use Rattle.core_steps.specs.Advancing.{can_check, unit_at_hand, after_check, is_clocked};
 ghost use Rattle.core_steps.specs.Flushing.{can_load_word, can_persist_word, after_persist_word, is_flushed};
-ghost use Rattle.heap_rule.specs.Plays.{IsAnnouncement, IsAhead};
+ghost use Rattle.heap_rule.specs.Plays.{IsAnnouncement, IsAhead, IsPlaceListed};
 ghost use Rattle.heap_rule.specs.Views.{are_clean, joined, holding, slot_at_hand, field_at_hand, word_in_hand, advancer_checked, advancer_loaded, advancer_persisted, advancer_set, advancer_rested};
 ghost use Rattle.heap.specs.GateAsked.{IsAskedOnce};
 
@@ -76,6 +76,7 @@ impl Heap {
         ensures gate { IsAskedOnce G.cuts G.endless G.asked gate.old gate.new result }
         ensures ok { OnOk result (seat.new
             ≡ record { table = seat.old.table; held = advancer_persisted seat.old.held }) }
+        ensures listed { OnOk result (IsPlaceListed seat.old.held) }
         ensures cut { OnErr result (seat.new ≡ seat.old) }
     {
         gate.step()?;

@@ -211,7 +211,7 @@ leaves o slots seat h q c op reply may given s k long at small =
         (
           clock core,
           durable_clock core,
-          unit_sound o s k d y refl (unit_left h e) (row_here core.units h.unit p h.part f.part),
+          unit_sound o s k d y refl (unit_left h e) (row_here core.units h.unit p h.part f.part) owed.fits.units.0.clean,
         ),
       ),
     )
@@ -281,7 +281,8 @@ reads o slots seat h q c op reply may clean s k long at small =
         (
           durable_clock core,
           subst (λ (z : ℕ). IsSoundUnit o z (durable_clock core) (unit_read h z (answer_of q op reply z))) (sym found)
-              (unit_sound o s k d y refl (unit_read h (clock core) e) (row_here core.units h.unit p h.part f.part)),
+              (unit_sound o s k d y refl (unit_read h (clock core) e) (row_here core.units h.unit p h.part f.part)
+              owed.fits.units.0.clean),
         ),
       ),
     )

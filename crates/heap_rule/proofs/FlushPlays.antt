@@ -1,5 +1,5 @@
 -- What each step of the advancer owes the rule.
-use Rattle.std.proofs.Common.{◌≡◌, ℕ, ◌+◌, ◌-◌, ◌<◌, ◌≤◌, List, length, set, refl, sym, ap, ◌∙◌, subst, arith, Bool, true, false, cond}
+use Rattle.std.proofs.Common.{◌≡◌, ℕ, ◌+◌, ◌-◌, ◌*◌, ◌<◌, ◌≤◌, List, length, set, refl, sym, ap, ◌∙◌, subst, arith, Bool, true, false, cond}
 use Rattle.std.specs.Prelude.{slice_get, slice_index, min, nat_lt}
 use mathlib.Core.Option.{none}
 use Rattle.atomic_table.specs.Table.{State, keeps, step, Allows}
@@ -37,6 +37,7 @@ use Rattle.heap_rule.proofs.Growing.{Sweeps, sweeps_itself, learnt_still}
 use Rattle.heap_rule.proofs.RuleFrames.{Reached, goes, Moves, steps, loads}
 use Rattle.heap_rule.proofs.RunFacts.{announces}
 use Rattle.heap_rule.proofs.CoreFacts.{durable_low, none_clean, none_moving, stores_current, stores_durable, found_current, found_announced, slot_word_within}
+use Rattle.heap_rule.proofs.ListRoom.{lists_few, all_few}
 use Rattle.heap_rule.proofs.ListFacts.{list_above, joined_lists, remembers, lists_after_check, still_passed}
 
 -- ---- the advancer's part, its clocks and its turn change
@@ -279,6 +280,14 @@ persisted_word_there slots dur (Flushing d g) may = absurd (cc)
 persisted_word_there slots dur (Holding d g v) may = refl
 persisted_word_there slots dur Clocked may = absurd (cc)
 
+place_below : (cur dur slots : List ℕ) (a : AdvPart) → can_persist_word a ≡ true → FlushFits cur dur slots a
+    → place_at_hand a < length slots
+place_below cur dur slots Rest may f = absurd (cc)
+place_below cur dur slots (Checking j) may f = absurd (cc)
+place_below cur dur slots (Flushing d g) may f = absurd (cc)
+place_below cur dur slots (Holding d g v) may f = f.inside
+place_below cur dur slots Clocked may f = absurd (cc)
+
 pub persists_word : (o : Opening) (slots seat : ℕ) (a : AdvHeld) (c : List (ℕ × Cell)) → can_persist_word a.part ≡ true
     → slot_at_hand a < total_of o.layout → field_at_hand a.part < FIELDS
     → Allows (ShowsCore o) slots seat (advancer_view a, c) (durable_place o.layout (word_of (slot_at_hand a) (field_at_hand a.part)))
@@ -304,6 +313,9 @@ persists_word o slots seat a c may inside low s k long at small =
     let part : d.advancer ≡ after_persist_word a.part = ap after_persist_word f.part in
     let behind : passed_of (length core.units) d.advancer ≡ length core.units =
     ap (passed_of (length core.units)) part ∙ persisted_all (length core.units) a.part may in
+    let inside_list = place_below core.cur core.dur (flush_list core) core.advancer (ap can_persist_word f.part ∙ may) k.sound.flush in
+    let few = all_few (clock core - 1) core.layout.slots core.units (λ u q is. lists_few o s k u q is (clock core - 1)) in
+    let listed : place_at_hand core.advancer < length core.units * core.layout.slots = omega arith in
     let w : AdvHeld = advancer_persisted a in (
       advancer_view w,
       keeps,
@@ -322,7 +334,7 @@ persists_word o slots seat a c may inside low s k long at small =
           (λ u q is more. f.lists u q is (subst (λ (n : ℕ). u < n) (sym passed)
           (below_all u (length core.units) (passed_of (length core.units) d.advancer) more behind)))
           refl refl refl refl),
-      refl,
+      (refl, subst (λ (z : AdvPart × ℕ). place_at_hand z.0 < z.1) (λ i. (f.part i, f.units i * f.room i)) listed),
     )
 
 -- ---- SetClock

@@ -1,6 +1,6 @@
 -- Why a unit's list has room for all that it writes: slots of records and of what was written are apart,
 -- and all are of the unit.
-use Rattle.std.proofs.Common.{◌≡◌, ◌≢◌, ℕ, zero, suc, ◌+◌, ◌-◌, ◌*◌, ◌<◌, ◌≤◌, List, [], ◌∷◌, ◌++◌, length, map, get_or, subst, ⊎_elim, arith, Bool, true, false, cond, length-append, eqb, ne_eqb}
+use Rattle.std.proofs.Common.{◌≡◌, ◌≢◌, ℕ, zero, suc, ◌+◌, ◌-◌, ◌*◌, ◌<◌, ◌≤◌, List, [], ◌∷◌, ◌++◌, length, map, get_or, refl, subst, ⊎_elim, arith, Bool, true, false, cond, length-append, eqb, ne_eqb}
 use Rattle.std.specs.Prelude.{slice_get, Some, All, AllPairs, filter, ◌==◌}
 use Rattle.std.specs.List.{Contains, IsDistinct, AllByRecursion, list_any}
 use Rattle.std.proofs.lemmas.Bool.{eqb-true}
@@ -17,7 +17,7 @@ use Rattle.mont_laws.proofs.UnitSlots.{member_of_unit}
 use Rattle.core_steps.specs.declared.parts.UnitPart.{UnitPart}
 use Rattle.core_steps.specs.Clock.{clock}
 use Rattle.core_steps.specs.Stages.{epoch_of}
-use Rattle.core_steps.specs.Flushing.{unit_list}
+use Rattle.core_steps.specs.Flushing.{unit_list, all_listed}
 use Rattle.core_steps.proofs.Decisions.{either_true}
 use Rattle.core_steps.proofs.FlushLists.{in_at}
 use Rattle.core_steps.proofs.RoleFacts.{record_inside, record_unit, written_unit, written_no_record, new_slots}
@@ -139,6 +139,19 @@ module _ (o : Opening) (s : State Cell View) (k : ShowsCore o s) (u : ℕ) (p : 
   pub has_room : (room : ℕ) → k.board.core.layout.slots ≡ room → length (unit_list (epoch_of p.stage) p) + length p.written ≤ room
   has_room room is = subst (λ (n : ℕ). length (unit_list (epoch_of p.stage) p) + length p.written ≤ n) is has_room_of
 
+  -- and so are the unit's own for all that it lists
+  pub lists_few : (x : ℕ) → length (unit_list x p) ≤ k.board.core.layout.slots
+  lists_few x =
+      let core = k.board.core in
+      let of_epoch = filter (λ (r : Held). r.label.epoch == x) p.records in
+      let few = enough (u * core.layout.slots) core.layout.slots of_epoch
+      (apart_filter (λ (r : Held). r.label.epoch == x) p.records (apart_from p.records
+      (k.sound.units u p at).versions.apart.slots))
+      (λ r h. in_unit r.slot (record_unit core.layout (clock core) core.cur core.dur core.units u p k.sound.slots at r
+      (kept_element (λ (r : Held). r.label.epoch == x) r p.records h).0)) in
+      let many = length-map of_epoch (λ (r : Held). r.slot) in
+      omega arith
+
   -- what a unit lists are slots of the store
   pub lists_inside : (x : ℕ) → All (λ slot. slot < total_of k.board.core.layout) (unit_list x p)
   lists_inside x = all_elements (λ slot. slot < total_of k.board.core.layout) (unit_list x p)
@@ -154,3 +167,13 @@ module _ (o : Opening) (s : State Cell View) (k : ShowsCore o s) (u : ℕ) (p : 
           (λ (e : slot ≡ r.slot). let l = all r (first_element r rs) in omega arith)
           (λ (j : Contains (map (λ (r : Held). r.slot) rs) slot). by rs (λ q i. all q (later_element r rs q i)) slot j)
           (element_cases r.slot (map (λ (r : Held). r.slot) rs) slot h)
+
+-- ---- of all units together
+pub all_few : (x m : ℕ) (ps : List UnitPart) → ((u : ℕ) (p : UnitPart) → slice_get ps u ≡ Some p → length (unit_list x p) ≤ m)
+    → length (all_listed x ps) ≤ length ps * m
+all_few x m [] each = omega arith
+all_few x m (p ∷ ps) each =
+    let first = each 0 p refl in
+    let rest = all_few x m ps (λ u q at. each (suc u) q at) in
+    let both = length-append (unit_list x p) (all_listed x ps) in
+    omega arith

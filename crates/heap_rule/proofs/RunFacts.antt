@@ -1,9 +1,8 @@
 -- What lasts over all steps that were made since the store was opened: soundness from whatever recovery gives,
 -- what this tells of a unit, and that each announced epoch is one.
-use Rattle.std.proofs.Common.{◌≡◌, ℕ, zero, suc, ◌+◌, ◌*◌, ◌/◌, ◌<◌, ◌≤◌, List, [], ◌∷◌, length, set, refl, sym, ap, ◌∙◌, subst, inl, inr, ⊎_elim, arith, Bool, true, false}
-use Rattle.std.specs.Prelude.{slice_get, slice_index, Option, Some, None, All, ◌&&◌, ◌||◌, nat_le, ◌==◌, cond}
+use Rattle.std.proofs.Common.{◌≡◌, ℕ, zero, suc, ◌+◌, ◌≤◌, List, [], ◌∷◌, set, refl, sym, ◌∙◌, subst, inl, inr, arith, Bool, true, false}
+use Rattle.std.specs.Prelude.{slice_get, Option, Some, None, ◌||◌, nat_le, ◌==◌, cond}
 use Rattle.mont_base.specs.declared.constants.TheConstants.{FIRST_CLOCK, LAST}
-use Rattle.mont_base.specs.declared.record.Held.{Held}
 use Rattle.mont_base.specs.Image.{clock_of, IsWellFormed, IsRecovered}
 use Rattle.mont_base.specs.Layout.{Shape}
 use Rattle.mont_base.specs.State.{State as Contents}
@@ -14,8 +13,6 @@ use Rattle.core_steps.specs.declared.event.Event.{Event}
 use Rattle.core_steps.specs.declared.event.Event.TheVariants as events
 use Rattle.core_steps.specs.declared.parts.CallerPart.{CallerPart}
 use Rattle.core_steps.specs.declared.parts.Core.{Core}
-use Rattle.core_steps.specs.declared.parts.Note.{Note}
-use Rattle.core_steps.specs.declared.parts.Part.{Part}
 use Rattle.core_steps.specs.declared.parts.Part.TheVariants as parts
 use Rattle.core_steps.specs.declared.parts.UnitPart.{UnitPart}
 use Rattle.core_steps.specs.declared.parts.UnitStage.{UnitStage}
@@ -27,10 +24,10 @@ use Rattle.core_steps.specs.Announcing.{can_tell, after_tell, confirmed, after_c
 use Rattle.core_steps.specs.Storing.{after_store, store}
 use Rattle.core_steps.specs.Answering.{entry_of, after_leave, after_read, leave, read}
 use Rattle.core_steps.specs.Closing.{after_load_durable, load_durable, see_durable, after_close_label, close_label, after_persist_close, persist_close}
-use Rattle.core_steps.specs.Notes.{hear, join}
-use Rattle.core_steps.specs.Events.{IsAllowed, closing_of, loaded_durable, after}
+use Rattle.core_steps.specs.Notes.{hear}
+use Rattle.core_steps.specs.Events.{IsAllowed, closing_of, after}
 use Rattle.core_steps.specs.Opened.{recovered, opened_at}
-use Rattle.core_steps.specs.Sound.{Base, base_state, ClocksStand, announced, announcement, IsSound}
+use Rattle.core_steps.specs.Sound.{Base, base_state, ClocksStand, announcement, IsSound}
 use Rattle.core_steps.specs.UnitClauses.{UnitFits}
 use Rattle.core_steps.proofs.Decisions.{both, le_true}
 use Rattle.core_steps.proofs.RecoveredCores.{images_are_recovered}
@@ -43,7 +40,7 @@ use Rattle.heap_rule.specs.declared.rule.Opening.{Opening}
 use Rattle.heap_rule.specs.declared.views.UnitHeld.{UnitHeld}
 use Rattle.heap_rule.specs.declared.views.View.{View}
 use Rattle.heap_rule.specs.Views.{Cell}
-use Rattle.heap_rule.specs.Rule.{IsRun, ShowsCore}
+use Rattle.heap_rule.specs.Rule.{IsRun, ShowsCore, AreClean}
 use Rattle.heap_rule.specs.Plays.{IsEpoch, IsAnnouncement}
 use Rattle.heap_rule.specs.SoundUnits.{HasOwnSlots, IsSoundUnit}
 use Rattle.heap_rule.proofs.RuleFrames.{Reached}
@@ -72,9 +69,9 @@ clocks_near Ahead now durable h = omega arith
 
 -- what is told of a unit after a step
 pub unit_sound : (o : Opening) (s : State Cell View) (k : ShowsCore o s) (d : Core) → Reached o k.states k.board.core d
-    → d.layout ≡ k.board.core.layout → (h : UnitHeld) → slice_get d.units h.unit ≡ Some h.part
+    → d.layout ≡ k.board.core.layout → (h : UnitHeld) → slice_get d.units h.unit ≡ Some h.part → AreClean d.units h.clean
     → IsSoundUnit o (clock d) (durable_clock d) h
-unit_sound o s k d r same h at =
+unit_sound o s k d r same h at clean =
     let clocks = r.sound.clocks in
     let layout : d.layout ≡ o.layout = same ∙ k.layout in
     let slots = r.sound.slots in
@@ -86,6 +83,7 @@ unit_sound o s k d r same h at =
       known = clocks.of_units h.unit h.part at;
       valid = all_elements (IsRecordOf h.unit) h.part.records
           (λ x c. record_valid d.layout (clock d) d.cur d.dur d.units h.unit h.part slots at x c);
+      clean = clean h.unit h.part at;
       slots = subst (λ (l : Shape). HasOwnSlots l h.unit h.part) layout
           (own_slots d.layout (clock d) d.cur d.dur d.units h.unit h.part slots at unit.versions.apart);
       fits = λ states is. subst (λ (l : Shape). UnitFits l (clock_of o.words) (clock d) (durable_clock d) h.unit

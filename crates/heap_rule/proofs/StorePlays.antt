@@ -271,7 +271,8 @@ persists_close o slots seat h c slot may inside home s k long at small =
           clock d,
           durable_clock d,
           subst (λ (z : ℕ). IsSoundUnit o (clock d) (durable_clock d) (unit_persisted h z)) (sym here)
-              (unit_sound o s k d y refl (unit_persisted h slot) (row_here core.units h.unit q h.part f.part)),
+              (unit_sound o s k d y refl (unit_persisted h slot) (row_here core.units h.unit q h.part f.part)
+              (clean_closed core.units h.clean h.unit q (still_clean o s k seat h f q d is))),
         ),
       ),
     )

@@ -382,7 +382,8 @@ loads_durable o slots seat h c may s k long at small =
         (
           clock core,
           subst (λ (z : ℕ). IsSoundUnit o (clock core) z (unit_loaded_durable h z)) (sym found)
-              (unit_sound o s k d y refl (unit_loaded_durable h (durable_clock core)) (row_here core.units h.unit q h.part f.part)),
+              (unit_sound o s k d y refl (unit_loaded_durable h (durable_clock core)) (row_here core.units h.unit q h.part f.part)
+              (still_clean o s k seat h f q d is)),
         ),
       ),
     )

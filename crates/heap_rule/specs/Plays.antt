@@ -15,7 +15,7 @@ use Rattle.heap_rule.specs.declared.views.Learnt.{Learnt}
 use Rattle.heap_rule.specs.declared.views.UnitHeld.{UnitHeld}
 use Rattle.heap_rule.specs.declared.views.AdvHeld.{AdvHeld}
 use Rattle.heap_rule.specs.declared.views.CallerHeld.{CallerHeld}
-use Rattle.heap_rule.specs.Views.{Cell, Seated, listing, list_place, list_at, listed_in, unit_view, advancer_view, caller_view, pair_view, the_unit, the_advancer, the_caller, unit_looked, unit_told, unit_confirmed, unit_wrote, unit_withdrew, unit_loaded_durable, unit_closed, unit_persisted, unit_left, unit_read, unit_frozen, unit_took, unit_gave, advancer_checked, advancer_loaded, advancer_persisted, advancer_set, advancer_rested, advancer_took, advancer_gave, caller_answered, caller_saw, caller_cut}
+use Rattle.heap_rule.specs.Views.{Cell, Seated, listing, list_place, list_at, listed_in, unit_view, advancer_view, caller_view, pair_view, the_unit, the_advancer, the_caller, unit_looked, unit_told, unit_confirmed, unit_wrote, unit_withdrew, unit_loaded_durable, unit_closed, unit_persisted, unit_left, unit_read, unit_frozen, unit_took, unit_gave, advancer_checked, advancer_loaded, advancer_persisted, advancer_set, advancer_rested, advancer_took, advancer_gave, place_at_hand, caller_answered, caller_saw, caller_cut}
 use Rattle.heap_rule.specs.TableWords.{slot_at, field_at}
 use Rattle.heap_rule.specs.SoundUnits.{IsSoundUnit}
 
@@ -124,8 +124,14 @@ checked s m found n =
 abbrev pub loaded_word : Step Cell → Seated → ℕ → Seated → Type 0
 loaded_word s m found n = n ≡ (advancer_view (advancer_loaded (the_advancer m.0) found), m.1)
 
+-- no more slots are listed than there are
+abbrev pub IsPlaceListed : AdvHeld → Type 0
+IsPlaceListed a = place_at_hand a.part < a.units * a.room
+
 abbrev pub persisted_word : Step Cell → Seated → ℕ → Seated → Type 0
-persisted_word s m found n = n ≡ (advancer_view (advancer_persisted (the_advancer m.0)), m.1)
+persisted_word s m found n =
+    let a : AdvHeld = the_advancer m.0 in
+    (n ≡ (advancer_view (advancer_persisted a), m.1)) × IsPlaceListed a
 
 -- there is a next clock
 abbrev pub set_clock : Step Cell → Seated → ℕ → Seated → Type 0

@@ -1,5 +1,5 @@
 -- What the invariant tells the seat of a unit, in a store that was opened with some words.
-use Rattle.std.specs.Prelude.{◌≡◌, ◌≢◌, ℕ, ◌+◌, ◌<◌, ◌≤◌, List, [], ◌∷◌, ◌++◌, map, All, AllPairs, Option, Some, None}
+use Rattle.std.specs.Prelude.{◌≡◌, ◌≢◌, ℕ, ◌+◌, ◌<◌, ◌≤◌, true, List, [], ◌∷◌, ◌++◌, map, All, AllPairs, Option, Some, None}
 use Rattle.mont_base.specs.declared.constants.TheConstants.{LAST}
 use Rattle.mont_base.specs.declared.record.Held.{Held}
 use Rattle.mont_base.specs.Image.{clock_of, IsRecovered}
@@ -13,7 +13,7 @@ use Rattle.core_steps.specs.Sound.{base_state}
 use Rattle.core_steps.specs.UnitClauses.{UnitFits}
 use Rattle.heap_rule.specs.declared.rule.Opening.{Opening}
 use Rattle.heap_rule.specs.declared.views.UnitHeld.{UnitHeld}
-use Rattle.heap_rule.specs.Views.{slots_written}
+use Rattle.heap_rule.specs.Views.{slots_written, is_among}
 
 -- ---- slots
 -- the one into which the unit has begun to write
@@ -42,6 +42,7 @@ pub record IsSoundUnit (o : Opening) (now durable : ℕ) (h : UnitHeld) : Type 0
   pub last : now ≤ LAST
   pub known : h.part.durable ≤ durable
   pub valid : All (IsRecordOf h.unit) h.part.records
+  pub clean : is_among h.clean h.unit ≡ true → h.part.lost ≡ []
   pub slots : HasOwnSlots o.layout h.unit h.part
   pub fits : (states : List State) → IsRecovered o.layout o.words states
       → UnitFits o.layout (clock_of o.words) now durable h.unit

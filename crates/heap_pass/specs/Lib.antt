@@ -1,0 +1,2 @@
+pub mod NoHeap
+pub mod Spare

@@ -1,0 +1,11 @@
+//! What callers and locks hold of a heap: a caller's pass, and parts whose type names the heap that
+//! they are of.
+#![tactic(auto)]
+
+mod named;
+mod pass;
+#[cfg(test)]
+mod tests;
+
+pub use named::{HeapName, Named, OfHeap};
+pub use pass::Pass;
