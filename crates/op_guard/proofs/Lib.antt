@@ -1,0 +1,4 @@
+pub mod Halts
+pub mod Room
+pub mod Begins
+pub mod Lists

@@ -1,0 +1,46 @@
+use Rattle.std.proofs.Common.{◌≡◌, ◌≤◌, ℕ, length, max, refl, ap, subst, sym, ◌∙◌}
+use Rattle.std.proofs.lemmas.Result.{IfOk-at_ok}
+use Rattle.mont_base.specs.Image.{clock_of}
+use Rattle.heap.specs.HeapShown.{UnitShown, CallerShown}
+use Rattle.heap_rule.specs.Plays.{IsDurable}
+use Rattle.heap_rule.specs.Views.{caller_heard, note_of_unit}
+use Rattle.slots.specs.Books.{RegionShown, IsAtRest}
+use Rattle.slots.specs.Reclaiming.{HasClosed, KeepsLive, IsSound, due_at}
+use Rattle.op_guard.specs.Guarding.{IsFull}
+use Rattle.op_guard.proofs.Room.{is_full}
+use Rattle.op_guard.proofs.beginning.make_room.Goals as goal
+
+-- a caller that took a note of a unit's seat
+abbrev noting : CallerShown → UnitShown → CallerShown
+noting q seat = record {
+  table = q.table;
+  held = caller_heard q.held (note_of_unit (length q.held.part.fronts) seat.held);
+}
+
+pub returns-clause-refused : goal.returns-clause-refused
+returns-clause-refused g c =
+    let heap = c.args.heap.now in
+    let old = c.args.region.now in
+    let q = c.args.pass.now.ticket in
+    let new = c.reclaim-reclaimed.new.self in
+    let given = c.reclaim-reclaimed.ensures in
+    let clock = c.in_ok-clock.clock in
+    let is = sym c.or_halt.ensures.same ∙ c.in_ok-clock.was in
+    let kept = IfOk-at_ok (λ (x : ℕ). (c.or_halt.new.region ≡ new) × (c.or_halt.new.ticket ≡ q)) is c.or_halt.ensures.ok in
+    let closed = IfOk-at_ok (λ (x : ℕ). HasClosed old new x (due_at x old.books.retired)) is given.closed in
+    let rests = IfOk-at_ok (λ (x : ℕ). IsAtRest new.seat.held.part) is given.rests in
+    let live = IfOk-at_ok (λ (x : ℕ). KeepsLive old new) is given.live in
+    let found = IfOk-at_ok (λ (x : ℕ). IsDurable (max old.seat.held.part.durable old.seat.held.learnt.durable) x) is given.clock in
+    let begun = IfOk-at_ok (λ (x : ℕ). clock_of heap.opening.words ≤ x) is given.begun in
+    let sound = IfOk-at_ok (λ (x : ℕ). IsSound heap new) is given.sound in
+    let seat : c.seat_mut.result.now ≡ new.seat = c.seat_mut.ensures.value ∙ ap (λ (x : RegionShown). x.seat) kept.0 in
+    let noted = c.hear_unit.ensures.caller ∙ (λ i. noting (kept.1 i) (seat i)) in
+    let free = c.free-free.ensures ∙ ap (λ (x : RegionShown). length x.books.free) kept.0 in
+    let whole : record { seat = c.hear_unit.new.seat; books = c.or_halt.new.region.books } ≡ new =
+    (λ i. record { seat = (c.hear_unit.ensures.unit ∙ c.seat_mut.ensures.value) i; books = c.or_halt.new.region.books }) ∙ kept.0 in (
+      refl,
+      subst (λ (x : RegionShown). IsFull heap old x q c.hear_unit.new.ticket c.args.need c.free-free.result clock) (sym whole)
+          (is_full heap old new clock c.requires.ready closed given.agrees given.stays q c.hear_unit.new.ticket
+          c.args.need c.free-free.result
+          rests live found begun sound free c.if-free-need-2.false noted),
+    )

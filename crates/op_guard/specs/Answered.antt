@@ -1,0 +1,47 @@
+-- What an answer leaves of a region and of the caller.
+use Rattle.std.specs.Prelude.{◌≡◌, ℕ, max, List, map}
+use Rattle.mont_base.specs.declared.operation.Op.{Op}
+use Rattle.mont_base.specs.declared.operation.Receipt.{Receipt}
+use Rattle.mont_base.specs.declared.operation.Reply.{Reply}
+use Rattle.core_steps.specs.Answering.{after_leave, after_read}
+use Rattle.heap.specs.HeapShown.{HeapShown, CallerShown}
+use Rattle.heap.specs.Receipts.{receipt_of}
+use Rattle.heap_rule.specs.Plays.{IsClock, answer_of}
+use Rattle.heap_rule.specs.Views.{caller_answered}
+use Rattle.slots.specs.declared.books.Written.{Written}
+use Rattle.slots.specs.Books.{RegionShown, books_showing}
+use Rattle.op_guard.specs.Regions.{IsReady}
+
+-- The unit has one entry more, of this epoch, and the receipt names it.
+pub record HasAnswered
+    (heap : HeapShown) (old new : RegionShown) (q r : CallerShown) (op : Op) (reply : Reply)
+    (epoch : ℕ) (receipt : Receipt) : Type 0 where
+  pub receipt_is : receipt ≡ receipt_of old.seat.held (answer_of q.held op reply epoch)
+  pub caller : r ≡ record {
+    table = q.table;
+    held = caller_answered q.held old.seat.held receipt.entry;
+  }
+  pub books : new.books ≡ books_showing old.books new.seat.held.part
+  pub ready : IsReady heap new
+
+-- the slots of records that were written, in their order
+abbrev pub slots_of_written : List Written → List ℕ
+slots_of_written ws = map (λ (w : Written). w.held.slot) ws
+
+-- what was written became records
+pub record HasCommitted
+    (heap : HeapShown) (old new : RegionShown) (q r : CallerShown) (op : Op) (reply : Reply)
+    (epoch : ℕ) (receipt : Receipt) : Type 0 where
+  pub answered : HasAnswered heap old new q r op reply epoch receipt
+  pub part : new.seat.held.part ≡ after_leave old.seat.held.part receipt.entry
+
+-- nothing but the history changed, and the entry's epoch is the clock that was loaded
+pub record HasRead
+    (heap : HeapShown) (old new : RegionShown) (q r : CallerShown) (op : Op) (reply : Reply)
+    (receipt : Receipt) : Type 0 where
+  pub answered : HasAnswered heap old new q r op reply receipt.entry.epoch receipt
+  pub part : new.seat.held.part ≡ after_read old.seat.held.part receipt.entry
+  pub clock : IsClock (record {
+    newest = max old.seat.held.learnt.newest q.held.part.newest;
+    durable = max old.seat.held.learnt.durable q.held.part.durable;
+  }) old.seat.held.part receipt.entry.epoch

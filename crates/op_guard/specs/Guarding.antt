@@ -1,0 +1,103 @@
+-- What the beginning of an operation, a change and a return leave.
+use Rattle.std.specs.Prelude.{◌≡◌, ℕ, ◌+◌, ◌<◌, ◌≤◌, Bool, true, false, List, [], length, max, Err}
+use Rattle.std.specs.declared.result.Result.{Result}
+use Rattle.mont_base.specs.Image.{clock_of, IsRecovered}
+use Rattle.mont_base.specs.Room.{room_of}
+use Rattle.mont_base.specs.State.{State}
+use Rattle.mont_base.specs.declared.record.Change.{Change}
+use Rattle.core_steps.specs.Notes.{last_epoch}
+use Rattle.core_steps.specs.Opened.{opened_at}
+use Rattle.core_steps.specs.Sound.{base_state}
+use Rattle.heap.specs.HeapShown.{HeapShown, CallerShown}
+use Rattle.heap_rule.specs.Plays.{IsDurable}
+use Rattle.heap_rule.specs.Views.{caller_heard, note_of_unit}
+use Rattle.slots.specs.Books.{RegionShown}
+use Rattle.slots.specs.Putting.{HasPut}
+use Rattle.slots.specs.Reclaiming.{due_at}
+use Rattle.op_guard.specs.declared.guard.Guard.{Guard}
+use Rattle.op_guard.specs.declared.guard.GuardRefusal.{GuardRefusal}
+use Rattle.op_guard.specs.declared.guard.GuardRefusal.TheVariants.{Full, Cut}
+use Rattle.op_guard.specs.Regions.{IsReady, IsUnderWay, KeepsUnit, WasHalted}
+
+-- ---- begun
+-- an epoch that is not below anything that the caller has seen, nor below the unit's last
+pub record IsReachedBy (q : CallerShown) (r : RegionShown) (epoch : ℕ) : Type 0 where
+  pub not_before : q.held.part.newest ≤ epoch
+  pub not_behind : q.held.part.durable ≤ epoch
+  pub after_entries : last_epoch r.seat.held.part.history ≤ epoch
+
+pub record HasBegun
+    (heap : HeapShown) (old new : RegionShown) (q : CallerShown) (need : ℕ) (g : Guard)
+    : Type 0 where
+  pub guard_is : g ≡ record {
+    unit = old.books.unit;
+    by = q.held.caller;
+    epoch = g.epoch;
+    need = need;
+    written = 0;
+  }
+  pub under_way : IsUnderWay heap g new
+  pub reached : IsReachedBy q old g.epoch
+  pub keeps : KeepsUnit old new
+  -- slots are closed only where too few are free
+  pub enough : need ≤ length old.books.free → new.books ≡ old.books
+
+-- ---- full
+-- As many slots are free as the history leaves room for at the durable clock.
+abbrev pub HasRoomAt : HeapShown → RegionShown → ℕ → Type 0
+HasRoomAt heap r clock =
+    (states : List State) → IsRecovered heap.opening.layout heap.opening.words states
+    → length r.books.free
+    ≡ room_of heap.opening.layout.slots
+    (base_state (opened_at (clock_of heap.opening.words) states) r.books.unit)
+    r.seat.held.part.history clock
+
+-- the durable clock was loaded in this call, and all that it lets be closed is closed
+pub record IsReclaimedBy (old new : RegionShown) (clock : ℕ) : Type 0 where
+  pub clock_is : new.seat.held.part.durable ≡ clock
+  pub found : IsDurable (max old.seat.held.part.durable old.seat.held.learnt.durable) clock
+  pub loads : old.seat.held.steps < new.seat.held.steps
+  pub none_due : due_at clock new.books.retired ≡ []
+
+-- the caller took a note of the unit, and nothing else of it changed
+abbrev pub HasNoted : RegionShown → CallerShown → CallerShown → Type 0
+HasNoted new q r = r ≡ record {
+  table = q.table;
+  held = caller_heard q.held (note_of_unit (length q.held.part.fronts) new.seat.held);
+}
+
+pub record IsFull
+    (heap : HeapShown) (old new : RegionShown) (q r : CallerShown) (need free clock : ℕ)
+    : Type 0 where
+  pub ready : IsReady heap new
+  pub keeps : KeepsUnit old new
+  pub reclaimed : IsReclaimedBy old new clock
+  pub free_is : free ≡ length new.books.free
+  pub fewer : free < need
+  pub room : HasRoomAt heap new clock
+  pub noted : HasNoted new q r
+
+abbrev pub LeavesRefused :
+    HeapShown → RegionShown → RegionShown → CallerShown → CallerShown → ℕ → GuardRefusal → Type 0
+LeavesRefused heap old new q r need (Full asked free clock) =
+    (asked ≡ need) × IsFull heap old new q r need free clock
+LeavesRefused heap old new q r need Cut = WasHalted heap old new q r
+
+abbrev pub was_cut : {T : Type 0} → Result T GuardRefusal → Bool
+was_cut (Err Cut) = true
+was_cut _ = false
+
+-- ---- one change more is written
+pub record HasChanged
+    (heap : HeapShown) (old new : RegionShown) (before after : Guard) (change : Change) (slot : ℕ)
+    : Type 0 where
+  pub put : HasPut old new change before.epoch slot
+  pub counted : after ≡ record before { written = before.written + 1 }
+  pub under_way : IsUnderWay heap after new
+
+-- ---- the unit went back
+pub record WentBack (heap : HeapShown) (old new : RegionShown) : Type 0 where
+  pub ready : IsReady heap new
+  pub books : new.books ≡ old.books
+  pub records : new.seat.held.part.records ≡ old.seat.held.part.records
+  pub history : new.seat.held.part.history ≡ old.seat.held.part.history

@@ -1,0 +1,3 @@
+pub mod Regions
+pub mod Guarding
+pub mod Answered

@@ -1,0 +1,83 @@
+// How an operation begins: room is made where there is too little, and the unit registers.
+ghost use Rattle.std.specs.Prelude.{◌≡◌, ◌≤◌, IfOk, OnOk, IfErr, OnErr, is_err, length};
+ghost use Rattle.heap.specs.GateAsked.{IsAskedOften};
+ghost use Rattle.op_guard.specs.Regions.{IsReady, IsRunning, KeepsUnit, WasHalted};
+ghost use Rattle.op_guard.specs.Guarding.{HasBegun, LeavesRefused, was_cut};
+
+use crate::guard::{Guard, GuardRefusal};
+use crate::halting::or_halt;
+use announce::register;
+use heap::Heap;
+use heap_pass::Pass;
+use mont_base::{Epoch, Gate};
+use slots::Region;
+use std::sync::Wait;
+
+/// Begins an operation that needs so many slots: it reclaims where fewer are free, and registers
+/// the unit at an epoch that isn't below anything that the caller has seen.
+///
+/// It may wait for the clock to stand still.
+pub fn begin<R: Wait, G: Gate>(
+    rt: &R,
+    heap: &Heap,
+    region: &mut Region,
+    need: u64,
+    pass: &mut Pass<G>,
+) -> Result<Guard, GuardRefusal>
+    requires ready { IsReady heap.now region.old }
+    requires pass { pass.old.ticket.table ≡ heap.now.table }
+    requires some { 1 ≤ need }
+    ensures gate { IsAskedOften G.cuts G.endless pass.old.gate pass.new.gate (was_cut result) }
+    ensures receipts { pass.new.receipts ≡ pass.old.receipts }
+    ensures begun { IfOk result (λ guard. HasBegun heap.now region.old region.new pass.old.ticket
+        need guard) }
+    ensures caller { OnOk result (pass.new.ticket ≡ pass.old.ticket) }
+    ensures refused { IfErr result (λ refusal. LeavesRefused heap.now region.old region.new
+        pass.old.ticket pass.new.ticket need refusal) }
+{
+    make_room(heap, region, need, pass)?;
+    heap.show_unit(&mut pass.ticket, region.seat_mut());
+    let registered = register(rt, heap, region.seat_mut(), &mut pass.gate);
+    let epoch = or_halt(registered, heap, region, &mut pass.ticket)?;
+    Ok(Guard {
+        unit: region.unit(),
+        by: pass.ticket.number(),
+        epoch,
+        need,
+        written: 0,
+    })
+}
+
+// Closes what the durable clock lets be closed, where too few slots are free.
+fn make_room<G: Gate>(
+    heap: &Heap,
+    region: &mut Region,
+    need: u64,
+    pass: &mut Pass<G>,
+) -> Result<(), GuardRefusal>
+    requires ready { IsReady heap.now region.old }
+    requires pass { pass.old.ticket.table ≡ heap.now.table }
+    requires some { 1 ≤ need }
+    ensures gate { IsAskedOften G.cuts G.endless pass.old.gate pass.new.gate (was_cut result) }
+    ensures receipts { pass.new.receipts ≡ pass.old.receipts }
+    ensures ready { OnOk result (IsReady heap.now region.new) }
+    ensures room { OnOk result (need ≤ length region.new.books.free) }
+    ensures keeps { OnOk result (KeepsUnit region.old region.new) }
+    ensures enough { need ≤ length region.old.books.free
+        → OnOk result (region.new ≡ region.old) }
+    ensures caller { OnOk result (pass.new.ticket ≡ pass.old.ticket) }
+    ensures refused { IfErr result (λ refusal. LeavesRefused heap.now region.old region.new
+        pass.old.ticket pass.new.ticket need refusal) }
+{
+    if region.free() >= need {
+        return Ok(());
+    }
+    let reclaimed = region.reclaim(heap, &mut pass.gate);
+    let clock = or_halt(reclaimed, heap, region, &mut pass.ticket)?;
+    let free = region.free();
+    if free >= need {
+        return Ok(());
+    }
+    heap.hear_unit(&mut pass.ticket, region.seat_mut());
+    Err(GuardRefusal::Full { need, free, clock })
+}

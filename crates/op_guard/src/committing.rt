@@ -1,0 +1,94 @@
+// How an operation ends: its slots are listed for the advancer, and the unit leaves with one entry.
+ghost use Rattle.std.specs.Prelude.{◌≡◌, ◌≤◌, ◌+◌, [], ◌∷◌, ◌++◌, IfOk, OnOk, OnErr, IsTrue, is_err, length};
+ghost use Rattle.core_steps.specs.Answering.{CanLeave};
+ghost use Rattle.core_steps.specs.Stages.{is_within};
+ghost use Rattle.heap.specs.GateAsked.{IsAskedOften};
+ghost use Rattle.heap_pass.specs.Spare.{spare_of};
+ghost use Rattle.heap_rule.specs.Views.{home_turn, unit_gave};
+ghost use Rattle.op_guard.specs.Answered.{HasCommitted, slots_of_written};
+ghost use Rattle.op_guard.specs.Regions.{IsUnderWay, IsRunning, WasHalted};
+
+use crate::guard::Guard;
+use crate::halting::or_halt;
+use heap::Heap;
+use heap_pass::Pass;
+use mont_base::{Cut, Gate, Op, Receipt, Reply, SlotList};
+use slots::{Region, Written};
+
+/// Ends an operation whose changes are all written: the unit leaves its epoch with one entry, and
+/// the pass keeps the receipt.
+pub fn commit<G: Gate>(
+    guard: Guard,
+    heap: &Heap,
+    region: &mut Region,
+    pass: &mut Pass<G>,
+    op: &Op,
+    reply: &Reply,
+) -> Result<Receipt, Cut>
+    requires under_way { IsUnderWay heap.now guard region.old }
+    requires pass { pass.old.ticket.table ≡ heap.now.table }
+    requires by { guard.by ≡ pass.old.ticket.held.caller }
+    requires spare { 1 ≤ spare_of pass.old.receipts }
+    requires may { CanLeave heap.now.opening.layout region.old.books.unit
+        region.old.seat.held.part pass.old.ticket.held.part op.now reply.now guard.epoch }
+    ensures gate { IsAskedOften G.cuts G.endless pass.old.gate pass.new.gate (is_err result) }
+    ensures committed { IfOk result (λ receipt. HasCommitted heap.now region.old region.new
+        pass.old.ticket pass.new.ticket op.now reply.now guard.epoch receipt) }
+    ensures receipts { IfOk result (λ receipt. pass.new.receipts.items
+        ≡ pass.old.receipts.items ++ receipt ∷ []) }
+    ensures spare { OnOk result (spare_of pass.new.receipts + 1
+        ≡ spare_of pass.old.receipts) }
+    ensures kept { OnErr result (pass.new.receipts ≡ pass.old.receipts) }
+    ensures cut { OnErr result (WasHalted heap.now region.old region.new pass.old.ticket
+        pass.new.ticket) }
+{
+    let Guard {
+        unit: _,
+        by: _,
+        epoch: _,
+        need: _,
+        written: _,
+    } = guard;
+    list_written(heap, region);
+    let left = heap.leave(
+        region.seat_mut(),
+        &mut pass.ticket,
+        op,
+        reply,
+        &mut pass.gate,
+    );
+    let receipt = or_halt(left, heap, region, &mut pass.ticket)?;
+    region.left(&receipt);
+    let kept = &receipt;
+    pass.receipts.push_reserved(*kept);
+    Ok(receipt)
+}
+
+// Pushes the written slots behind the unit's list of its epoch.
+fn list_written(heap: &Heap, region: &mut Region)
+    requires runs { IsRunning heap.now region.old }
+    requires within { IsTrue (is_within region.old.seat.held.part.stage) }
+    requires home { region.old.seat.held.turn ≡ home_turn }
+    ensures books { region.new.books ≡ region.old.books }
+    ensures seat { region.new.seat ≡ record {
+      table = region.old.seat.table;
+      held = unit_gave region.old.seat.held;
+    } }
+{
+    let mut list = heap.take_list(region.seat_mut());
+    push_slots(&mut list, region.written());
+    heap.give_list(region.seat_mut(), list);
+}
+
+// Pushes the slots of written records, in their order.
+fn push_slots(list: &mut SlotList, written: &[Written])
+    requires { length list.old.slots + length written.now ≤ list.old.room }
+    ensures { list.new ≡ record {
+      slots = list.old.slots ++ slots_of_written written.now;
+      room = list.old.room;
+    } }
+{
+    for one in written {
+        list.push(one.held.slot);
+    }
+}

@@ -1,0 +1,30 @@
+// A unit in which a caller was cut is halted.
+ghost use Rattle.std.specs.Prelude.{◌≡◌, OnOk, OnErr};
+ghost use Rattle.op_guard.specs.Regions.{IsRunning, WasHalted};
+
+use heap::{Heap, Ticket};
+use mont_base::Cut;
+use slots::Region;
+
+// Hands an answer of the unit's steps on. Where the gate cut, the unit is halted by the caller.
+pub(crate) fn or_halt<T>(
+    answer: Result<T, Cut>,
+    heap: &Heap,
+    region: &mut Region,
+    ticket: &mut Ticket,
+) -> Result<T, Cut>
+    requires runs { OnErr answer (IsRunning heap.now region.old) }
+    requires ticket { ticket.old.table ≡ heap.now.table }
+    ensures same { result ≡ answer }
+    ensures ok { OnOk answer ((region.new ≡ region.old) × (ticket.new ≡ ticket.old)) }
+    ensures cut { OnErr answer (WasHalted heap.now region.old region.new ticket.old
+        ticket.new) }
+{
+    match answer {
+        Ok(value) => Ok(value),
+        Err(cut) => {
+            region.halt(heap, ticket);
+            Err(cut)
+        }
+    }
+}

@@ -1,0 +1,18 @@
+//! One operation of a unit, step by step: room is made and the unit registers, each change is
+//! written, and the unit leaves with one entry. An operation that changes nothing is one step.
+//!
+//! Where a caller is cut in any of these, the unit is halted for good and gets no entry.
+#![tactic(auto)]
+
+mod beginning;
+mod committing;
+mod guard;
+mod halting;
+mod reading;
+mod writing;
+
+pub use beginning::begin;
+pub use committing::commit;
+pub use guard::{Guard, GuardRefusal};
+pub use reading::read;
+pub use writing::{abandon, change};

@@ -1,0 +1,51 @@
+// An operation that changes nothing.
+ghost use Rattle.std.specs.Prelude.{◌≡◌, ◌≤◌, ◌+◌, [], ◌∷◌, ◌++◌, IfOk, OnOk, OnErr, is_err};
+ghost use Rattle.core_steps.specs.Answering.{CanRead};
+ghost use Rattle.heap.specs.GateAsked.{IsAskedOften};
+ghost use Rattle.heap_pass.specs.Spare.{spare_of};
+ghost use Rattle.op_guard.specs.Answered.{HasRead};
+ghost use Rattle.op_guard.specs.Regions.{IsReady, WasHalted};
+
+use crate::halting::or_halt;
+use heap::Heap;
+use heap_pass::Pass;
+use mont_base::{Cut, Gate, Op, Receipt, Reply};
+use slots::Region;
+
+/// Answers a caller with what changes nothing. The entry's epoch is the clock.
+pub fn read<G: Gate>(
+    heap: &Heap,
+    region: &mut Region,
+    pass: &mut Pass<G>,
+    op: &Op,
+    reply: &Reply,
+) -> Result<Receipt, Cut>
+    requires ready { IsReady heap.now region.old }
+    requires pass { pass.old.ticket.table ≡ heap.now.table }
+    requires spare { 1 ≤ spare_of pass.old.receipts }
+    requires may { CanRead heap.now.opening.layout region.old.books.unit
+        region.old.seat.held.part pass.old.ticket.held.part op.now reply.now }
+    ensures gate { IsAskedOften G.cuts G.endless pass.old.gate pass.new.gate (is_err result) }
+    ensures read { IfOk result (λ receipt. HasRead heap.now region.old region.new
+        pass.old.ticket pass.new.ticket op.now reply.now receipt) }
+    ensures receipts { IfOk result (λ receipt. pass.new.receipts.items
+        ≡ pass.old.receipts.items ++ receipt ∷ []) }
+    ensures spare { OnOk result (spare_of pass.new.receipts + 1
+        ≡ spare_of pass.old.receipts) }
+    ensures kept { OnErr result (pass.new.receipts ≡ pass.old.receipts) }
+    ensures cut { OnErr result (WasHalted heap.now region.old region.new pass.old.ticket
+        pass.new.ticket) }
+{
+    let answered = heap.read_entry(
+        region.seat_mut(),
+        &mut pass.ticket,
+        op,
+        reply,
+        &mut pass.gate,
+    );
+    let receipt = or_halt(answered, heap, region, &mut pass.ticket)?;
+    region.left(&receipt);
+    let kept = &receipt;
+    pass.receipts.push_reserved(*kept);
+    Ok(receipt)
+}

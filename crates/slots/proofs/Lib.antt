@@ -1,0 +1,13 @@
+mod Times
+mod RowFacts
+mod Agreements
+mod Puts
+mod Lives
+mod Closes
+mod Settles
+mod Stores
+mod Gates
+mod Reclaims
+mod Sweeps
+mod Opens
+mod Seen

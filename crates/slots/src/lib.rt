@@ -1,0 +1,16 @@
+//! The slots of one unit: which are free, which hold records, which wait to be closed, and how a
+//! record is written into a slot and a slot is closed.
+//!
+//! A region owns its unit's seat, so whoever holds the region makes the unit's steps.
+#![tactic(auto)]
+
+mod beginning;
+mod books;
+mod changes;
+mod putting;
+mod reclaiming;
+mod region;
+mod sweeping;
+
+pub use books::Written;
+pub use region::Region;
