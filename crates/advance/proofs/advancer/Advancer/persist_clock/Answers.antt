@@ -1,0 +1,15 @@
+use Rattle.std.proofs.Common.{ap, subst, ◌∙◌}
+use Rattle.core_steps.specs.Advancing.{is_clocked}
+use Rattle.heap.specs.HeapShown.{AdvShown}
+use Rattle.advance.specs.Advance.{IsAdvanced}
+use Rattle.advance.proofs.Staging.{clocked_rests}
+use Rattle.advance.proofs.Ways.{rested_advanced}
+use Rattle.advance.proofs.advancer.Advancer.persist_clock.Goals as goal
+
+pub returns-clause-ok : goal.returns-clause-ok
+returns-clause-ok g c =
+    let moved = ap (λ (s : AdvShown). is_clocked s.held.part) c.self.view_is ∙ c.requires.moved in
+    subst (λ (s : AdvShown). IsAdvanced s.held c.self.inside.clock c.persist_clock.new.seat.held) c.self.view_is
+    (rested_advanced c.self.inside.seat.held c.persist_clock.new.seat.held c.self.inside.clock
+    (ap (λ (s : AdvShown). s.held) c.in_ok-persist_clock.ensures.ok) c.self.invariant.clock_is moved
+    (clocked_rests _ _ _ _ _ c.self.invariant moved) c.in_ok-persist_clock.ensures.ahead)

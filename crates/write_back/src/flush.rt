@@ -1,0 +1,230 @@
+// A flush: where it stands, and how it goes on through the lists of all units.
+ghost use Rattle.std.specs.Prelude.{◌≡◌, ◌+◌, ◌^◌, ◌<◌, true, false, is_err, length, slice_get, OnOk, OnErr, Some};
+ghost use Rattle.write_back.specs.Flush.{IsOfLayout, StandsAt, IsFlushed, flush_start, slots_out, slot_in, words_done, behind_word, with_flush_of};
+ghost use Rattle.mont_base.specs.declared.constants.TheConstants.{FIELDS};
+ghost use Rattle.mont_base.specs.Layout.{IsLayout};
+ghost use Rattle.heap.specs.GateAsked.{IsAskedOften};
+
+use heap::{AdvSeat, Heap};
+use mont_base::{Cut, FIELDS, Gate, Slot, SlotList, Unit};
+
+/// How far a write-back is.
+#[derive(Debug, Drop)]
+pub struct Flush {
+    /// The lists of the units below were given back empty.
+    pub unit: Unit,
+    /// The list of this unit, while it is out.
+    pub list: Option<SlotList>,
+    /// How many of its slots are durable.
+    pub at: u64,
+    /// How many fields of the next one are.
+    pub field: u64,
+    /// Whether the word at hand is loaded and not yet durable.
+    pub held: bool,
+}
+
+impl Flush {
+    /// A flush that has not begun.
+    pub fn start() -> Flush
+        ensures { result ≡ flush_start }
+    {
+        Flush {
+            unit: 0,
+            list: None,
+            at: 0,
+            field: 0,
+            held: false,
+        }
+    }
+
+    /// Goes on from where it stands: takes the full list of each unit in order, makes each field of
+    /// each of its slots durable, and gives the list back empty. Then it stands at its end. After
+    /// `Cut` the next call goes on.
+    pub fn flush_epoch<G: Gate>(
+        &mut self,
+        heap: &Heap,
+        seat: &mut AdvSeat,
+        gate: &mut G,
+    ) -> Result<(), Cut>
+        requires heap { seat.old.table ≡ heap.now.table }
+        requires layout { IsOfLayout heap.now.opening.layout seat.old.held }
+        requires stands { StandsAt self.old seat.old.held }
+        ensures gate { IsAskedOften G.cuts G.endless gate.old gate.new (is_err result) }
+        ensures stands { StandsAt self.new seat.new.held }
+        ensures stays { seat.new ≡ record {
+          table = seat.old.table;
+          held = with_flush_of seat.old.held seat.new.held;
+        } }
+        ensures ok { OnOk result (IsFlushed seat.new.held) }
+        ensures left { OnErr result (seat.new.held.turn.emptied < seat.new.held.units) }
+    {
+        for _unit in self.unit..heap.layout().units() {
+            self.take(heap, seat);
+            self.flush_list(heap, seat, gate)?;
+            self.give(heap, seat);
+        }
+        Ok(())
+    }
+
+    // Takes the list of the unit out, unless it is out.
+    fn take(&mut self, heap: &Heap, seat: &mut AdvSeat)
+        requires heap { seat.old.table ≡ heap.now.table }
+        requires stands { StandsAt self.old seat.old.held }
+        requires unit { seat.old.held.turn.emptied < seat.old.held.units }
+        ensures stands { StandsAt self.new seat.new.held }
+        ensures stays { seat.new ≡ record {
+          table = seat.old.table;
+          held = with_flush_of seat.old.held seat.new.held;
+        } }
+        ensures out { seat.new.held.turn
+            ≡ record { emptied = seat.old.held.turn.emptied; out = true } }
+    {
+        if self.list.is_some() {
+            return;
+        }
+        self.list = Some(heap.take_full(seat, self.unit));
+    }
+
+    // Makes the slots of that list durable, from the word at hand on.
+    fn flush_list<G: Gate>(
+        &mut self,
+        heap: &Heap,
+        seat: &mut AdvSeat,
+        gate: &mut G,
+    ) -> Result<(), Cut>
+        requires heap { seat.old.table ≡ heap.now.table }
+        requires layout { IsOfLayout heap.now.opening.layout seat.old.held }
+        requires range { IsLayout heap.now.opening.layout }
+        requires stands { StandsAt self.old seat.old.held }
+        ensures gate { IsAskedOften G.cuts G.endless gate.old gate.new (is_err result) }
+        ensures stands { StandsAt self.new seat.new.held }
+        ensures stays { seat.new ≡ record {
+          table = seat.old.table;
+          held = with_flush_of seat.old.held seat.new.held;
+        } }
+        ensures turn { seat.new.held.turn ≡ seat.old.held.turn }
+        ensures ok { OnOk result (self.new.at ≡ length (slots_out seat.old.held)) }
+    {
+        while let Some(slot) = self.slot() {
+            self.load(heap, seat, slot, gate)?;
+            self.persist(heap, seat, slot, gate)?;
+        }
+        Ok(())
+    }
+
+    // Gives the list back empty, and goes to the next unit.
+    fn give(&mut self, heap: &Heap, seat: &mut AdvSeat)
+        requires heap { seat.old.table ≡ heap.now.table }
+        requires layout { IsOfLayout heap.now.opening.layout seat.old.held }
+        requires range { IsLayout heap.now.opening.layout }
+        requires stands { StandsAt self.old seat.old.held }
+        requires out { seat.old.held.turn.out ≡ true }
+        requires end { self.old.at ≡ length (slots_out seat.old.held) }
+        ensures stands { StandsAt self.new seat.new.held }
+        ensures stays { seat.new ≡ record {
+          table = seat.old.table;
+          held = with_flush_of seat.old.held seat.new.held;
+        } }
+        ensures home { seat.new.held.turn
+            ≡ record { emptied = seat.old.held.turn.emptied + 1; out = false } }
+    {
+        match self.list.take() {
+            Some(mut list) => {
+                list.clear();
+                heap.give_empty(seat, self.unit, list);
+                self.unit += 1;
+                self.at = 0;
+            }
+            None => unreachable!(),
+        }
+    }
+
+    // The slot at hand, where the list that is out has one.
+    fn slot(&self) -> Option<Slot>
+        ensures { result ≡ slot_in self.now.list self.now.at }
+    {
+        match &self.list {
+            Some(list) => {
+                if self.at < list.len() {
+                    Some(list.at(self.at))
+                } else {
+                    None
+                }
+            }
+            None => None,
+        }
+    }
+
+    // Loads the word at hand, unless it is loaded.
+    fn load<G: Gate>(
+        &mut self,
+        heap: &Heap,
+        seat: &mut AdvSeat,
+        slot: Slot,
+        gate: &mut G,
+    ) -> Result<(), Cut>
+        requires heap { seat.old.table ≡ heap.now.table }
+        requires layout { IsOfLayout heap.now.opening.layout seat.old.held }
+        requires stands { StandsAt self.old seat.old.held }
+        requires slot { slice_get (slots_out seat.old.held) self.old.at ≡ Some slot }
+        ensures gate { IsAskedOften G.cuts G.endless gate.old gate.new (is_err result) }
+        ensures stands { StandsAt self.new seat.new.held }
+        ensures stays { seat.new ≡ record {
+          table = seat.old.table;
+          held = with_flush_of seat.old.held seat.new.held;
+        } }
+        ensures turn { seat.new.held.turn ≡ seat.old.held.turn }
+        ensures same { (self.new.at ≡ self.old.at) × (self.new.field ≡ self.old.field) }
+        ensures ok { OnOk result (self.new.held ≡ true) }
+    {
+        if self.held {
+            return Ok(());
+        }
+        heap.load_word(seat, slot, gate)?;
+        self.held = true;
+        Ok(())
+    }
+
+    // Makes the loaded word durable, and goes to the next one.
+    fn persist<G: Gate>(
+        &mut self,
+        heap: &Heap,
+        seat: &mut AdvSeat,
+        slot: Slot,
+        gate: &mut G,
+    ) -> Result<(), Cut>
+        requires heap { seat.old.table ≡ heap.now.table }
+        requires layout { IsOfLayout heap.now.opening.layout seat.old.held }
+        requires range { IsLayout heap.now.opening.layout }
+        requires stands { StandsAt self.old seat.old.held }
+        requires slot { slice_get (slots_out seat.old.held) self.old.at ≡ Some slot }
+        requires held { self.old.held ≡ true }
+        ensures gate { IsAskedOften G.cuts G.endless gate.old gate.new (is_err result) }
+        ensures stands { StandsAt self.new seat.new.held }
+        ensures stays { seat.new ≡ record {
+          table = seat.old.table;
+          held = with_flush_of seat.old.held seat.new.held;
+        } }
+        ensures turn { seat.new.held.turn ≡ seat.old.held.turn }
+        ensures ok { OnOk result (words_done self.new ≡ words_done self.old + 1) }
+    {
+        heap.persist_word(seat, slot, gate)?;
+        self.go_on();
+        Ok(())
+    }
+
+    // The word behind the one at hand, not loaded.
+    fn go_on(&mut self)
+        requires place { self.old.at + 1 < 2 ^ 64 }
+        requires field { self.old.field < FIELDS }
+        ensures { self.new ≡ behind_word self.old }
+    {
+        self.held = false;
+        if self.field + 1 < FIELDS as u64 {
+            self.field += 1;
+        } else {
+            self.at += 1;
+            self.field = 0;
+        }
+    }
+}
