@@ -1,10 +1,9 @@
 -- The first place that outcomes name, with one outcome more before them.
-use Rattle.std.proofs.Common.{◌≡◌, ℕ, suc, ◌+◌, ◌-◌, ◌<◌, ◌≤◌, ◌≢◌, ◌⊎◌, inl, inr, List, [], ◌∷◌, length, get_or, set, take, drop, min, Option, Some, None, add-one, drop-cons, refl, sym, ap, ◌∙◌, subst, arith}
+use Rattle.std.proofs.Common.{◌≡◌, ℕ, suc, ◌+◌, ◌-◌, ◌<◌, ◌≤◌, ◌≢◌, ◌⊎◌, inl, inr, List, [], ◌∷◌, length, get_or, set, drop, min, Option, Some, None, add-one, drop-cons, refl, sym, ap, ◌∙◌, subst, arith}
 use Rattle.std.specs.Prelude.{fold, slice_get}
 use Rattle.std.proofs.lemmas.Bool.{cases_eq}
 use Rattle.std.proofs.lemmas.List.{get_or-set_other, get_or-set_same, get_or_default, length-set}
 use Rattle.std.proofs.lemmas.Option.{get_or_from_slice_get, slice_get-get_or, slice_get_within}
-use Rattle.std.specs.Ordering.{nat_cmp}
 use Rattle.std.specs.BTreeMap as tree
 use Rattle.mont_base.specs.Layout.{Shape}
 use Rattle.job_text.specs.declared.job.Deed.{Deed}
@@ -15,7 +14,7 @@ use Rattle.job_text.specs.Outcomes.{place_of}
 use Rattle.mont_check.specs.Ahead.{IsKnownAhead, KnowsFirst, LowersPlace}
 use Rattle.mont_check.specs.Bounds.{joined, least}
 use Rattle.mont_check.specs.Moments.{IsAheadOf}
-use Rattle.mont_check.specs.Shown.{only_in, place_in}
+use Rattle.mont_check.specs.Shown.{place_in}
 
 joined_turn : (a m y : Option ℕ) → joined min a (joined min m y) ≡ joined min (joined min a y) m
 joined_turn None None None = refl

@@ -1,6 +1,6 @@
 -- A number is at its end, told of what is true of the unit.
-use Rattle.std.proofs.Common.{◌≡◌, ℕ, ◌<◌, Bool, List, length, take, count_by, sym, subst, ap}
-use Rattle.std.specs.Prelude.{◌↔◌, IsTrue}
+use Rattle.std.proofs.Common.{ℕ, List, take, count_by, subst}
+use Rattle.std.specs.Prelude.{◌↔◌}
 use Rattle.mont_base.specs.declared.operation.Entry.{Entry}
 use Rattle.mont_base.specs.declared.operation.Op.{Op}
 use Rattle.mont_base.specs.declared.record.Held.{Held}

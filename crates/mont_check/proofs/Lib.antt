@@ -10,6 +10,7 @@ pub mod MomentLaws
 pub mod FullLaws
 pub mod CountLaws
 pub mod LineLaws
+pub mod CutLaws
 pub mod AnswerLaws
 pub mod AheadLaws
 pub mod PointLaws

@@ -1,9 +1,6 @@
 -- The moments of a call, told of the places of its caller before and behind it.
-use Rattle.std.proofs.Common.{◌≡◌, ℕ, zero, suc, ◌+◌, ◌<◌, ◌≤◌, ◌⊎◌, inl, inr, Bool, true, false, List, [], ◌∷◌, map, length, take, min, Some, get_or, refl, sym, ap, ◌∙◌, subst, arith, length-take}
-use Rattle.std.specs.Prelude.{◌↔◌, IsTrue, All, slice_get}
-use Rattle.std.specs.Ordering.{nat_cmp}
-use Rattle.std.specs.BTreeMap as tree
-use Rattle.std.proofs.lemmas.Bool.{cases_lt}
+use Rattle.std.proofs.Common.{◌≡◌, ℕ, zero, suc, ◌≤◌, List, [], ◌∷◌, map, length, take, min, Some, get_or, sym, ap, ◌∙◌, subst, arith, length-take}
+use Rattle.std.specs.Prelude.{◌↔◌, All, slice_get}
 use Rattle.std.proofs.lemmas.Option.{same_Some}
 use Rattle.mont_base.specs.declared.operation.Entry.{Entry}
 use Rattle.mont_base.specs.declared.operation.Op.{Op}
@@ -14,17 +11,15 @@ use Rattle.job_text.specs.AnsweredLines.{records_in}
 use Rattle.job_text.specs.Causes.{IsPoint, SomeMoment}
 use Rattle.job_text.specs.Outcomes.{place_of}
 use Rattle.job_text.specs.Report.{Report}
-use Rattle.mont_check.specs.declared.cause.Case.{Case}
 use Rattle.mont_check.specs.declared.cause.Cause.{Cause}
-use Rattle.mont_check.specs.declared.moments.Span.{Span}
 use Rattle.mont_check.specs.declared.moments.Question.{Question}
 use Rattle.mont_check.specs.declared.progress.Progress.{Progress}
-use Rattle.mont_check.specs.Bounds.{IsAtLeast, IsBelow, least}
-use Rattle.mont_check.specs.Causes.{HeldAfter, IsCause, clock_of_cause}
+use Rattle.mont_check.specs.Bounds.{IsAtLeast, least}
+use Rattle.mont_check.specs.Causes.{IsCause, clock_of_cause}
 use Rattle.mont_check.specs.Moments.{HasMoment, IsMet, IsWithin, case_of, span_of}
 use Rattle.mont_check.specs.Progress.{HasShown}
 use Rattle.mont_check.specs.Shown.{place_in}
-use Rattle.mont_check.specs.Walk.{Facts, facts_after}
+use Rattle.mont_check.specs.Walk.{facts_after}
 use Rattle.mont_check.proofs.Joined.{all_bounded}
 use Rattle.mont_check.proofs.ProgressLaws.{all_below, place_shown, shown_place}
 

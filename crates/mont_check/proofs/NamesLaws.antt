@@ -1,14 +1,14 @@
 -- How often places are named, counted outcome by outcome.
-use Rattle.std.proofs.Common.{◌≡◌, ℕ, ◌+◌, ◌-◌, ◌^◌, ◌<◌, ◌≤◌, min, Bool, List, [], ◌∷◌, length, get_or, take, sum_by, count_by, sym, ap, ◌∙◌, arith}
+use Rattle.std.proofs.Common.{◌≡◌, ℕ, ◌+◌, ◌<◌, Bool, List, [], ◌∷◌, length, get_or, take, count_by, ap, ◌∙◌, arith}
 use Rattle.std.specs.Prelude.{◌↔◌, All, IsTrue, Some, slice_get, slice_index, if◌then◌else◌}
 use Rattle.std.proofs.lemmas.List.{get_or_default}
 use Rattle.std.proofs.lemmas.List.Sums.{sum_by_more}
 use Rattle.mont_base.specs.declared.operation.Entry.{Entry}
 use Rattle.job_text.specs.declared.outcome.Outcome.{Outcome}
 use Rattle.job_text.specs.Faithful.{AllNamedAt}
-use Rattle.job_text.specs.Outcomes.{names_entry, times_named}
+use Rattle.job_text.specs.Outcomes.{names_entry}
 use Rattle.job_text.specs.Report.{Report}
-use Rattle.mont_check.specs.Names.{CountsNames, TellsNames, most}
+use Rattle.mont_check.specs.Names.{CountsNames, TellsNames}
 use Rattle.mont_check.proofs.Entries.{entry_there, entry_within}
 
 count_more :

@@ -1,5 +1,5 @@
 -- The slots in use at a point, told of the slots that were retired until then and of those that a clock closed.
-use Rattle.std.proofs.Common.{◌≡◌, ℕ, zero, suc, ◌+◌, ◌-◌, ◌<◌, ◌≤◌, ◌⊎◌, inl, inr, Bool, true, false, List, [], ◌∷◌, ◌++◌, length, take, get_or, max, sum_by, refl, sym, ap, ◌∙◌, subst, arith, length-append, length-take}
+use Rattle.std.proofs.Common.{◌≡◌, ℕ, zero, suc, ◌+◌, ◌-◌, ◌<◌, ◌≤◌, ◌⊎◌, inl, inr, List, [], ◌∷◌, ◌++◌, length, take, get_or, sum_by, refl, sym, ap, ◌∙◌, subst, arith, length-append, length-take}
 use Rattle.std.specs.List.Sorted.{IsNonDecreasingBy}
 use Rattle.std.specs.Prelude.{nat_lt, slice_get, Some, if◌then◌else◌}
 use Rattle.std.proofs.lemmas.Bool.{cases_lt}
@@ -10,11 +10,10 @@ use Rattle.std.proofs.lemmas.Option.{get_or_from_slice_get, same_Some, slice_get
 use Rattle.mont_base.specs.declared.operation.Entry.{Entry}
 use Rattle.mont_base.specs.declared.record.Held.{Held}
 use Rattle.mont_base.specs.Room.{retires, retired_late}
-use Rattle.mont_base.specs.History.{state_after}
-use Rattle.mont_base.specs.State.{State, size_of, step}
+use Rattle.mont_base.specs.State.{State, step}
 use Rattle.mont_check.specs.declared.cause.Case.{Case}
 use Rattle.mont_check.specs.declared.points.Point.{Point}
-use Rattle.mont_check.specs.Causes.{HeldAfter, clock_of_cause, room_in}
+use Rattle.mont_check.specs.Causes.{HeldAfter, clock_of_cause}
 use Rattle.mont_check.specs.Points.{ArePoints, EpochsRise, IsClosed, IsNextPoint, PointsRise, TellsPoint}
 use Rattle.mont_check.specs.Questions.{HasRoom}
 use Rattle.mont_check.specs.Walk.{closed_later, facts_after, no_facts}

@@ -1,6 +1,6 @@
 -- What was shown bounds what may come next.
-use Rattle.std.proofs.Common.{◌≡◌, ℕ, zero, suc, ◌+◌, ◌<◌, ◌≤◌, Bool, true, false, ◌||◌, ◌==◌, List, [], ◌∷◌, length, get_or, take, max, count_by, Option, Some, None, refl, sym, ap, ◌∙◌, subst, arith}
-use Rattle.std.specs.Prelude.{◌↔◌, All, IsTrue, fold, if◌then◌else◌}
+use Rattle.std.proofs.Common.{◌≡◌, ℕ, ◌+◌, ◌<◌, ◌≤◌, Bool, true, false, ◌||◌, ◌==◌, List, [], length, get_or, take, max, count_by, Option, Some, None, refl, sym, ap, ◌∙◌, subst, arith}
+use Rattle.std.specs.Prelude.{◌↔◌, All, IsTrue, if◌then◌else◌}
 use Rattle.std.specs.List.{list_any}
 use Rattle.std.specs.Ordering.{nat_cmp}
 use Rattle.std.specs.BTreeMap as tree
@@ -11,7 +11,7 @@ use Rattle.std.proofs.lemmas.List.Folds.{Any-from_list_any, list_any-from_Any, l
 use Rattle.std.proofs.lemmas.List.Sums.{fold_more, sum_by_more}
 use Rattle.mont_base.specs.declared.operation.Entry.{Entry}
 use Rattle.job_text.specs.declared.outcome.Outcome.{Outcome}
-use Rattle.job_text.specs.Outcomes.{HasEpoch, InOrder, clock_of, is_at, is_cut, place_of, settled_of, tick_of}
+use Rattle.job_text.specs.Outcomes.{InOrder, clock_of, is_at, is_cut, place_of}
 use Rattle.mont_check.specs.declared.progress.Progress.{Progress}
 use Rattle.mont_check.specs.Bounds.{IsAtMost, IsBelow, IsSettled, joined, greatest}
 use Rattle.mont_check.specs.Progress.{Allows, AllowsPlace, HasShown, IsFresh, Notes}

@@ -1,5 +1,5 @@
 -- Questions that are asked point by point: what is asked from a point on, and of which questions.
-use Rattle.std.proofs.Common.{◌≡◌, ℕ, zero, suc, ◌+◌, ◌<◌, ◌≤◌, ◌⊎◌, inl, inr, Bool, true, false, List, [], ◌∷◌, ◌++◌, length, take, drop, get_or, Some, refl, sym, ap, ◌∙◌, subst, arith, length-take}
+use Rattle.std.proofs.Common.{◌≡◌, ℕ, ◌+◌, ◌<◌, ◌≤◌, ◌⊎◌, inl, inr, false, List, [], ◌∷◌, ◌++◌, length, take, drop, get_or, refl, sym, ap, ◌∙◌, subst, arith, length-take}
 use Rattle.std.specs.Prelude.{◌↔◌, All, Any, Contains, IsTrue}
 use Rattle.std.proofs.lemmas.Bool.{cases_lt}
 use Rattle.std.proofs.lemmas.List.{take-append-drop, take_more}
@@ -8,7 +8,7 @@ use Rattle.mont_base.specs.declared.operation.Entry.{Entry}
 use Rattle.mont_base.specs.declared.record.Held.{Held}
 use Rattle.mont_base.specs.State.{State}
 use Rattle.mont_check.specs.declared.asked.Asked.{Asked}
-use Rattle.mont_check.specs.Moments.{Fits, SomePoint}
+use Rattle.mont_check.specs.Moments.{Fits}
 use Rattle.mont_check.specs.Questions.{AreTried, BeginBy, EndsBy, FitsAt, FitsNow, IsMetIn, IsReady}
 use Rattle.mont_check.specs.Walk.{Facts, facts_after}
 

@@ -1,5 +1,5 @@
 -- What one entry more does to what is true of a unit.
-use Rattle.std.proofs.Common.{◌≡◌, ℕ, zero, suc, ◌+◌, ◌<◌, ◌≤◌, Bool, true, false, List, [], ◌∷◌, ◌++◌, length, get_or, take, length-append, sum_by, count_by, refl, sym, ap, ◌∙◌, subst, arith}
+use Rattle.std.proofs.Common.{◌≡◌, ℕ, ◌+◌, ◌<◌, ◌≤◌, List, [], ◌∷◌, ◌++◌, length, get_or, take, length-append, sum_by, count_by, refl, sym, ap, ◌∙◌, arith}
 use Rattle.std.specs.Prelude.{nat_lt, if◌then◌else◌}
 use Rattle.std.proofs.lemmas.Bool.Decides.{nat_tests}
 use Rattle.std.proofs.lemmas.List.{take_more}
@@ -11,7 +11,7 @@ use Rattle.mont_base.specs.State.{State, step}
 use Rattle.mont_base.specs.History.{state_after}
 use Rattle.mont_base.specs.Room.{retires, retired_late, room_of}
 use Rattle.job_text.specs.Causes.{is_enq, is_insertion, sum_over}
-use Rattle.mont_check.specs.Walk.{Facts, facts_after, is_removal, is_replacement, more_facts, no_facts}
+use Rattle.mont_check.specs.Walk.{Facts, facts_after, is_removal, is_replacement, more_facts}
 
 -- ---- one entry more
 state_more : (base : State) (h : List Entry) (e : Entry) → state_after base (h ++ e ∷ []) ≡ (step (state_after base h) e.op).state

@@ -1,5 +1,6 @@
 pub mod Bounds
 pub mod Shown
+pub mod Cuts
 pub mod Names
 pub mod Progress
 pub mod Walk

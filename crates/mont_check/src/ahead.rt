@@ -1,5 +1,5 @@
 // The first places that a caller's later outcomes name, told behind each of its outcomes.
-ghost use Rattle.std.specs.Prelude.{◌≡◌, ◌≤◌, length, ℕ, IfOk, OnOk};
+ghost use Rattle.std.specs.Prelude.{◌≤◌, length, IfOk, OnOk};
 ghost use Rattle.mont_check.specs.Ahead.{AreAhead, IsKnownAhead, LowersPlace};
 
 use crate::shown::place_of;

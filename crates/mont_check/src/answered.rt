@@ -4,9 +4,11 @@ ghost use Rattle.job_text.specs.Report.{lines_of};
 ghost use Rattle.job_text.specs.Faithful.{AnsweredAt};
 ghost use Rattle.job_text.specs.PlainReport.{report_of};
 ghost use Rattle.mont_check.specs.Answered.{AreCounted, TellsCaller, TellsLines};
+ghost use Rattle.mont_check.specs.Cuts.{AllCutsLast};
 ghost use Rattle.mont_check.specs.Questions.{AllRise};
 
 use crate::ahead::places_ahead;
+use crate::cuts::all_cuts_last;
 use crate::line_answers::answers;
 use crate::moments::Question;
 use crate::progress::Progress;
@@ -28,6 +30,9 @@ pub fn are_answered(
     ensures { IfOk result (λ b. IsTrue b
         ↔ ((caller : ℕ) → AnsweredAt job.now records.now (report_of report.now) caller)) }
 {
+    if !all_cuts_last(report) {
+        return Ok(false);
+    }
     let mut questions = Vec::new(alloc);
     for caller in 0..report.outcomes.len() {
         if !is_answered(alloc, job, report, caller, &mut questions)? {
@@ -47,6 +52,7 @@ fn is_answered(
     caller: u64,
     questions: &mut Vec<Question>,
 ) -> Result<bool, AllocError>
+    requires { AllCutsLast (report_of report.now) }
     ensures { IfOk result (TellsCaller job.now (report_of report.now) caller questions.old.items
         questions.new.items) }
 {
@@ -92,7 +98,8 @@ fn answer_in_order(
     outcomes: &[Outcome],
     questions: &mut Vec<Question>,
 ) -> Result<bool, AllocError>
-    requires { length outcomes.now ≤ length lines.now }
+    requires few { length outcomes.now ≤ length lines.now }
+    requires cuts_last { AllCutsLast (report_of report.now) }
     ensures { IfOk result (TellsLines job.now (report_of report.now) lines.now outcomes.now
         questions.old.items questions.new.items) }
 {

@@ -1,13 +1,11 @@
 // A question that was made ready to be asked along a unit's history.
-ghost use Rattle.std.specs.Prelude.{◌≡◌, ◌↔◌, ℕ, IsTrue, IfOk};
+ghost use Rattle.std.specs.Prelude.{◌↔◌, IsTrue, IfOk};
 ghost use Rattle.mont_check.specs.Questions.{EndsBy, TellsFits};
 ghost use Rattle.mont_check.specs.Walk.{facts_of};
 
 use crate::moments::Question;
 use crate::opening::Opening;
-use crate::points::{Point, closed_at, first_using};
 use crate::walk::Walk;
-use mont_base::Entry;
 use std::alloc::{AllocError, Global};
 
 /// A question with what a history tells of it.

@@ -1,5 +1,5 @@
 // What may have kept a call from being answered, at some moment of its unit's history.
-ghost use Rattle.std.specs.Prelude.{◌≡◌, ◌↔◌, IsTrue, IfOk, IfSome};
+ghost use Rattle.std.specs.Prelude.{◌≡◌, IfOk, IfSome};
 ghost use Rattle.mont_check.specs.Causes.{FreesAtMost, TellsEnd, TellsHeld, clock_of_cause, is_del_v, room_in};
 ghost use Rattle.mont_check.specs.Walk.{closed_later, facts_of};
 

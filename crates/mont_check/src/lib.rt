@@ -5,6 +5,7 @@ mod ahead;
 mod answered;
 mod asked;
 mod cause;
+mod cuts;
 mod faithful;
 mod last_numbers;
 mod line_answers;

@@ -5,9 +5,11 @@ ghost use Rattle.job_text.specs.AnsweredLines.{AnswersSync, AnswersTick, EndsWai
 ghost use Rattle.job_text.specs.Causes.{IsHalted, IsReached, IsStuck, WasCutIn};
 ghost use Rattle.job_text.specs.Faithful.{HasStop};
 ghost use Rattle.job_text.specs.PlainReport.{report_of};
+ghost use Rattle.mont_check.specs.Cuts.{AllCutsLast};
 ghost use Rattle.mont_check.specs.LineAnswers.{TellsAnswer, TellsCall, TellsCountEnd, TellsFull, TellsMayBeFull, first_clock};
 
 use crate::cause::Cause;
+use crate::cuts::was_cut_in;
 use crate::moments::{Finding, moment};
 use crate::progress::Progress;
 use crate::shown::entry_at;
@@ -24,6 +26,7 @@ pub fn answers(
     outcome: &Outcome,
     ahead: Option<u64>,
 ) -> Finding
+    requires { AllCutsLast (report_of report.now) }
     ensures { TellsAnswer job.now (report_of report.now) line.now progress.now outcome.now ahead
         result }
 {
@@ -45,6 +48,7 @@ fn answers_call(
     outcome: &Outcome,
     ahead: Option<u64>,
 ) -> Finding
+    requires { AllCutsLast (report_of report.now) }
     ensures { TellsCall job.now (report_of report.now) caller progress.now op.now outcome.now ahead
         result }
 {
@@ -70,6 +74,7 @@ fn answers_call(
 
 // Whether a tick may have ended so: it moved the clock on from the base clock, unless it waited.
 fn answers_tick(job: &Job, report: &Report, caller: u64, outcome: &Outcome) -> bool
+    requires { AllCutsLast (report_of report.now) }
     ensures { IsTrue result
         ↔ AnswersTick (report_of report.now) (HasStop job.now caller) outcome.now }
 {
@@ -81,6 +86,7 @@ fn answers_tick(job: &Job, report: &Report, caller: u64, outcome: &Outcome) -> b
 
 // Whether a sync may have ended so.
 fn answers_sync(job: &Job, report: &Report, caller: u64, outcome: &Outcome) -> bool
+    requires { AllCutsLast (report_of report.now) }
     ensures { IsTrue result
         ↔ AnswersSync (report_of report.now) (HasStop job.now caller) outcome.now }
 {
@@ -172,6 +178,7 @@ fn first_clock(known: Option<Epoch>, base: Epoch) -> Epoch
 
 // Whether the operation's unit is that one, and the other caller was cut in it.
 fn is_halted(report: &Report, op: &Op, unit: Unit, by: u64) -> bool
+    requires { AllCutsLast (report_of report.now) }
     ensures { IsTrue result ↔ IsHalted (report_of report.now) op.now unit by }
 {
     op.unit(report.layout) == Some(unit) && was_cut_in(report, by, unit)
@@ -187,6 +194,7 @@ fn may_be_cut_in(job: &Job, report: &Report, caller: u64, op: &Op, unit: Unit) -
 
 // Whether a tick or a sync may have ended so, without its clock.
 fn ends_wait(job: &Job, report: &Report, caller: u64, outcome: &Outcome) -> bool
+    requires { AllCutsLast (report_of report.now) }
     ensures { IsTrue result
         ↔ EndsWait (report_of report.now) (HasStop job.now caller) outcome.now }
 {
@@ -200,12 +208,14 @@ fn ends_wait(job: &Job, report: &Report, caller: u64, outcome: &Outcome) -> bool
 
 // Whether some caller was cut in the unit, and the clock passed the epoch.
 fn is_stuck(report: &Report, unit: Unit, epoch: Epoch) -> bool
+    requires { AllCutsLast (report_of report.now) }
     ensures { IsTrue result ↔ IsStuck (report_of report.now) unit epoch }
 {
     epoch < report.image_clock && is_cut_by_any(report, unit)
 }
 
 fn is_cut_by_any(report: &Report, unit: Unit) -> bool
+    requires { AllCutsLast (report_of report.now) }
     ensures { IsTrue result ↔ ((by : ℕ) × WasCutIn (report_of report.now) by unit) }
 {
     for by in 0..report.outcomes.len() {
@@ -214,16 +224,6 @@ fn is_cut_by_any(report: &Report, unit: Unit) -> bool
         }
     }
     false
-}
-
-// Whether the caller was cut in the unit.
-fn was_cut_in(report: &Report, caller: u64, unit: Unit) -> bool
-    ensures { IsTrue result ↔ WasCutIn (report_of report.now) caller unit }
-{
-    match report.outcomes.get(caller) {
-        Some(outcomes) => outcomes.as_slice().contains(&Outcome::CutIn { unit }),
-        None => false,
-    }
 }
 
 // Whether the job stops the caller.

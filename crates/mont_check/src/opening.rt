@@ -1,10 +1,8 @@
 // What the records with which a unit was opened tell of the numbers that its next changes get.
-ghost use Rattle.std.specs.Prelude.{◌≡◌, ◌↔◌, ◌+◌, ◌≤◌, true, Any, IsTrue, IfOk};
-ghost use Rattle.mont_base.specs.declared.constants.TheConstants.{LAST};
-ghost use Rattle.job_text.specs.Causes.{LacksVersion, is_insertion};
+ghost use Rattle.std.specs.Prelude.{IfOk};
 ghost use Rattle.mont_check.specs.Opening.{IsOpening};
 
-use crate::last_numbers::{any_lacks_version, greatest_identity, greatest_serial, reaches_last};
+use crate::last_numbers::{greatest_identity, greatest_serial};
 use mont_base::{Held, Object};
 use plain::live_objects;
 use std::alloc::{AllocError, Global};

@@ -1,5 +1,5 @@
 // What an outcome of a report shows.
-ghost use Rattle.std.specs.Prelude.{◌≡◌, ℕ, MatchOption};
+ghost use Rattle.std.specs.Prelude.{◌≡◌, MatchOption};
 ghost use Rattle.mont_base.specs.declared.operation.Entry.{Entry};
 ghost use Rattle.mont_base.specs.Seen.{IsEntryAt};
 ghost use Rattle.job_text.specs.Outcomes.{clock_of, is_at, is_cut, place_of, settled_of, tick_of};

@@ -10,4 +10,8 @@ mod Gates
 mod Reclaims
 mod Sweeps
 mod Opens
+mod Found
+mod VersionSorts
+mod Findings
+mod Recoverings
 mod Seen

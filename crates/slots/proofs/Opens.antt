@@ -35,7 +35,7 @@ module _ (s : Shape) (u : ℕ) (layout : IsLayout s) (inside : u < units_of s) w
   some_slots = let e = layout.some_slots in omega arith
 
   -- a slot of the unit is free once, and no other is
-  free_once : (x : ℕ) → times x (slots_of s u) ≡ (if unit_of_slot s x == u then 1 else 0)
+  pub free_once : (x : ℕ) → times x (slots_of s u) ≡ (if unit_of_slot s x == u then 1 else 0)
   free_once x = by (unit_of_slot s x == u) refl
     where
       by : (t : Bool) → (unit_of_slot s x == u) ≡ t → times x (slots_of s u) ≡ (if t then 1 else 0)

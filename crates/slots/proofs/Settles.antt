@@ -44,7 +44,7 @@ last_of_push (d ∷ []) e = refl
 last_of_push (d ∷ c ∷ h) e = last_of_push (c ∷ h) e
 
 -- ---- each written record in the row of its slot
-placed_rows : (s : Shape) (u : ℕ) (recs ws qs : List Held) → 1 ≤ s.slots → ((w : Held) → Contains ws w → unit_of_slot s w.slot ≡ u)
+pub placed_rows : (s : Shape) (u : ℕ) (recs ws qs : List Held) → 1 ≤ s.slots → ((w : Held) → Contains ws w → unit_of_slot s w.slot ≡ u)
     → ((x : ℕ) → times x (slots_in qs) + times x (slots_in ws) ≤ 1)
     → placed (first_slot s u) (rows_of s u qs) (map (as_written recs) ws) ≡ rows_of s u (qs ++ ws)
 placed_rows s u recs [] qs some own once = ap (rows_of s u) (sym (append-nil qs))

@@ -6,3 +6,4 @@ pub mod Reclaiming
 pub mod Sweeping
 pub mod Lending
 pub mod Beginning
+pub mod Finding

@@ -49,10 +49,11 @@ pub record HasClosed (old new : RegionShown) (clock : ℕ) (closed : List Retire
 
 -- the first of them
 abbrev pub first_closed : RegionShown → ℕ → RegionShown
-first_closed r slot = let h : UnitHeld = unit_persisted (unit_closed r.seat.held slot) slot in record {
-  seat = record r.seat { held = h };
-  books = record (books_showing r.books h.part) { free = r.books.free ++ slot ∷ [] };
-}
+first_closed r slot =
+    let h : UnitHeld = unit_persisted (unit_closed r.seat.held slot) slot in record {
+      seat = record r.seat { held = h };
+      books = record (books_showing r.books h.part) { free = r.books.free ++ slot ∷ [] };
+    }
 
 abbrev pub first_due : ℕ → List Retired → Option ℕ
 first_due clock [] = None

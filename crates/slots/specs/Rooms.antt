@@ -50,6 +50,14 @@ settled b = record b {
   written = [];
 }
 
+-- a slot has a place among so many from the first on, and so has a record's
+pub record IsPlaced (first places slot : ℕ) : Type 0 where
+  pub low : first ≤ slot
+  pub high : slot - first < places
+
+abbrev pub HoldsIn : ℕ → ℕ → Held → Type 0
+HoldsIn first places r = IsPlaced first places r.slot
+
 -- a written record has a row
 pub record IsInRows (first rows : ℕ) (w : Written) : Type 0 where
   pub low : first ≤ w.held.slot

@@ -7,6 +7,7 @@
 mod beginning;
 mod books;
 mod changes;
+mod finding;
 mod putting;
 mod reclaiming;
 mod region;

@@ -1,4 +1,4 @@
-use Rattle.std.proofs.Common.{◌≡◌, ℕ, ◌+◌, ◌-◌, Option, length, drop, get_or, refl, sym, ap, ◌∙◌, subst, arith, rules}
+use Rattle.std.proofs.Common.{◌≡◌, ℕ, ◌-◌, Option, length, get_or, refl, sym, ap, ◌∙◌, subst, arith, rules}
 use Rattle.std.proofs.lemmas.List.{drop_all, get_or_default, length-set}
 use Rattle.std.proofs.lemmas.Option.{slice_get_within}
 use Rattle.job_text.specs.declared.outcome.Outcome.TheVariants.{At}

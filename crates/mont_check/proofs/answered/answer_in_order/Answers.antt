@@ -1,7 +1,6 @@
-use Rattle.std.proofs.Common.{◌≡◌, ℕ, ◌+◌, List, [], length, refl, sym, ◌∙◌, subst, arith}
-use Rattle.std.specs.Prelude.{◌↔◌, AllPairs, None}
+use Rattle.std.proofs.Common.{ℕ, [], refl, sym, ◌∙◌, subst, arith}
+use Rattle.std.specs.Prelude.{AllPairs, None}
 use Rattle.std.proofs.lemmas.List.{take_all}
-use Rattle.mont_base.specs.declared.record.Held.{Held}
 use Rattle.job_text.specs.declared.outcome.Outcome.TheVariants.{At}
 use Rattle.job_text.specs.Outcomes.{InOrder}
 use Rattle.job_text.specs.PlainReport.{report_of}

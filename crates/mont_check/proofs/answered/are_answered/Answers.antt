@@ -1,13 +1,17 @@
-use Rattle.std.proofs.Common.{ℕ, ◌<◌, List, refl, sym, subst, arith}
+use Rattle.std.proofs.Common.{List, subst, arith}
 use Rattle.std.specs.Prelude.{◌↔◌, IsTrue}
 use Rattle.std.proofs.lemmas.Option.{slice_get_within}
-use Rattle.mont_base.specs.declared.record.Held.{Held}
-use Rattle.job_text.specs.Faithful.{AnsweredAt}
 use Rattle.job_text.specs.PlainReport.{report_of}
 use Rattle.mont_check.specs.declared.moments.Question.{Question}
 use Rattle.mont_check.specs.Answered.{AllMet}
 use Rattle.mont_check.proofs.AnswerLaws.{ask_caller, never_caller}
 use Rattle.mont_check.proofs.answered.are_answered.Goals as goal
+
+pub returns-then-not-all_cuts_last : goal.returns-then-not-all_cuts_last
+returns-then-not-all_cuts_last c = (
+  λ yes. absurd cc,
+  λ each. c.if-not-all_cuts_last.ensures.1 (λ caller os known i j d before low. ((each caller os known).order i j d before low).uncut),
+)
 
 pub returns-then-not-branch : goal.returns-then-not-branch
 returns-then-not-branch c =

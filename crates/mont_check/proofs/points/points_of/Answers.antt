@@ -1,4 +1,4 @@
-use Rattle.std.proofs.Common.{◌≡◌, ℕ, ◌+◌, ◌∷◌, [], ◌++◌, List, length, take, get_or, subst, sym, ap, ◌∙◌, arith, length-take}
+use Rattle.std.proofs.Common.{◌≡◌, ◌+◌, List, length, take, get_or, subst, sym, ap, ◌∙◌, arith, length-take}
 use Rattle.std.proofs.lemmas.List.{get_or_push}
 use Rattle.plain.specs.States.{state_of}
 use Rattle.mont_check.specs.declared.points.Point.{Point}

@@ -1,4 +1,4 @@
-use Rattle.std.proofs.Common.{◌≡◌, take, length, get_or, ◌+◌}
+use Rattle.std.proofs.Common.{◌≡◌, take, get_or}
 use Rattle.plain.specs.States.{state_of}
 use Rattle.mont_check.specs.Points.{ArePoints}
 use Rattle.mont_check.specs.Walk.{facts_after, facts_of}

@@ -1,4 +1,4 @@
-use Rattle.std.proofs.Common.{◌≡◌, ℕ, zero, ◌<◌, ◌==◌, Bool, true, false, List, length, refl, sym, ap, ◌∙◌, subst, arith}
+use Rattle.std.proofs.Common.{◌≡◌, ℕ, ◌<◌, ◌==◌, Bool, true, false, List, length, sym, ap, ◌∙◌, subst, arith}
 use Rattle.std.specs.Prelude.{◌↔◌, All, IsTrue, slice_get, Some}
 use Rattle.std.specs.Option.{option_map}
 use Rattle.std.proofs.lemmas.Bool.Decides.{nat_tests}
@@ -6,7 +6,6 @@ use Rattle.std.proofs.lemmas.Option.{slice_get-map}
 use Rattle.plain.specs.States.{state_of}
 use Rattle.mont_base.specs.declared.operation.Entry.{Entry}
 use Rattle.mont_base.specs.declared.record.Held.{Held}
-use Rattle.mont_base.specs.State.{State}
 use Rattle.job_text.specs.AnsweredLines.{records_in}
 use Rattle.job_text.specs.PlainReport.{report_of}
 use Rattle.mont_check.specs.declared.moments.Question.{Question}

@@ -1,5 +1,4 @@
-use Rattle.std.proofs.Common.{◌+◌, Bool, take, refl, sym, subst}
-use Rattle.std.specs.Prelude.{IsTrue}
+use Rattle.std.proofs.Common.{◌+◌, take, sym, subst}
 use Rattle.mont_check.specs.Questions.{AreTried}
 use Rattle.mont_check.specs.Walk.{facts_of}
 use Rattle.mont_check.proofs.QuestionLaws.{tried_fits, tried_left}

@@ -1,4 +1,4 @@
-use Rattle.std.proofs.Common.{◌≡◌, ℕ, ◌+◌, ◌≤◌, ◌==◌, Bool, true, false, List, ◌++◌, length, take, drop, ap, ◌∙◌, subst, sym, arith}
+use Rattle.std.proofs.Common.{◌≡◌, ℕ, ◌+◌, ◌≤◌, ◌==◌, Bool, true, false, List, ◌++◌, length, ap, ◌∙◌, subst, sym, arith}
 use Rattle.std.specs.Prelude.{◌↔◌, Any, IsTrue}
 use Rattle.std.proofs.lemmas.Bool.Decides.{nat_tests}
 use Rattle.std.proofs.lemmas.List.Sorted.{IsNonDecreasingBy-drop}
@@ -6,7 +6,7 @@ use Rattle.std.specs.List.Sorted.{IsNonDecreasingBy}
 use Rattle.plain.specs.States.{state_of}
 use Rattle.mont_check.specs.declared.asked.Asked.{Asked}
 use Rattle.mont_check.specs.Questions.{AreTried, EndsBy, FitsNow}
-use Rattle.mont_check.specs.Walk.{facts_after, facts_of}
+use Rattle.mont_check.specs.Walk.{facts_of}
 use Rattle.mont_check.proofs.QuestionLaws.{Asks, asks_ended, asks_last, asks_more}
 use Rattle.mont_check.proofs.WalkLaws.{facts_more}
 use Rattle.mont_check.proofs.questions.walk_along.Goals as goal

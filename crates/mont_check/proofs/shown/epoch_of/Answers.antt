@@ -1,6 +1,5 @@
-use Rattle.std.proofs.Common.{◌≡◌, ℕ, List, Option, Some, None, refl, sym, ap, ◌∙◌}
+use Rattle.std.proofs.Common.{sym, ap, ◌∙◌}
 use Rattle.mont_check.proofs.ShownLaws.{no_entry}
-use Rattle.job_text.specs.declared.outcome.Outcome.{Outcome}
 use Rattle.mont_check.specs.Shown.{epoch_in}
 use Rattle.mont_check.proofs.shown.epoch_of.Goals as goal
 
