@@ -1,0 +1,156 @@
+-- How a bench begins.
+use Rattle.std.proofs.Common.{◌≡◌, ◌∙◌, ap, sym, subst, refl, ℕ, zero, suc, ◌-◌, ◌<◌, List, [], ◌∷◌, ◌++◌, length, length-append, replicate, arith, ◌≤◌, ◌+◌, rules}
+use Rattle.std.proofs.lemmas.Option.{same_Some}
+use Rattle.std.specs.Prelude.{slice_get, IsTrue, Some}
+use Rattle.mont_base.specs.declared.constants.TheConstants.{FIRST_CLOCK}
+use Rattle.mont_base.specs.declared.gate.Fuel.{Fuel}
+use Rattle.mont_base.specs.Layout.{Shape, IsLayout, units_of}
+use Rattle.mont_base.specs.Image.{empty_states}
+use Rattle.core_steps.specs.declared.parts.Core.{Core}
+use Rattle.core_steps.specs.declared.parts.UnitPart.{UnitPart}
+use Rattle.core_steps.specs.Fresh.{fresh, fresh_unit, fresh_caller}
+use Rattle.core_steps.specs.Announcing.{can_look}
+use Rattle.core_steps.proofs.RowFacts.{row_last}
+use Rattle.core_steps.proofs.StartLaws.{fresh_cores_are_sound}
+use Rattle.heap_rule.specs.declared.rule.Opening.{Opening}
+use Rattle.heap_rule.specs.Views.{first_unit, first_advancer, first_caller, are_clean, clean_at}
+use Rattle.heap.specs.HeapShown.{HeapShown, UnitShown, AdvShown, CallerShown}
+use Rattle.heap.specs.FreshOpening.{fresh_opening, OpensEmpty}
+use Rattle.heap.specs.Opens.{Opens, dealt_units}
+use Rattle.heap_worked.specs.declared.bench.Bench.{Bench}
+use Rattle.heap_worked.specs.Advances.{IsAtRest}
+use Rattle.heap_worked.specs.Mirrors.{AreHome, Mirrors}
+
+-- ---- the seats that were dealt
+-- the last of a list
+last_at : {A : Type 0} (rest xs : List A) (a x : A) (n : ℕ) → xs ≡ rest ++ a ∷ [] → length xs ≡ n + 1 → slice_get xs n ≡ Some x → a ≡ x
+last_at rest xs a x n are count at =
+    let more = length-append rest (a ∷ []) in
+    let long = ap length are in
+    let place : length rest ≡ n = omega (arith, more, long, count) in
+    same_Some a x (sym (row_last rest a) ∙ (ap (λ l. slice_get l (length rest)) (sym are) ∙ (ap (slice_get xs) place ∙ at)))
+
+-- the last two of a list of two
+last_two :
+    {A : Type 0} (rest mid xs : List A) (a b x y : A) → mid ≡ rest ++ a ∷ [] → xs ≡ mid ++ b ∷ [] → xs ≡ x ∷ y ∷ []
+    → (a ≡ x) × (b ≡ y)
+last_two [] mid xs a b x y of_mid of_xs are =
+    let both : a ∷ b ∷ [] ≡ x ∷ y ∷ [] = sym (of_xs ∙ ap (λ l. l ++ b ∷ []) of_mid) ∙ are in
+    (same_Some a x (ap (λ l. slice_get l 0) both), same_Some b y (ap (λ l. slice_get l 1) both))
+last_two (r ∷ rest) mid xs a b x y of_mid of_xs are =
+    let one_more = length-append (r ∷ rest) (a ∷ []) in
+    let two_more = length-append mid (b ∷ []) in
+    let long_mid = ap length of_mid in
+    let long_xs = ap length of_xs in
+    let two = ap length are in
+    absurd (omega (arith, one_more, two_more, long_mid, long_xs, two))
+
+module _ (s : Shape) (heap : HeapShown) (one : units_of s ≡ 1) where
+  one_unit :
+      (rest units : List UnitShown) (unit : UnitShown) → units ≡ rest ++ unit ∷ []
+      → units ≡ dealt_units heap.table (fresh_opening s 2) (units_of s)
+      → unit ≡ record { table = heap.table; held = first_unit (fresh_opening s 2) 0 }
+  one_unit rest units unit is are =
+      let dealt = are ∙ ap (dealt_units heap.table (fresh_opening s 2)) one in
+      last_at rest units unit (record { table = heap.table; held = first_unit (fresh_opening s 2) 0 }) 0 is (ap length dealt)
+      (ap (λ (l : List UnitShown). slice_get l 0) dealt)
+
+-- ---- the beginning
+module _ (s : Shape) (heap : HeapShown) (one : units_of s ≡ 1) (empty : OpensEmpty s 2) (opening : heap.opening ≡ fresh_opening s 2) where
+  all_clean : IsTrue (are_clean 1 (clean_at (fresh_opening s 2)))
+  all_clean = subst (λ n. IsTrue (are_clean n (clean_at (fresh_opening s 2)))) one empty.clean
+
+  abbrev no_list : List ℕ
+  no_list = []
+
+  at_rest : IsAtRest FIRST_CLOCK (first_advancer (fresh_opening s 2))
+  at_rest = record {
+    part = refl;
+    clock_is = refl;
+    one = one;
+    lists = ap (λ n. length (replicate n no_list)) one;
+    turn = refl;
+    clean = all_clean;
+  }
+
+  pub begun :
+      (unit : UnitShown) (advancer : AdvShown) (caller other : CallerShown) (gate : Fuel) (core : Core)
+      → IsLayout s → unit ≡ record { table = heap.table; held = first_unit (fresh_opening s 2) 0 }
+      → advancer ≡ record { table = heap.table; held = first_advancer (fresh_opening s 2) }
+      → caller ≡ record { table = heap.table; held = first_caller (fresh_opening s 2) 0 }
+      → other ≡ record { table = heap.table; held = first_caller (fresh_opening s 2) 1 } → core ≡ fresh s 2
+      → Mirrors (record {
+        heap = heap;
+        unit = unit;
+        advancer = advancer;
+        caller = caller;
+        other = other;
+        clock = FIRST_CLOCK;
+        gate = gate;
+        core = core;
+      })
+  begun unit advancer caller other gate core layout u a q r c =
+      subst
+      (λ (x : UnitShown × (AdvShown × (CallerShown × (CallerShown × Core)))). Mirrors (record {
+        heap = heap;
+        unit = x.0;
+        advancer = x.1.0;
+        caller = x.1.1.0;
+        other = x.1.1.1.0;
+        clock = FIRST_CLOCK;
+        gate = gate;
+        core = x.1.1.1.1;
+      })) (λ i. (sym u i, (sym a i, (sym q i, (sym r i, sym c i))))) (record {
+        home = record {
+          one = ap (λ (o : Opening). units_of o.layout) opening ∙ one;
+          two = ap (λ (o : Opening). o.callers) opening;
+          of_unit = refl;
+          of_advancer = refl;
+          of_caller = refl;
+          of_other = refl;
+          unit = refl;
+          caller = refl;
+          other = refl;
+          home = refl;
+        };
+        turn = refl;
+        clean = subst (λ (o : Opening). IsTrue (are_clean (units_of o.layout) (clean_at (fresh_opening s 2)))) (sym opening) empty.clean;
+        rests = at_rest;
+        layout = sym (ap (λ (o : Opening). o.layout) opening);
+        units = ap (λ n. replicate n fresh_unit) one
+            ∙ ap (λ (p : UnitPart). p ∷ []) (sym (empty.each_unit 0 (subst (λ n. 0 < n) (sym one) (omega arith))));
+        others = fresh_caller (units_of s) ∷ [];
+        callers = refl;
+        base = record { clock = FIRST_CLOCK; states = empty_states s };
+        sound = fresh_cores_are_sound s 2 layout;
+      })
+
+-- what the calls of the beginning give
+module _
+    (s : Shape) (heap : HeapShown) (units rest : List UnitShown) (unit : UnitShown) (advancer : AdvShown)
+    (callers mid front : List CallerShown) (caller other : CallerShown) (one : units_of s ≡ 1)
+    (opens : Opens (fresh_opening s 2) heap units advancer callers) (empty : OpensEmpty s 2)
+    (of_units : units ≡ rest ++ unit ∷ []) where
+  the_unit : unit ≡ record { table = heap.table; held = first_unit (fresh_opening s 2) 0 }
+  the_unit = one_unit s heap one rest units unit of_units opens.each_unit
+
+  pub opened :
+      (gate : Fuel) (core : Core) → IsLayout s → callers ≡ mid ++ other ∷ [] → mid ≡ front ++ caller ∷ [] → core ≡ fresh s 2
+      → Mirrors (record {
+        heap = heap;
+        unit = unit;
+        advancer = advancer;
+        caller = caller;
+        other = other;
+        clock = FIRST_CLOCK;
+        gate = gate;
+        core = core;
+      })
+  opened gate core layout of_callers of_mid are =
+      let both = last_two front mid callers caller other (record { table = heap.table; held = first_caller (fresh_opening s 2) 0 })
+      (record { table = heap.table; held = first_caller (fresh_opening s 2) 1 }) of_mid of_callers opens.each_caller in
+      begun s heap one empty opens.opening unit advancer caller other gate core layout the_unit opens.the_advancer both.0 both.1 are
+
+  pub opened_looks : IsTrue (can_look unit.held.part)
+  opened_looks = subst (λ (p : UnitPart). IsTrue (can_look p)) (sym (ap (λ (u : UnitShown). u.held.part) the_unit
+      ∙ empty.each_unit 0 (subst (λ n. 0 < n) (sym one) (omega arith)))) (search rules)

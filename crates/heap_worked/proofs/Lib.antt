@@ -1,0 +1,4 @@
+pub mod BenchEnds
+pub mod BenchSteps
+pub mod Flushes
+pub mod KeptParts

@@ -1,0 +1,7 @@
+use Rattle.std.proofs.Common.{◌≡◌}
+use Rattle.heap_worked.specs.Mirrors.{IsSameUnit}
+use Rattle.heap_worked.proofs.side_by_side.look_often.Given as goal
+
+abbrev pub invariant-loop-load : goal.invariant-loop-load
+invariant-loop-load l =
+    IsSameUnit l.initial.unit l.unit × (l.unit.held.part ≡ l.initial.unit.held.part)
