@@ -1,0 +1,4 @@
+pub mod Items
+pub mod Placing
+pub mod CutStates
+pub mod StoppedStores
