@@ -88,8 +88,8 @@ pub record HoldsHistories
 
 -- ---- the whole store
 -- what the tickets of the callers show
-abbrev pub parts_of : List CallerShown → List CallerPart
-parts_of callers = map (λ (s : CallerShown). s.held.part) callers
+abbrev pub parts_shown : List CallerShown → List CallerPart
+parts_shown callers = map (λ (s : CallerShown). s.held.part) callers
 
 -- The store was opened with this layout, clock and contents, and its callers' tickets showed this
 -- when it was stopped.
@@ -102,11 +102,11 @@ pub record IsStopped
   pub legal : AreLegal s clock (states_of base) t.histories
   -- each answered call is one entry of the histories, each caller's in the order that it had seen
   pub order : IsCallersOrder t.histories
-      (map receipts_of (parts_of callers)) (map view_of (parts_of callers))
+      (map receipts_of (parts_shown callers)) (map view_of (parts_shown callers))
   pub seen : All (λ (q : CallerShown). HasSeen t.histories q.held) callers
-  pub clocks : AreClocks clock (parts_of callers) (clock_of t.words.cur) (clock_of t.words.dur)
-  pub marks : All (λ (q : CallerPart). All (IsCutAsMarked (parts_of callers)) q.marks)
-      (parts_of callers)
+  pub clocks : AreClocks clock (parts_shown callers) (clock_of t.words.cur) (clock_of t.words.dur)
+  pub marks : All (λ (q : CallerPart). All (IsCutAsMarked (parts_shown callers)) q.marks)
+      (parts_shown callers)
   pub images :
       (image : List ℕ) → IsPermitted t.words.cur t.words.dur image
-      → HoldsHistories s (states_of base) t.histories (parts_of callers) t.words image
+      → HoldsHistories s (states_of base) t.histories (parts_shown callers) t.words image

@@ -3,7 +3,7 @@ ghost use Rattle.std.specs.Prelude.{◌≡◌, map, IfOk};
 ghost use Rattle.core_steps.specs.CallerClauses.{receipts_of};
 ghost use Rattle.heap.specs.Stops.{AreAllSeats, AreAtHome};
 ghost use Rattle.plain.specs.States.{states_of};
-ghost use Rattle.store_stop.specs.Headline.{IsBaseOf, IsStopped, parts_of};
+ghost use Rattle.store_stop.specs.Headline.{IsBaseOf, IsStopped, parts_shown};
 
 use crate::told_histories::told_histories;
 use heap::{AdvSeat, Heap, Seats, Ticket, UnitSeat};
@@ -65,7 +65,7 @@ fn taken_apart<G: Gate + Drop>(
 ) -> Result<(Vec<Ticket>, Vec<Sequence<Receipt>>), AllocError>
     ensures tickets { IfOk result (λ r. r.0.items ≡ map (λ p. p.ticket) passes.items) }
     ensures receipts { IfOk result (λ r. r.1.items
-        ≡ map receipts_of (parts_of r.0.items)) }
+        ≡ map receipts_of (parts_shown r.0.items)) }
 {
     let mut tickets = Vec::with_capacity(alloc, passes.len())?;
     let mut receipts = Vec::with_capacity(alloc, passes.len())?;
