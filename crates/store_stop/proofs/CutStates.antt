@@ -21,14 +21,14 @@ count_of_cuts x (b ∷ base) [] e = absurd (omega arith)
 count_of_cuts x (b ∷ base) (h ∷ histories) e = ap suc (count_of_cuts x base histories (omega arith))
 
 -- a unit's state is that to which the cut of its history leads
-record IsCutState (x : ℕ) (base : List State) (histories : List (List Entry)) (unit : ℕ) (state : State) : Type 0 where
+pub record IsCutState (x : ℕ) (base : List State) (histories : List (List Entry)) (unit : ℕ) (state : State) : Type 0 where
   pub opened : State
   pub history : List Entry
   pub based : slice_get base unit ≡ Some opened
   pub told : slice_get histories unit ≡ Some history
   pub leads : state_after opened (cut_at x history) ≡ state
 
-cut_state_at : (x : ℕ) (base : List State) (histories : List (List Entry)) (unit : ℕ) (state : State)
+pub cut_state_at : (x : ℕ) (base : List State) (histories : List (List Entry)) (unit : ℕ) (state : State)
     → slice_get (cut_states x base histories) unit ≡ Some state → IsCutState x base histories unit state
 cut_state_at x [] histories unit state e = absurd (cc)
 cut_state_at x (b ∷ base) [] unit state e = absurd (cc)

@@ -2,3 +2,4 @@ pub mod Items
 pub mod Placing
 pub mod CutStates
 pub mod StoppedStores
+pub mod Outliving

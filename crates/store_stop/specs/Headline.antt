@@ -1,10 +1,11 @@
 -- What a store leaves when it is stopped: its words, and for each unit one history, of which every
 -- image that a crash then permits holds the same cut.
-use Rattle.std.specs.Prelude.{◌≡◌, ◌↔◌, ℕ, ◌≤◌, List, [], ◌∷◌, length, map, take, slice_get, Some, All}
+use Rattle.std.specs.Prelude.{◌≡◌, ◌↔◌, ℕ, ◌<◌, ◌≤◌, List, [], ◌∷◌, length, map, take, slice_get, Some, All}
 use Rattle.std.specs.List.{Contains}
 use Rattle.mont_base.specs.declared.constants.TheConstants.{LAST}
 use Rattle.mont_base.specs.declared.memory.Words.{Words}
 use Rattle.mont_base.specs.declared.operation.Entry.{Entry}
+use Rattle.mont_base.specs.declared.operation.Receipt.{Receipt}
 use Rattle.mont_base.specs.History.{IsLegal, state_after, cut_at}
 use Rattle.mont_base.specs.Image.{IsPermitted, IsRecovered, IsWellFormed, clock_of, cut_of}
 use Rattle.mont_base.specs.Layout.{Shape, units_of}
@@ -15,7 +16,7 @@ use Rattle.plain.specs.States.{states_of}
 use Rattle.core_steps.specs.declared.parts.CallerPart.{CallerPart}
 use Rattle.core_steps.specs.declared.parts.Mark.{Mark}
 use Rattle.core_steps.specs.CallerClauses.{receipts_of, view_of}
-use Rattle.core_steps.specs.Notes.{NamesCaller}
+use Rattle.core_steps.specs.Notes.{NamesCaller, BeginsWith}
 use Rattle.core_steps.specs.Places.{RowHas}
 use Rattle.heap_rule.specs.declared.rule.Opening.{Opening}
 use Rattle.heap_rule.specs.declared.views.CallerHeld.{CallerHeld}
@@ -110,3 +111,45 @@ pub record IsStopped
   pub images :
       (image : List ℕ) → IsPermitted t.words.cur t.words.dur image
       → HoldsHistories s (states_of base) t.histories (parts_shown callers) t.words image
+
+-- ---- the headline in one type
+-- an answered call that its caller knew to be durable: its entry stands before the synced front
+abbrev pub IsKnownDurable : CallerPart → Receipt → Type 0
+IsKnownDurable q r = RowHas (slice_get q.synced r.unit) (λ front. r.place < front)
+
+-- the entry of a receipt is among those of its unit up to an epoch
+abbrev pub IsInCut : List (List Entry) → ℕ → Receipt → Type 0
+IsInCut histories x r =
+    RowHas (slice_get histories r.unit) (λ (h : List Entry). Contains (cut_at x h) r.entry)
+
+-- A unit was rebuilt with the state to which the front of its legal history up to an epoch leads.
+pub record IsRebuilt
+    (s : Shape) (clock x unit : ℕ) (opened : State) (h : List Entry) (rebuilt : State)
+    : Type 0 where
+  pub legal : IsLegal s unit opened clock h
+  pub front : BeginsWith h (cut_at x h)
+  pub leads : rebuilt ≡ state_after opened (cut_at x h)
+
+-- So was each unit, all up to the same epoch, and each call that its caller knew to be durable is
+-- there.
+pub record OutlivesCrash
+    (s : Shape) (clock x : ℕ) (base : List State) (histories : List (List Entry))
+    (callers : List CallerPart) (states : List State) : Type 0 where
+  pub units : length states ≡ units_of s
+  pub rebuilt :
+      (unit : ℕ) (opened : State) (h : List Entry) (state : State)
+      → slice_get base unit ≡ Some opened → slice_get histories unit ≡ Some h
+      → slice_get states unit ≡ Some state → IsRebuilt s clock x unit opened h state
+  pub known :
+      (caller call : ℕ) (q : CallerPart) (r : Receipt) → slice_get callers caller ≡ Some q
+      → slice_get q.receipts call ≡ Some r → IsKnownDurable q r → IsInCut histories x r
+
+-- whatever recovery rebuilds from an image that a crash permits of a stopped store
+abbrev pub StoppedStoresOutliveCrashes : Type 0
+StoppedStoresOutliveCrashes =
+    (s : Shape) (clock : ℕ) (base : Contents) (callers : List CallerShown) (t : Stopped)
+    (image : List ℕ) (states : List State)
+    → IsStopped s clock base callers t → IsPermitted t.words.cur t.words.dur image
+    → IsRecovered s image states
+    → OutlivesCrash s clock (cut_of image) (states_of base) t.histories (parts_shown callers)
+    states

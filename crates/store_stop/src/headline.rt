@@ -3,7 +3,7 @@ ghost use Rattle.std.specs.Prelude.{◌≡◌, map, IfOk};
 ghost use Rattle.core_steps.specs.CallerClauses.{receipts_of};
 ghost use Rattle.heap.specs.Stops.{AreAllSeats, AreAtHome};
 ghost use Rattle.plain.specs.States.{states_of};
-ghost use Rattle.store_stop.specs.Headline.{IsBaseOf, IsStopped, parts_shown};
+ghost use Rattle.store_stop.specs.Headline.{IsBaseOf, IsStopped, StoppedStoresOutliveCrashes, parts_shown};
 
 use crate::told_histories::told_histories;
 use heap::{AdvSeat, Heap, Seats, Ticket, UnitSeat};
@@ -57,6 +57,12 @@ pub fn stop_store<G: Gate + Drop>(
         histories,
     })
 }
+
+/// Recovery rebuilds of each unit the state to which a front of its history leads, the same epochs of
+/// all units, with every answered call that its caller knew to be durable.
+pub fn stopped_stores_outlive_crashes()
+    ensures { StoppedStoresOutliveCrashes }
+{}
 
 // The tickets of passes, and the receipts of each.
 fn taken_apart<G: Gate + Drop>(

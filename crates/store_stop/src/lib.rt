@@ -6,4 +6,4 @@
 mod headline;
 mod told_histories;
 
-pub use headline::{Stopped, stop_store};
+pub use headline::{Stopped, stop_store, stopped_stores_outlive_crashes};
