@@ -50,15 +50,15 @@ module _ (s : Shape) (image : List ℕ) (base : List State) (histories : List (L
   are_recovered = (
     count_of_cuts (cut_of image) base histories (based ∙ sym units) ∙ based,
     λ unit state e.
-      let c = cut_state_at (cut_of image) base histories unit state e in
-      subst (IsStructure s unit (live_objects (records_of s image unit))) c.leads (each unit c.opened c.history c.based c.told),
+        let c = cut_state_at (cut_of image) base histories unit state e in
+        subst (IsStructure s unit (live_objects (records_of s image unit))) c.leads (each unit c.opened c.history c.based c.told),
   )
 
   -- recovery rebuilds these states, and no others
   pub rebuilds : (states : List State) → IsRecovered s image states ↔ (states ≡ rebuilt_states)
   rebuilds states = (
     λ is. same_items states rebuilt_states (is.0 ∙ sym are_recovered.0)
-      (λ unit a b e f.
-      same_structure s unit (live_objects (records_of s image unit)) a b (is.1 unit a e) (are_recovered.1 unit b f)),
+        (λ unit a b e f.
+        same_structure s unit (live_objects (records_of s image unit)) a b (is.1 unit a e) (are_recovered.1 unit b f)),
     λ e. subst (IsRecovered s image) (sym e) are_recovered,
   )

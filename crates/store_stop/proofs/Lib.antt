@@ -3,3 +3,4 @@ pub mod Placing
 pub mod CutStates
 pub mod StoppedStores
 pub mod Outliving
+pub mod ReadStores

@@ -44,9 +44,11 @@ module _ (x : ℕ) where
           let above : x < e.epoch = grind (arith, nat_tests) in
           let late : All (λ (d : Entry). x < d.epoch) es =
           All-weaker (λ (d : Entry). e.epoch ≤ d.epoch) (λ (d : Entry). x < d.epoch) (λ d low. omega arith) es
-          (pairs_head (λ (d f : Entry). d.epoch ≤ f.epoch) e es rising) in
-          (e ∷ es, ap (λ (ds : List Entry). ds ++ e ∷ es)
-            (sym (nothing_late (e ∷ es) (All-cons (λ (d : Entry). x < d.epoch) e es above late))))
+          (pairs_head (λ (d f : Entry). d.epoch ≤ f.epoch) e es rising) in (
+            e ∷ es,
+            ap (λ (ds : List Entry). ds ++ e ∷ es)
+                (sym (nothing_late (e ∷ es) (All-cons (λ (d : Entry). x < d.epoch) e es above late))),
+          )
 
 -- ---- an entry before a front is among those of a cut in which all before the front are
 contained : {A : Type 0} (xs : List A) (i : ℕ) (x : A) → slice_get xs i ≡ Some x → Contains xs x

@@ -70,10 +70,12 @@ module _ (unit : ℕ) where
       → All (All (HoldsEntryOf unit old)) done → Fills unit rs old new
       → (length new ≤ length h) × All (All (HoldsEntryOf unit new)) (done ++ rs ∷ [])
   fills_rows done rs h old new low there one stood fills =
-      let f = fills h low one in
-      (f.long, All-append (All (HoldsEntryOf unit new)) done (rs ∷ [])
-        (λ i d inside. λ j e within. f.still (get_or (get_or done i d) j e) (there i d inside j e within) (stood i d inside j e within))
-        (All-cons (All (HoldsEntryOf unit new)) rs [] f.stand (All-nil (All (HoldsEntryOf unit new)))))
+      let f = fills h low one in (
+        f.long,
+        All-append (All (HoldsEntryOf unit new)) done (rs ∷ [])
+            (λ i d inside. λ j e within. f.still (get_or (get_or done i d) j e) (there i d inside j e within) (stood i d inside j e within))
+            (All-cons (All (HoldsEntryOf unit new)) rs [] f.stand (All-nil (All (HoldsEntryOf unit new)))),
+      )
 
   -- a list that isn't longer than the history and in which all entries stand is the history
   pub told_is : (rows : List (List Receipt)) (h told : List Entry) → TellsHistory rows unit h → length told ≤ length h
@@ -86,10 +88,11 @@ module _ (unit : ℕ) where
           let a = all_gives (HoldsEntryOf unit told) w.of_caller w.call w.receipt
           (all_gives (All (HoldsEntryOf unit told)) rows w.caller w.of_caller stood w.there) w.kept w.of_unit in
           let b = all_gives (HoldsEntryOf unit h) w.of_caller w.call w.receipt
-          (all_gives (All (HoldsEntryOf unit h)) rows w.caller w.of_caller tells.stand w.there) w.kept w.of_unit in
-          (w.receipt.entry,
+          (all_gives (All (HoldsEntryOf unit h)) rows w.caller w.of_caller tells.stand w.there) w.kept w.of_unit in (
+            w.receipt.entry,
             subst (λ (n : ℕ). slice_get told n ≡ Some w.receipt.entry) w.at_place a,
-            subst (λ (n : ℕ). slice_get h n ≡ Some w.receipt.entry) w.at_place b)
+            subst (λ (n : ℕ). slice_get h n ≡ Some w.receipt.entry) w.at_place b,
+          )
 
       count : length told ≡ length h
       count = by (length h) refl

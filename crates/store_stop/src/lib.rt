@@ -4,6 +4,10 @@
 #![tactic(auto)]
 
 mod headline;
+#[cfg(test)]
+mod read_stores;
+#[cfg(test)]
+mod tests;
 mod told_histories;
 
 pub use headline::{Stopped, stop_store, stopped_stores_outlive_crashes};

@@ -15,15 +15,15 @@ loop-receipt-preserved c =
     let mid = c.loop-receipt.history.items in
     let more = take_next c.args.receipts.now c.loop-receipt.receipt-index r c.loop-receipt-test.true c.receipt-item.is in
     elim c.if-receipt-unit.branch [
-        then-receipt-unit+in_ok-place_entry w ↦
-            subst (λ (x : List Receipt × List Entry). Fills c.args.unit x.0 old x.1)
-            (λ i. (sym more i, ap (λ (v : _). v.items) (sym w.history-is) i))
-            (fills_one c.args.unit before r old mid w.place_entry.new.history.items c.loop-receipt.invariant w.if-receipt-unit.true
-            w.in_ok-place_entry.ensures)
-        | else-receipt-unit w ↦
-            subst (λ (x : List Receipt × List Entry). Fills c.args.unit x.0 old x.1)
-            (λ i. (sym more i, ap (λ (v : _). v.items) (sym w.history-is) i))
-            (fills_other c.args.unit before r old mid mid c.loop-receipt.invariant w.if-receipt-unit.false)
+      | then-receipt-unit+in_ok-place_entry w ↦
+          subst (λ (x : List Receipt × List Entry). Fills c.args.unit x.0 old x.1)
+          (λ i. (sym more i, ap (λ (v : _). v.items) (sym w.history-is) i))
+          (fills_one c.args.unit before r old mid w.place_entry.new.history.items c.loop-receipt.invariant w.if-receipt-unit.true
+          w.in_ok-place_entry.ensures)
+      | else-receipt-unit w ↦
+          subst (λ (x : List Receipt × List Entry). Fills c.args.unit x.0 old x.1)
+          (λ i. (sym more i, ap (λ (v : _). v.items) (sym w.history-is) i))
+          (fills_other c.args.unit before r old mid mid c.loop-receipt.invariant w.if-receipt-unit.false)
     ]
 
 pub returns : goal.returns
