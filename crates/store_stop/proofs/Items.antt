@@ -1,9 +1,9 @@
 -- Lists by the items at their places.
-use Rattle.std.proofs.Common.{◌≡◌, ℕ, zero, suc, ◌+◌, ◌<◌, List, [], ◌∷◌, ◌++◌, length, take, get_or, ap, sym, ◌∙◌, refl, subst, arith}
+use Rattle.std.proofs.Common.{◌≡◌, ℕ, suc, ◌+◌, ◌<◌, List, [], ◌∷◌, ◌++◌, length, take, get_or, ap, sym, ◌∙◌, refl, subst, arith}
 use Rattle.std.specs.Prelude.{slice_get, Some, All}
 use Rattle.std.proofs.Math.Seq.{take-suc}
 use Rattle.std.proofs.lemmas.List.Elements.{All-get_or, All-nil, All-cons, All-head, All-tail}
-use Rattle.std.proofs.lemmas.Option.{get_or_from_slice_get, slice_get_within}
+use Rattle.std.proofs.lemmas.Option.{get_or_from_slice_get, slice_get_read, slice_get_within}
 
 -- lists with the same item at each place
 pub same_items : {A : Type 0} (xs ys : List A) → length xs ≡ length ys
@@ -32,3 +32,7 @@ pub take_next : {A : Type 0} (xs : List A) (i : ℕ) (x : A) → i < length xs �
 take_next xs i x inside is =
     let e : i + 1 ≡ suc i = omega arith in
     ap (λ (n : ℕ). take n xs) e ∙ (take-suc xs i x inside ∙ ap (λ (y : _). take i xs ++ y ∷ []) (sym is))
+
+-- the item at a place
+pub item_read : {A : Type 0} (xs : List A) (i : ℕ) (x : A) → i < length xs → x ≡ get_or xs i x → slice_get xs i ≡ Some x
+item_read xs i x low is = slice_get_read xs (length xs) i x refl low is

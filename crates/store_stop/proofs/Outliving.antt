@@ -1,15 +1,15 @@
 -- What recovery rebuilds of a store that was stopped.
-use Rattle.std.proofs.Common.{◌≡◌, ℕ, zero, suc, ◌<◌, ◌≤◌, List, [], ◌∷◌, ◌++◌, length, take, Bool, true, false, ap, sym, ◌∙◌, subst, refl, arith}
+use Rattle.std.proofs.Common.{◌≡◌, ℕ, zero, suc, ◌<◌, ◌≤◌, List, [], ◌∷◌, ◌++◌, take, Bool, true, false, ap, sym, ◌∙◌, subst, refl, arith}
 use Rattle.std.specs.Prelude.{slice_get, nat_le, Some, All, AllPairs}
-use Rattle.std.specs.List.{Contains, filter}
+use Rattle.std.specs.List.{Contains}
 use Rattle.std.proofs.lemmas.Bool.Decides.{nat_tests}
-use Rattle.std.proofs.lemmas.List.Elements.{All-nil, All-cons, All-head, All-tail, All-weaker, Contains-get_or}
+use Rattle.std.proofs.lemmas.List.Elements.{All-cons, All-head, All-tail, All-weaker, Contains-get_or}
 use Rattle.std.proofs.lemmas.Option.{same_Some, slice_get_within, get_or_from_slice_get}
 use Rattle.mont_base.specs.declared.operation.Entry.{Entry}
 use Rattle.mont_base.specs.declared.operation.Receipt.{Receipt}
 use Rattle.mont_base.specs.History.{state_after, cut_at}
 use Rattle.mont_base.specs.Image.{IsPermitted, IsRecovered, cut_of}
-use Rattle.mont_base.specs.Layout.{Shape, units_of}
+use Rattle.mont_base.specs.Layout.{Shape}
 use Rattle.mont_base.specs.State.{State}
 use Rattle.mont_laws.proofs.Members.{pairs_head, pairs_tail, element_kept}
 use Rattle.plain.specs.declared.contents.Contents.{Contents}
@@ -17,7 +17,6 @@ use Rattle.plain.specs.States.{states_of}
 use Rattle.core_steps.specs.declared.parts.CallerPart.{CallerPart}
 use Rattle.core_steps.specs.CallerClauses.{receipts_of}
 use Rattle.core_steps.specs.Notes.{BeginsWith}
-use Rattle.core_steps.specs.Places.{RowHas}
 use Rattle.core_steps.proofs.RowFacts.{row_gives, row_from, row_in_map}
 use Rattle.heap.specs.HeapShown.{CallerShown}
 use Rattle.store_stop.specs.declared.headline.Stopped.{Stopped}

@@ -1,5 +1,5 @@
 -- Histories that are filled by the entries of receipts.
-use Rattle.std.proofs.Common.{◌≡◌, ◌≢◌, ℕ, zero, suc, ◌+◌, ◌<◌, ◌≤◌, max, List, [], ◌∷◌, ◌++◌, length, take, get_or, ap, sym, ◌∙◌, subst, refl, arith}
+use Rattle.std.proofs.Common.{◌≡◌, ◌≢◌, ℕ, zero, suc, ◌<◌, ◌≤◌, List, [], ◌∷◌, ◌++◌, length, get_or, ap, sym, ◌∙◌, subst, refl, arith}
 use Rattle.std.specs.Prelude.{slice_get, Some, All}
 use Rattle.std.proofs.lemmas.List.Elements.{All-nil, All-cons, All-append, All-head}
 use Rattle.std.proofs.lemmas.Option.{same_Some, slice_get_within}
@@ -8,7 +8,7 @@ use native.Mathlib.Decide.{ℕ_discrete}
 use Rattle.mont_base.specs.declared.operation.Entry.{Entry}
 use Rattle.mont_base.specs.declared.operation.Receipt.{Receipt}
 use Rattle.core_steps.proofs.RowFacts.{same_item}
-use Rattle.store_stop.specs.ToldHistories.{HoldsEntryOf, HasReceiptAt, TellsHistory, IsPut, IsFilled, Fills}
+use Rattle.store_stop.specs.ToldHistories.{HoldsEntryOf, TellsHistory, IsPut, Fills}
 use Rattle.store_stop.proofs.Items.{all_gives, all_split, same_items}
 
 module _ (unit : ℕ) where

@@ -1,9 +1,9 @@
 -- Stores of which only reads were made: how they begin, and what a read leaves.
-use Rattle.std.proofs.Common.{◌≡◌, ℕ, zero, suc, ◌+◌, ◌<◌, ◌≤◌, List, [], ◌∷◌, ◌++◌, length, length-append, set, ap, sym, ◌∙◌, subst, refl, arith}
+use Rattle.std.proofs.Common.{◌≡◌, ℕ, zero, suc, ◌+◌, ◌<◌, ◌≤◌, List, [], ◌∷◌, length, length-append, set, ap, sym, ◌∙◌, subst, refl, arith}
 use Rattle.std.specs.Prelude.{slice_get, Some, All, IsTrue}
 use Rattle.std.specs.FinMap as finite
 use Rattle.std.proofs.lemmas.List.Elements.{All-nil, All-cons, All-append, All-weaker, All-set}
-use Rattle.mont_base.specs.declared.constants.TheConstants.{FIRST_CLOCK, LAST}
+use Rattle.mont_base.specs.declared.constants.TheConstants.{FIRST_CLOCK}
 use Rattle.mont_base.specs.declared.kinds.UnitKind.{UnitKind}
 use Rattle.mont_base.specs.declared.kinds.UnitKind.TheVariants as kinds
 use Rattle.mont_base.specs.declared.operation.Entry.{Entry}
@@ -12,14 +12,13 @@ use Rattle.mont_base.specs.declared.operation.Op.TheVariants as ops
 use Rattle.mont_base.specs.declared.operation.Reply.{Reply}
 use Rattle.mont_base.specs.declared.operation.Reply.TheVariants.{Nothing}
 use Rattle.mont_base.specs.declared.record.Held.{Held}
-use Rattle.mont_base.specs.Image.{clock_of, empty_states}
+use Rattle.mont_base.specs.Image.{empty_states}
 use Rattle.mont_base.specs.Layout.{Shape, units_of}
 use Rattle.mont_base.specs.State.{Key, empty_state, earlier_text, key_cmp, step}
 use Rattle.mont_laws.specs.Structures.{HasStructure}
 use Rattle.mont_laws.proofs.Shown.{empty_structure}
 use Rattle.core_steps.specs.declared.parts.UnitPart.{UnitPart}
 use Rattle.core_steps.specs.Answering.{CanRead}
-use Rattle.core_steps.specs.Fresh.{fresh_unit}
 use Rattle.heap_rule.specs.declared.rule.Opening.{Opening}
 use Rattle.heap_rule.specs.Views.{are_clean, clean_at, first_unit, first_caller}
 use Rattle.heap.specs.HeapShown.{HeapShown, UnitShown, AdvShown, CallerShown}

@@ -9,7 +9,7 @@ use Rattle.mont_base.specs.declared.memory.Words.{Words}
 use Rattle.mont_base.specs.declared.operation.Entry.{Entry}
 use Rattle.mont_base.specs.declared.operation.Receipt.{Receipt}
 use Rattle.mont_base.specs.History.{IsLegal, state_after, cut_at}
-use Rattle.mont_base.specs.Image.{IsPermitted, IsRecovered, IsWellFormed, clock_of, cut_of, records_of}
+use Rattle.mont_base.specs.Image.{IsPermitted, IsWellFormed, clock_of, cut_of, records_of}
 use Rattle.mont_base.specs.Layout.{Shape, units_of}
 use Rattle.mont_base.specs.Seen.{IsCallersOrder, IsEntryAt}
 use Rattle.mont_base.specs.State.{State, QueueOf}
@@ -36,7 +36,7 @@ use Rattle.heap_rule.specs.Rule.{seen_in}
 use Rattle.heap.specs.HeapShown.{UnitShown, AdvShown, CallerShown}
 use Rattle.heap.specs.Stops.{StopsAt}
 use Rattle.store_stop.specs.Headline.{IsBaseOf, AreLegal, HasSeen, AreClocks, IsCutAsMarked, IsSyncedIn, HoldsHistories, IsStopped, parts_shown}
-use Rattle.store_stop.specs.ToldHistories.{HoldsEntryOf, HasReceiptAt, TellsHistory, TellAll}
+use Rattle.store_stop.specs.ToldHistories.{HoldsEntryOf, HasReceiptAt, TellAll}
 use Rattle.store_stop.proofs.CutStates.{rebuilds}
 use Rattle.store_stop.proofs.Items.{all_gives}
 

@@ -1,5 +1,8 @@
--- What a store leaves when it is stopped: its words, and for each unit one history, of which every
--- image that a crash then permits holds the same cut.
+-- What a store promises when it is stopped, however its threads took turns and wherever each of
+-- them was cut. The answered calls make one legal history for each unit: each call once, in the
+-- order that its caller had seen. And every image that a crash then permits holds one cut of all
+-- histories: the operations up to two epochs before its clock, whole, with all that a caller knew
+-- to be durable.
 use Rattle.std.specs.Prelude.{◌≡◌, ◌↔◌, ℕ, ◌<◌, ◌≤◌, List, [], ◌∷◌, length, map, take, slice_get, Some, All}
 use Rattle.std.specs.List.{Contains}
 use Rattle.mont_base.specs.declared.constants.TheConstants.{LAST}
@@ -23,7 +26,8 @@ use Rattle.heap_rule.specs.declared.views.CallerHeld.{CallerHeld}
 use Rattle.heap.specs.HeapShown.{CallerShown}
 use Rattle.store_stop.specs.declared.headline.Stopped.{Stopped}
 
--- ---- what the store opened with: the clock of its words, and what recovery rebuilds of them
+-- ---- what the store opened with
+-- the clock of its words, and what recovery rebuilds from them
 pub record IsBaseOf (o : Opening) (clock : ℕ) (states : List State) : Type 0 where
   pub clock_is : clock ≡ clock_of o.words
   pub recovered : IsRecovered o.layout o.words states
@@ -54,7 +58,8 @@ pub record AreClocks (base : ℕ) (callers : List CallerPart) (now durable : ℕ
   pub last : now ≤ LAST
 
 -- ---- marks
--- The caller that a mark names was cut in its unit; where it names none, some caller was.
+-- The caller that a mark names was cut in its unit, and knows it; where it names none, some caller
+-- was.
 pub record IsCutAsMarked (callers : List CallerPart) (m : Mark) : Type 0 where
   pub by : ℕ
   pub named : NamesCaller m.by by
@@ -74,8 +79,9 @@ IsSyncedIn histories x q =
     (unit front : ℕ) (h : List Entry) → slice_get q.synced unit ≡ Some front
     → slice_get histories unit ≡ Some h → All (λ (e : Entry). e.epoch ≤ x) (take front h)
 
--- Recovery accepts the image, and rebuilds from it exactly what the entries up to two epochs before
--- its clock led to. What a caller knew to be durable is among them.
+-- Recovery accepts the image, and rebuilds from it exactly the states to which the entries up to
+-- two epochs before its clock lead: these, and no others. What a caller knew to be durable is among
+-- these entries. The image's clock is one that the store had.
 pub record HoldsHistories
     (s : Shape) (base : List State) (histories : List (List Entry)) (callers : List CallerPart)
     (words : Words) (image : List ℕ) : Type 0 where
@@ -101,7 +107,7 @@ pub record IsStopped
   pub base_clock : t.base_clock ≡ clock
   pub base_is : t.base ≡ base
   pub legal : AreLegal s clock (states_of base) t.histories
-  -- each answered call is one entry of the histories, each caller's in the order that it had seen
+  -- each answered call is one entry, each entry one call; a caller's stand in the order that it saw
   pub order : IsCallersOrder t.histories
       (map receipts_of (parts_shown callers)) (map view_of (parts_shown callers))
   pub seen : All (λ (q : CallerShown). HasSeen t.histories q.held) callers

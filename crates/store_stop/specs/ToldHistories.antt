@@ -19,8 +19,8 @@ pub record HasReceiptAt (receipts : List (List Receipt)) (unit place : ℕ) : Ty
   pub of_unit : receipt.unit ≡ unit
   pub at_place : receipt.place ≡ place
 
--- The receipts of each caller tell the history of a unit: the entry of each stands at its place, and
--- each place has one.
+-- The receipts of each caller tell the history of a unit: the entry of each stands at its place,
+-- and each place has one.
 pub record TellsHistory (receipts : List (List Receipt)) (unit : ℕ) (h : List Entry)
     : Type 0 where
   pub stand : All (All (HoldsEntryOf unit h)) receipts

@@ -24,8 +24,8 @@ pub struct Stopped {
     pub histories: Sequence<Sequence<Entry>>,
 }
 
-/// Takes back all seats of a heap and the passes of all its callers. After want of memory the heap
-/// is gone.
+/// Takes back all seats of a heap and the passes of all its callers, by their numbers. It looks at
+/// each receipt once for each unit. After want of memory the heap is gone.
 pub fn stop_store<G: Gate + Drop>(
     alloc: Global,
     heap: Heap,
@@ -58,8 +58,9 @@ pub fn stop_store<G: Gate + Drop>(
     })
 }
 
-/// Recovery rebuilds of each unit the state to which a front of its history leads, the same epochs of
-/// all units, with every answered call that its caller knew to be durable.
+/// From an image that a crash permits of a stopped store recovery rebuilds, of each unit, the state
+/// to which a front of its history leads: up to the same epoch in all units, and with every
+/// answered call that its caller knew to be durable.
 pub fn stopped_stores_outlive_crashes()
     ensures { StoppedStoresOutliveCrashes }
 {}

@@ -1,4 +1,4 @@
-use Rattle.std.proofs.Common.{◌≡◌, List, map, ap, sym, ◌∙◌, subst}
+use Rattle.std.proofs.Common.{List, map, ap, ◌∙◌, subst}
 use Rattle.mont_base.specs.Layout.{units_of}
 use Rattle.core_steps.specs.CallerClauses.{receipts_of}
 use Rattle.heap.specs.HeapShown.{CallerShown}
@@ -19,6 +19,7 @@ returns g c =
       stopped = is_stopped o c.args.units.items c.args.advancer callers c.in_ok-words.words stops c.args.base_clock c.args.base
           c.requires.base c.units.result c.as_slice.result.now c.in_ok-histories.histories
           (c.units.ensures.value ∙ ap units_of c.layout.ensures)
-          (c.as_slice.ensures.value ∙ (c.in_ok-callers.ensures.receipts ∙ ap (λ (cs : List CallerShown). map receipts_of (parts_shown cs)) tickets))
+          (c.as_slice.ensures.value ∙ (c.in_ok-callers.ensures.receipts
+          ∙ ap (λ (cs : List CallerShown). map receipts_of (parts_shown cs)) tickets))
           c.in_ok-histories.ensures;
     }

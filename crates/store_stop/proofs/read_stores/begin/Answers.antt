@@ -1,4 +1,4 @@
-use Rattle.std.proofs.Common.{◌≡◌, List, sym, subst}
+use Rattle.std.proofs.Common.{List, sym, subst}
 use Rattle.heap.specs.HeapShown.{CallerShown}
 use Rattle.store_stop.specs.ReadStores.{AreUnwritten}
 use Rattle.store_stop.proofs.ReadStores.{unanswered, begins_unwritten}

@@ -1,4 +1,4 @@
-use Rattle.std.proofs.Common.{◌≡◌, sym, subst}
+use Rattle.std.proofs.Common.{sym, subst}
 use Rattle.mont_base.specs.declared.operation.Op.TheVariants.{Get}
 use Rattle.mont_base.specs.Layout.{Shape}
 use Rattle.store_stop.specs.ReadStores.{IsReadOfNothing}

@@ -1,12 +1,10 @@
-use Rattle.std.proofs.Common.{◌≡◌, ◌+◌, ◌<◌, List, length, map, set, ap, sym, ◌∙◌, subst, refl, arith}
-use Rattle.std.specs.Prelude.{slice_get, Some}
+use Rattle.std.proofs.Common.{◌+◌, ◌<◌, List, length, map, set, ap, sym, ◌∙◌, subst, refl, arith}
 use Rattle.std.proofs.lemmas.List.{map-set}
-use Rattle.std.proofs.lemmas.Option.{slice_get_read}
-use Rattle.core_steps.specs.declared.parts.CallerPart.{CallerPart}
 use Rattle.core_steps.specs.Answering.{CanRead}
 use Rattle.core_steps.proofs.RowFacts.{row_in_map}
-use Rattle.heap.specs.HeapShown.{UnitShown, CallerShown}
+use Rattle.heap.specs.HeapShown.{CallerShown}
 use Rattle.store_stop.specs.ReadStores.{AreUnwritten, HasReadOnce}
+use Rattle.store_stop.proofs.Items.{item_read}
 use Rattle.store_stop.proofs.ReadStores.{ticket_table, may_read, was_read}
 use Rattle.store_stop.proofs.read_stores.read.Goals as goal
 
@@ -15,11 +13,9 @@ answer-requires-clause-ticket c =
     let store = c.args.store in
     let pass = c.index_mut-pass.result.now in
     let callers : List CallerShown = map (λ p. p.ticket) store.passes.items in
-    let low_k : c.args.caller < length store.passes.items = omega arith in
-    let low_u : c.args.unit < length store.units.items = omega arith in
-    let at_u = slice_get_read store.units.items (length store.units.items) c.args.unit c.index_mut.result.now refl low_u c.index_mut.ensures.value in
+    let at_u = item_read store.units.items c.args.unit c.index_mut.result.now (omega arith) c.index_mut.ensures.value in
     let at_k = row_in_map (λ p. p.ticket) store.passes.items c.args.caller pass
-    (slice_get_read store.passes.items (length store.passes.items) c.args.caller pass refl low_k c.index_mut-pass.ensures.value) in
+    (item_read store.passes.items c.args.caller pass (omega arith) c.index_mut-pass.ensures.value) in
     ap (λ (q : CallerShown). q.table) c.reserve.ensures.ticket
     ∙ ticket_table store.heap store.reads store.units.items store.advancer callers c.requires.unwritten c.args.unit c.args.caller
     c.index_mut.result.now pass.ticket at_u at_k
@@ -30,11 +26,9 @@ answer-requires-clause-may c =
     let pass = c.index_mut-pass.result.now in
     let unit = c.index_mut.result.now in
     let callers : List CallerShown = map (λ p. p.ticket) store.passes.items in
-    let low_k : c.args.caller < length store.passes.items = omega arith in
-    let low_u : c.args.unit < length store.units.items = omega arith in
-    let at_u = slice_get_read store.units.items (length store.units.items) c.args.unit unit refl low_u c.index_mut.ensures.value in
+    let at_u = item_read store.units.items c.args.unit unit (omega arith) c.index_mut.ensures.value in
     let at_k = row_in_map (λ p. p.ticket) store.passes.items c.args.caller pass
-    (slice_get_read store.passes.items (length store.passes.items) c.args.caller pass refl low_k c.index_mut-pass.ensures.value) in
+    (item_read store.passes.items c.args.caller pass (omega arith) c.index_mut-pass.ensures.value) in
     subst (λ (q : CallerShown). CanRead store.heap.opening.layout unit.held.unit unit.held.part q.held.part c.args.op c.args.reply)
     (sym c.reserve.ensures.ticket)
     (may_read store.heap store.reads store.units.items store.advancer callers c.requires.unwritten c.args.unit c.args.caller
@@ -46,11 +40,9 @@ returns c =
     let pass = c.index_mut-pass.result.now in
     let unit = c.index_mut.result.now in
     let callers : List CallerShown = map (λ p. p.ticket) store.passes.items in
-    let low_k : c.args.caller < length store.passes.items = omega arith in
-    let low_u : c.args.unit < length store.units.items = omega arith in
-    let at_u = slice_get_read store.units.items (length store.units.items) c.args.unit unit refl low_u c.index_mut.ensures.value in
+    let at_u = item_read store.units.items c.args.unit unit (omega arith) c.index_mut.ensures.value in
     let at_k = row_in_map (λ p. p.ticket) store.passes.items c.args.caller pass
-    (slice_get_read store.passes.items (length store.passes.items) c.args.caller pass refl low_k c.index_mut-pass.ensures.value) in
+    (item_read store.passes.items c.args.caller pass (omega arith) c.index_mut-pass.ensures.value) in
     let has = subst (λ (q : CallerShown). HasReadOnce unit c.answer.new.seat q c.answer.new.pass.ticket c.in_ok-entry.field-0.entry)
     c.reserve.ensures.ticket c.in_ok-entry.ensures in
     subst (λ (qs : List CallerShown). AreUnwritten store.heap (store.reads + 1) (set store.units.items c.args.unit c.answer.new.seat)

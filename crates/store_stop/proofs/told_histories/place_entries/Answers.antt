@@ -1,4 +1,4 @@
-use Rattle.std.proofs.Common.{◌≡◌, List, take, take_all, ap, sym, subst}
+use Rattle.std.proofs.Common.{List, take, take_all, ap, sym, subst}
 use Rattle.mont_base.specs.declared.operation.Entry.{Entry}
 use Rattle.mont_base.specs.declared.operation.Receipt.{Receipt}
 use Rattle.store_stop.specs.ToldHistories.{Fills}

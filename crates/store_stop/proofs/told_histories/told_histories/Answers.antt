@@ -1,4 +1,4 @@
-use Rattle.std.proofs.Common.{◌≡◌, ◌<◌, List, ◌∷◌, [], ◌++◌, length, take, take_all, get_or, sym, ◌∙◌, subst}
+use Rattle.std.proofs.Common.{◌<◌, ◌∷◌, [], ◌++◌, length, sym, ◌∙◌, subst}
 use Rattle.std.proofs.lemmas.Option.{get_or_from_slice_get}
 use Rattle.core_steps.proofs.RowFacts.{item_at}
 use Rattle.store_stop.proofs.Items.{take_next}

@@ -1,7 +1,6 @@
-use Rattle.std.proofs.Common.{◌≡◌, ◌≤◌, List, length, take, take_all, sym, ◌∙◌, subst}
+use Rattle.std.proofs.Common.{◌≤◌, List, length, take, take_all, sym, ◌∙◌, subst}
 use Rattle.std.specs.Prelude.{All}
 use Rattle.std.proofs.lemmas.List.Elements.{All-take, All-get_or}
-use Rattle.mont_base.specs.declared.operation.Entry.{Entry}
 use Rattle.mont_base.specs.declared.operation.Receipt.{Receipt}
 use Rattle.store_stop.specs.ToldHistories.{HoldsEntryOf, Fills}
 use Rattle.store_stop.proofs.Items.{take_next}

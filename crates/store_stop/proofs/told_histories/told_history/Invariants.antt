@@ -1,4 +1,4 @@
-use Rattle.std.proofs.Common.{ℕ, ◌≤◌, List, length, take}
+use Rattle.std.proofs.Common.{◌≤◌, List, length, take}
 use Rattle.std.specs.Prelude.{All}
 use Rattle.mont_base.specs.declared.operation.Entry.{Entry}
 use Rattle.store_stop.specs.ToldHistories.{HoldsEntryOf, TellsHistory}
