@@ -1,0 +1,5 @@
+pub mod Planning
+pub mod Standing
+pub mod Checking
+pub mod Carrying
+pub mod Calling
