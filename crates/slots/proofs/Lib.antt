@@ -1,6 +1,6 @@
 mod Times
 mod RowFacts
-mod Agreements
+pub mod Agreements
 mod Puts
 mod Lives
 mod Closes

@@ -13,6 +13,7 @@ use Rattle.mont_base.specs.declared.refusal.CallRefusal.TheVariants.{Halted, Cou
 use Rattle.mont_base.specs.State.{step}
 use Rattle.mont_laws.specs.Effects.{AreEffects}
 use Rattle.mont_laws.specs.Records.{live_of}
+use Rattle.mont_laws.specs.Structures.{HasStructure}
 use Rattle.core_steps.specs.Answering.{IsJudged}
 use Rattle.heap.specs.HeapShown.{HeapShown, CallerShown}
 use Rattle.heap.specs.Receipts.{receipt_of}
@@ -59,6 +60,8 @@ pub record HasAnsweredCall
   pub reached : IsReachedBy q old receipt.entry.epoch
   pub wrote : HasWritten old.books.unit old.seat.held.part.records new.seat.held.part.records
       (step judged.state op).effects receipt.entry.epoch
+  pub after : HasStructure heap.opening.layout old.books.unit new.seat.held.part.records
+      (step judged.state op).state
   pub identity : new.books.identity
       ≡ old.books.identity + count_by is_insertion (step judged.state op).effects
   pub of_unit : new.books.unit ≡ old.books.unit

@@ -1,5 +1,5 @@
 -- What is decided of a call before it takes memory.
-use Rattle.std.specs.Prelude.{◌≡◌, ◌×◌, List, Some, None}
+use Rattle.std.specs.Prelude.{◌≡◌, List, Some, None}
 use Rattle.mont_base.specs.declared.operation.Op.{Op}
 use Rattle.mont_base.specs.declared.operation.Reply.{Reply}
 use Rattle.mont_base.specs.declared.record.Change.{Change}

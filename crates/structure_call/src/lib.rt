@@ -4,6 +4,7 @@
 
 mod carrying;
 mod checking;
+mod refusing;
 
 pub use carrying::{Carried, carry_out};
 pub use checking::{check_numbers, check_running};
