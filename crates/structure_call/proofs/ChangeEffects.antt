@@ -3,6 +3,7 @@ use Rattle.std.proofs.Common.{◌≡◌, ℕ, ◌+◌, ◌≤◌, Bool, true, fa
 use Rattle.std.specs.Prelude.{◌||◌, ◌&&◌, Option, Some, None, count_by}
 use Rattle.std.specs.List.{AllZip, list_any}
 use Rattle.std.specs.FinMap as finite
+use Rattle.std.proofs.lemmas.List.Sums.{sum_by-cons}
 use Rattle.mont_base.specs.declared.constants.TheConstants.{LAST}
 use Rattle.mont_base.specs.declared.effect.Effect.{Effect}
 use Rattle.mont_base.specs.declared.effect.Effect.TheVariants.{Inserts, Replaces, Removes}
@@ -98,7 +99,7 @@ module _ (unit serial epoch : ℕ) (kept : List Held) where
   next_version thing slot identity k = ap (λ (o : Option Held). version_in o + 1) (live_newest kept identity k.live k.is)
 
   no_item : (thing : Thing) → is_item thing ≡ false → is_item thing ≡ true → serial ≤ LAST
-  no_item thing no yes = absurd (cc)
+  no_item thing other is = absurd (cc)
 
   -- items find a serial in queues
   effect_by : (queue : Bool) (next slot : ℕ) (e : Effect) (c : Change) → newest_of next kept ≡ None → FitsKind queue e
@@ -172,8 +173,10 @@ inserts_are kept serial [] [] h = refl
 inserts_are kept serial [] (c ∷ cs) h = absurd h
 inserts_are kept serial (e ∷ es) [] h = absurd h
 inserts_are kept serial (e ∷ es) (c ∷ cs) h =
-    let more = inserts_are kept serial es cs h.1 in
-    ap (λ (t : Bool). cond t 1 0 + count_by is_insertion es) (same e c h.0) ∙ ap (λ (n : ℕ). cond (is_insert c) 1 0 + n) more
+    sum_by-cons (λ (x : Effect). cond (is_insertion x) 1 0) e es
+    ∙ (ap (λ (t : Bool). cond t 1 0 + count_by is_insertion es) (same e c h.0)
+    ∙ ap (λ (n : ℕ). cond (is_insert c) 1 0 + n) (inserts_are kept serial es cs h.1))
+    ∙ sym (sum_by-cons (λ (x : Change). cond (is_insert x) 1 0) c cs)
   where
     same : (e : Effect) (c : Change) → Makes kept serial e c → is_insertion e ≡ is_insert c
     same (Inserts thing) (Insert body) h = refl

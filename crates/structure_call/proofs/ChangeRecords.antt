@@ -1,7 +1,7 @@
 -- One change more is written.
 use Rattle.std.proofs.Common.{◌≡◌, ℕ, ◌+◌, ◌<◌, ◌≤◌, Bool, true, false, cond, List, [], ◌∷◌, ◌++◌, length, get_or, take, refl, sym, ap, ◌∙◌, subst, arith}
 use Rattle.std.specs.Prelude.{Option, Some, None, count_by}
-use Rattle.std.proofs.lemmas.List.Sums.{sum_by-append}
+use Rattle.std.proofs.lemmas.List.Sums.{sum_by-cons, sum_by_push}
 use Rattle.mont_base.specs.declared.record.Change.{Change}
 use Rattle.mont_base.specs.declared.record.Change.TheVariants.{Insert, Replace, Remove}
 use Rattle.mont_base.specs.declared.record.Held.{Held}
@@ -11,9 +11,12 @@ use Rattle.structure_call.specs.Carrying.{records_by, last_of, serial_behind}
 
 -- the next identity behind one change more
 pub inserts_more : (cs : List Change) (c : Change) → inserts (cs ++ c ∷ []) ≡ inserts cs + cond (is_insert c) 1 0
-inserts_more cs c = sum_by-append (λ (x : Change). cond (is_insert x) 1 0) cs (c ∷ []) ∙ ap (λ (n : ℕ). inserts cs + n) (omega arith)
+inserts_more cs c = sum_by_push (λ (x : Change). cond (is_insert x) 1 0) cs c
 
-next_is : (next : ℕ) (c : Change) → identity_after next c ≡ next + cond (is_insert c) 1 0
+inserts_first : (c : Change) (cs : List Change) → inserts (c ∷ cs) ≡ cond (is_insert c) 1 0 + inserts cs
+inserts_first c cs = sum_by-cons (λ (x : Change). cond (is_insert x) 1 0) c cs
+
+pub next_is : (next : ℕ) (c : Change) → identity_after next c ≡ next + cond (is_insert c) 1 0
 next_is next (Insert body) = refl
 next_is next (Replace slot identity body) = omega arith
 next_is next (Remove slot identity) = omega arith
@@ -29,6 +32,7 @@ records_more unit next kept epoch [] (s ∷ slots) c slot long = absurd (omega a
 records_more unit next kept epoch (d ∷ cs) [] c slot long = absurd (omega arith)
 records_more unit next kept epoch (d ∷ cs) (s ∷ slots) c slot long =
     let after = next_is next d in
+    let first = inserts_first d cs in
     let behind = records_more unit (identity_after next d) kept epoch cs slots c slot (omega arith) in
     ap (λ (rs : List Held). record_by unit next kept d epoch s ∷ rs) (behind
     ∙ ap (λ (n : ℕ). records_by unit (identity_after next d) kept epoch cs slots ++ record_by unit n kept c epoch slot ∷ [])

@@ -1,9 +1,9 @@
 -- The changes of an operation are written one behind the other.
-use Rattle.std.proofs.Common.{◌≡◌, ℕ, ◌+◌, ◌<◌, ◌≤◌, true, false, cond, List, [], ◌∷◌, ◌++◌, length, get_or, take, drop, append_assoc, append-nil, length-append, refl, sym, ap, ◌∙◌, subst, arith}
+use Rattle.std.proofs.Common.{◌≡◌, ℕ, ◌+◌, ◌<◌, ◌≤◌, Bool, true, false, cond, List, [], ◌∷◌, ◌++◌, length, get_or, take, append_assoc, append-nil, length-append, refl, sym, ap, ◌∙◌, subst, arith}
 use Rattle.std.specs.Prelude.{All, IsTrue, Option, Some, None}
-use Rattle.std.proofs.lemmas.List.{take_more, take-append-drop}
+use Rattle.std.proofs.lemmas.List.{take_more}
 use Rattle.std.proofs.lemmas.List.Elements.{All-get_or}
-use Rattle.std.proofs.lemmas.List.Sums.{sum_by-append}
+use Rattle.std.proofs.lemmas.List.Sums.{sum_by-take-le}
 use Rattle.mont_base.specs.declared.constants.TheConstants.{LAST}
 use Rattle.mont_base.specs.declared.record.Change.{Change}
 use Rattle.mont_base.specs.declared.record.Held.{Held}
@@ -95,9 +95,7 @@ module _ (heap : HeapShown) (old : RegionShown) (guard : Guard) where
     room_for i d low =
         let here : inserts (take (i + 1) changes) ≡ inserts (take i changes) + cond (is_insert (get_or changes i d)) 1 0 =
         ap inserts (take_more changes i d low) ∙ inserts_more (take i changes) (get_or changes i d) in
-        let whole : inserts (take (i + 1) changes) + inserts (drop (i + 1) changes) ≡ inserts changes =
-        sym (sum_by-append (λ (x : Change). cond (is_insert x) 1 0) (take (i + 1) changes) (drop (i + 1) changes))
-        ∙ ap inserts (take-append-drop (i + 1) changes) in
+        let few = sum_by-take-le (λ (x : Change). cond (is_insert x) 1 0) changes (i + 1) in
         omega arith
 
     pub may_put : (mid : RegionShown) (g : Guard) (last : Option ℕ) (i : ℕ) (d : Change) → i < length changes
@@ -109,8 +107,8 @@ module _ (heap : HeapShown) (old : RegionShown) (guard : Guard) where
         record {
           names = subst (λ (rs : List Held). NamesLive rs c) (sym records)
               (All-get_or (NamesLive old.seat.held.part.records) changes i d low can.names);
-          identity = λ new.
-              let one : cond (is_insert c) 1 0 ≡ 1 = ap (λ t. cond t 1 0) new in
+          identity = λ (new : is_insert c ≡ true).
+              let one : cond (is_insert c) 1 0 ≡ 1 = ap (λ (t : Bool). cond t 1 0) new in
               let room = room_for i d low in
               let left = can.identities in
               let at = k.identity in omega arith;
