@@ -1,7 +1,7 @@
 -- What an operation leaves that was carried out as planned.
-use Rattle.std.proofs.Common.{◌≡◌, ℕ, ◌+◌, ◌<◌, ◌≤◌, Bool, true, false, List, [], ◌∷◌, ◌++◌, length, append-nil, refl, sym, ap, ◌∙◌, subst, arith}
+use Rattle.std.proofs.Common.{◌≡◌, ℕ, ◌<◌, ◌≤◌, true, List, [], ◌∷◌, ◌++◌, length, append-nil, refl, sym, ap, ◌∙◌, subst, arith}
 use Rattle.std.specs.Prelude.{◌≢◌, slice_set, All, Option, Some, None, count_by}
-use Rattle.std.specs.List.{AllZip, list_any}
+use Rattle.std.specs.List.{AllZip}
 use Rattle.std.proofs.lemmas.List.Elements.{All-cons, All-nil}
 use Rattle.mont_base.specs.declared.constants.TheConstants.{LAST}
 use Rattle.mont_base.specs.declared.effect.Effect.{Effect}
@@ -22,21 +22,20 @@ use Rattle.mont_laws.specs.Structures.{HasStructure, kind_of_state}
 use Rattle.mont_laws.proofs.Newest.{newest_is}
 use Rattle.mont_laws.proofs.Shown.{effects_lead}
 use Rattle.core_steps.specs.declared.parts.UnitPart.{UnitPart}
-use Rattle.core_steps.specs.Answering.{IsJudged, HasNumbers, CanLeave, CanRead, after_answer, entry_of}
-use Rattle.heap.specs.HeapShown.{HeapShown, UnitShown, CallerShown}
+use Rattle.core_steps.specs.Answering.{IsJudged, CanLeave, CanRead, after_answer}
+use Rattle.heap.specs.HeapShown.{HeapShown, CallerShown}
 use Rattle.heap.specs.Receipts.{receipt_of}
 use Rattle.heap_rule.specs.Plays.{answer_of}
-use Rattle.heap_rule.specs.Views.{caller_answered}
-use Rattle.slots.specs.Books.{BooksShown, RegionShown, AreBooks, HasLowerIdentity}
-use Rattle.slots.specs.Changes.{inserts, record_by, identity_after, has_serial, serial_in}
+use Rattle.slots.specs.Books.{BooksShown, RegionShown, HasLowerIdentity}
+use Rattle.slots.specs.Changes.{record_by, identity_after, has_serial, serial_in}
 use Rattle.slots.proofs.Agreements.{all_before}
 use Rattle.op_guard.specs.declared.guard.Guard.{Guard}
 use Rattle.op_guard.specs.Answered.{HasCommitted, HasRead}
 use Rattle.op_guard.specs.Guarding.{HasBegun, IsReachedBy}
 use Rattle.op_guard.specs.Regions.{IsReady}
-use Rattle.structure_call.specs.Calling.{HasWritten, HasAnsweredCall, is_insertion}
-use Rattle.structure_call.specs.Carrying.{CanPutAll, HasSerialLeft, HasWrittenAll, HasCarried, records_by, last_of, serial_behind}
-use Rattle.structure_call.specs.Planning.{IsPlan, Makes, adds_item, first_at_end}
+use Rattle.structure_call.specs.Calling.{HasAnsweredCall, is_insertion}
+use Rattle.structure_call.specs.Carrying.{CanPutAll, HasWrittenAll, HasCarried, records_by, serial_behind}
+use Rattle.structure_call.specs.Planning.{IsPlan, Makes, first_at_end}
 use Rattle.structure_call.proofs.ChangeEffects.{is_queue, step_fits, effects_by, inserts_are, none_made}
 use Rattle.structure_call.proofs.ChangeNumbers.{AreLeft, numbers_left, all_live, versions_left, serials_left}
 use Rattle.structure_call.proofs.KeptPlans.{structure_kept, all_kept}

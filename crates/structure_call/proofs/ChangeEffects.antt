@@ -1,5 +1,5 @@
 -- The records that a plan's changes write are its effects.
-use Rattle.std.proofs.Common.{◌≡◌, ℕ, ◌+◌, ◌≤◌, Bool, true, false, cond, List, [], ◌∷◌, ◌++◌, length, map, refl, sym, ap, ◌∙◌, subst, arith}
+use Rattle.std.proofs.Common.{◌≡◌, ℕ, ◌+◌, ◌≤◌, Bool, true, false, cond, List, [], ◌∷◌, ◌++◌, length, map, refl, sym, ap, ◌∙◌, arith}
 use Rattle.std.specs.Prelude.{◌||◌, ◌&&◌, Option, Some, None, count_by}
 use Rattle.std.specs.List.{AllZip, list_any}
 use Rattle.std.specs.FinMap as finite
@@ -16,7 +16,7 @@ use Rattle.mont_base.specs.declared.record.Change.{Change}
 use Rattle.mont_base.specs.declared.record.Change.TheVariants.{Insert, Replace, Remove}
 use Rattle.mont_base.specs.declared.record.Held.{Held}
 use Rattle.mont_base.specs.Layout.{Shape, kind_of, is_of_kind}
-use Rattle.mont_base.specs.State.{State, MapOf, QueueOf, GraphOf, Graph, Ends, Pairs, Key, Value, Step, step, set_effects, map_del, queue_deq, del_vertex, add_edge, del_edge, edge_thing, edges_at, can_join}
+use Rattle.mont_base.specs.State.{State, MapOf, QueueOf, GraphOf, Graph, Ends, Pairs, Key, Value, step, set_effects, map_del, queue_deq, del_vertex, add_edge, del_edge, edge_thing, edges_at, can_join}
 use Rattle.mont_base.specs.Versions.{newest_of}
 use Rattle.mont_laws.specs.Effects.{IsBodyOf, IsEffect, AreEffects}
 use Rattle.slots.specs.Changes.{record_by, identity_after, version_in, has_serial, inserts, is_insert}

@@ -15,7 +15,6 @@ use Rattle.mont_base.specs.declared.record.Change.TheVariants.{Insert, Replace, 
 use Rattle.mont_base.specs.declared.record.Held.{Held}
 use Rattle.mont_base.specs.declared.refusal.Which.{Which}
 use Rattle.mont_base.specs.Layout.{Shape, kind_of, is_of_kind}
-use Rattle.mont_base.specs.Versions.{newest_of}
 use Rattle.mont_laws.specs.Records.{live_of}
 use Rattle.core_steps.specs.declared.parts.CallerPart.{CallerPart}
 use Rattle.slots.specs.Books.{RegionShown}

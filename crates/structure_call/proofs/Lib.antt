@@ -5,3 +5,4 @@ pub mod ChangeRecords
 pub mod WrittenChanges
 pub mod CarriedOut
 pub mod Stands
+pub mod Refusals

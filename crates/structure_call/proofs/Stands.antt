@@ -1,6 +1,6 @@
 -- A region stands before and after each call.
-use Rattle.std.proofs.Common.{◌≡◌, ℕ, true, sym, subst, ◌∙◌}
-use Rattle.std.specs.Prelude.{Some, None}
+use Rattle.std.proofs.Common.{◌≡◌, ℕ, true, sym, subst}
+use Rattle.std.specs.Prelude.{None}
 use Rattle.mont_base.specs.Layout.{units_of}
 use Rattle.heap.specs.HeapShown.{HeapShown, CallerShown}
 use Rattle.heap_rule.specs.Views.{are_clean}

@@ -1,10 +1,9 @@
 -- The changes of an operation are written one behind the other.
 use Rattle.std.proofs.Common.{◌≡◌, ℕ, ◌+◌, ◌<◌, ◌≤◌, Bool, true, false, cond, List, [], ◌∷◌, ◌++◌, length, get_or, take, append_assoc, append-nil, length-append, refl, sym, ap, ◌∙◌, subst, arith}
-use Rattle.std.specs.Prelude.{All, IsTrue, Option, Some, None}
+use Rattle.std.specs.Prelude.{Option, Some, None}
 use Rattle.std.proofs.lemmas.List.{take_more}
 use Rattle.std.proofs.lemmas.List.Elements.{All-get_or}
 use Rattle.std.proofs.lemmas.List.Sums.{sum_by-take-le}
-use Rattle.mont_base.specs.declared.constants.TheConstants.{LAST}
 use Rattle.mont_base.specs.declared.record.Change.{Change}
 use Rattle.mont_base.specs.declared.record.Held.{Held}
 use Rattle.core_steps.specs.declared.parts.UnitPart.{UnitPart}
@@ -14,7 +13,7 @@ use Rattle.slots.specs.Changes.{CanPut, NamesLive, record_by, inserts, is_insert
 use Rattle.op_guard.specs.declared.guard.Guard.{Guard}
 use Rattle.op_guard.specs.Guarding.{HasChanged}
 use Rattle.op_guard.specs.Regions.{IsUnderWay}
-use Rattle.structure_call.specs.Carrying.{CanPutAll, HasSerialLeft, HasWrittenAll, records_by, serial_behind}
+use Rattle.structure_call.specs.Carrying.{CanPutAll, HasSerialLeft, HasWrittenAll, records_by}
 use Rattle.structure_call.proofs.ChangeRecords.{inserts_more, next_is, records_more, last_more, serial_more}
 
 module _ (heap : HeapShown) (old : RegionShown) (guard : Guard) where
@@ -88,6 +87,14 @@ module _ (heap : HeapShown) (old : RegionShown) (guard : Guard) where
             ∙ sym (serial_more old.books.layout old.books.unit old.books.serial cs c);
       }
 
+  -- the one at this place
+  pub next_written : (changes : List Change) (mid new : RegionShown) (g h : Guard) (last : Option ℕ) (i slot : ℕ) (d : Change)
+      → i < length changes → HasWrittenAll heap old mid guard g (take i changes) last
+      → HasChanged heap mid new g h (get_or changes i d) slot → HasWrittenAll heap old new guard h (take (i + 1) changes) (Some slot)
+  next_written changes mid new g h last i slot d low k changed =
+      subst (λ (cs : List Change). HasWrittenAll heap old new guard h cs (Some slot)) (sym (take_more changes i d low))
+      (more_written mid g (take i changes) last k new h (get_or changes i d) slot changed)
+
   -- the next change may be written
   module _ (changes : List Change) (can : CanPutAll old.books old.seat.held.part.records changes) where
     room_for : (i : ℕ) (d : Change) → i < length changes
@@ -108,7 +115,7 @@ module _ (heap : HeapShown) (old : RegionShown) (guard : Guard) where
           names = subst (λ (rs : List Held). NamesLive rs c) (sym records)
               (All-get_or (NamesLive old.seat.held.part.records) changes i d low can.names);
           identity = λ (new : is_insert c ≡ true).
-              let one : cond (is_insert c) 1 0 ≡ 1 = ap (λ (t : Bool). cond t 1 0) new in
+              let one : cond {A = ℕ} (is_insert c) 1 0 ≡ 1 = ap (λ (t : Bool). cond t 1 0) new in
               let room = room_for i d low in
               let left = can.identities in
               let at = k.identity in omega arith;

@@ -1,5 +1,5 @@
 -- What a call of a structure leaves, whatever its kind.
-use Rattle.std.specs.Prelude.{◌≡◌, ℕ, ◌+◌, Bool, true, false, List, [], ◌∷◌, ◌++◌, All, count_by, length, Ok, Err}
+use Rattle.std.specs.Prelude.{◌≡◌, ℕ, ◌+◌, Bool, true, false, List, [], ◌∷◌, ◌++◌, All, count_by, length, Err}
 use Rattle.std.specs.declared.result.Result.{Result}
 use Rattle.mont_base.specs.declared.effect.Effect.{Effect}
 use Rattle.mont_base.specs.declared.effect.Effect.TheVariants.{Inserts}
@@ -19,10 +19,10 @@ use Rattle.heap.specs.HeapShown.{HeapShown, CallerShown}
 use Rattle.heap.specs.Receipts.{receipt_of}
 use Rattle.heap_rule.specs.Plays.{answer_of}
 use Rattle.heap_rule.specs.Views.{caller_answered}
-use Rattle.op_guard.specs.Guarding.{IsReachedBy, IsFull}
-use Rattle.op_guard.specs.Regions.{IsReady, WasHalted}
+use Rattle.op_guard.specs.Guarding.{IsReachedBy}
+use Rattle.op_guard.specs.Regions.{IsReady}
 use Rattle.slots.specs.Books.{RegionShown}
-use Rattle.structure_call.specs.Planning.{IsPlan, first_at_end}
+use Rattle.structure_call.specs.Planning.{IsPlan}
 use Rattle.structure_call.specs.Checking.{WasHaltedBefore, EndsCount}
 use Rattle.structure_call.specs.Carrying.{LeavesUncarried}
 

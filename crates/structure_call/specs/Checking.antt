@@ -5,7 +5,7 @@ use Rattle.mont_base.specs.declared.operation.Reply.{Reply}
 use Rattle.mont_base.specs.declared.record.Change.{Change}
 use Rattle.mont_base.specs.declared.refusal.CallRefusal.{CallRefusal}
 use Rattle.mont_base.specs.declared.refusal.CallRefusal.TheVariants.{Halted, CountEnd}
-use Rattle.heap.specs.HeapShown.{HeapShown, CallerShown}
+use Rattle.heap.specs.HeapShown.{CallerShown}
 use Rattle.op_guard.specs.Guarding.{HasNoted}
 use Rattle.slots.specs.Books.{RegionShown}
 use Rattle.structure_call.specs.Planning.{IsPlan, first_at_end}
