@@ -1,6 +1,6 @@
 mod Times
 mod RowFacts
-pub mod Agreements
+mod Agreements
 mod Puts
 mod Lives
 mod NextSerials

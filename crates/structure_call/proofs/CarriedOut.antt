@@ -1,8 +1,8 @@
 -- What an operation leaves that was carried out as planned.
 use Rattle.std.proofs.Common.{◌≡◌, ℕ, ◌<◌, ◌≤◌, true, List, [], ◌∷◌, ◌++◌, length, append-nil, refl, sym, ap, ◌∙◌, subst, arith}
-use Rattle.std.specs.Prelude.{◌≢◌, slice_set, All, Option, Some, None, count_by}
+use Rattle.std.specs.Prelude.{◌≢◌, slice_index, slice_set, All, Option, Some, None, count_by}
 use Rattle.std.specs.List.{AllZip}
-use Rattle.std.proofs.lemmas.List.Elements.{All-cons, All-nil}
+use Rattle.std.proofs.lemmas.List.Elements.{All-cons, All-nil, All-contains, Contains-append_left}
 use Rattle.mont_base.specs.declared.constants.TheConstants.{LAST}
 use Rattle.mont_base.specs.declared.effect.Effect.{Effect}
 use Rattle.mont_base.specs.declared.kinds.UnitKind.{UnitKind}
@@ -14,9 +14,9 @@ use Rattle.mont_base.specs.declared.operation.Reply.{Reply}
 use Rattle.mont_base.specs.declared.record.Change.{Change}
 use Rattle.mont_base.specs.declared.record.Held.{Held}
 use Rattle.mont_base.specs.Layout.{Shape, kind_of, is_of_kind}
-use Rattle.mont_base.specs.State.{State, MapOf, QueueOf, GraphOf, step}
+use Rattle.mont_base.specs.State.{State, is_state_of, MapOf, QueueOf, GraphOf, step}
 use Rattle.mont_base.specs.Versions.{newest_of}
-use Rattle.mont_laws.specs.Effects.{IsOpOf, AreEffects}
+use Rattle.mont_laws.specs.Effects.{IsOpOf, IsNewSerial, AreEffects}
 use Rattle.mont_laws.specs.Records.{live_of}
 use Rattle.mont_laws.specs.Structures.{HasStructure, kind_of_state}
 use Rattle.mont_laws.proofs.Newest.{newest_is}
@@ -28,7 +28,6 @@ use Rattle.heap.specs.Receipts.{receipt_of}
 use Rattle.heap_rule.specs.Plays.{answer_of}
 use Rattle.slots.specs.Books.{BooksShown, RegionShown, HasLowerIdentity}
 use Rattle.slots.specs.Changes.{record_by, identity_after, has_serial, serial_in}
-use Rattle.slots.proofs.Agreements.{all_before}
 use Rattle.op_guard.specs.declared.guard.Guard.{Guard}
 use Rattle.op_guard.specs.Answered.{HasCommitted, HasRead}
 use Rattle.op_guard.specs.Guarding.{HasBegun, IsReachedBy}
@@ -36,12 +35,13 @@ use Rattle.op_guard.specs.Regions.{IsReady}
 use Rattle.structure_call.specs.Calling.{HasAnsweredCall, is_insertion}
 use Rattle.structure_call.specs.Carrying.{CanPutAll, HasWrittenAll, HasCarried, records_by, serial_behind}
 use Rattle.structure_call.specs.Planning.{IsPlan, Makes, first_at_end}
-use Rattle.structure_call.proofs.ChangeEffects.{is_queue, step_fits, effects_by, inserts_are, none_made}
+use Rattle.structure_call.proofs.ChangeEffects.{step_fits, effects_by, queue_of, inserts_are, none_made}
 use Rattle.structure_call.proofs.ChangeNumbers.{AreLeft, numbers_left, all_live, versions_left, serials_left}
-use Rattle.structure_call.proofs.KeptPlans.{structure_kept, all_kept}
+use Rattle.structure_call.proofs.SoundHistories.{sound_shows, shows_before}
+use Rattle.structure_call.proofs.KeptPlans.{structure_kept, next_kept, all_kept}
 
 -- the kind of a state
-kind_is : (state : State) → is_of_kind (Some (kind_of_state state)) unit_kinds.Queue ≡ is_queue state
+kind_is : (state : State) → is_of_kind (Some (kind_of_state state)) unit_kinds.Queue ≡ is_state_of unit_kinds.Queue state
 kind_is (MapOf pairs) = refl
 kind_is (QueueOf items) = refl
 kind_is (GraphOf graph) = refl
@@ -75,7 +75,8 @@ none_from records written identity n numbered low = by (newest_of n records) ref
     by None e = refl
     by (Some r) e =
         let new = newest_is n records r e in
-        let below : r.label.identity < identity = all_before (HasLowerIdentity identity) records written numbered r new.there in
+        let below : r.label.identity < identity = All-contains (HasLowerIdentity identity) (records ++ written) r numbered
+        (Contains-append_left records written r new.there) in
         let same = new.identity in absurd (omega arith)
 
 module _ (heap : HeapShown) (old : RegionShown) (q : CallerShown) (op : Op) (reply : Reply) (changes : List Change)
@@ -86,7 +87,7 @@ module _ (heap : HeapShown) (old : RegionShown) (q : CallerShown) (op : Op) (rep
   abbrev effects : List Effect
   effects = (step plan.state op).effects
 
-  of_kind : is_of_kind (kind_of old.books.layout old.books.unit) unit_kinds.Queue ≡ is_queue plan.state
+  of_kind : is_of_kind (kind_of old.books.layout old.books.unit) unit_kinds.Queue ≡ is_state_of unit_kinds.Queue plan.state
   of_kind = ap (λ (o : Option UnitKind). is_of_kind o unit_kinds.Queue) plan.shown.of_unit ∙ kind_is plan.state
 
   shape : old.books.layout ≡ heap.opening.layout
@@ -119,8 +120,8 @@ module _ (heap : HeapShown) (old : RegionShown) (q : CallerShown) (op : Op) (rep
     abbrev kept : List Held
     kept = mid.seat.held.part.records
 
-    makes : AllZip (Makes kept old.books.serial) effects changes
-    makes = all_kept old.seat.held.part.records kept begun.keeps.live old.books.serial effects changes plan.makes
+    makes : AllZip (Makes old.books kept) effects changes
+    makes = all_kept old.seat.held.part.records kept begun.keeps.live old.books effects changes plan.makes
 
     same_layout : mid.books.layout ≡ old.books.layout
     same_layout = begun.under_way.runs.of_heap.layout ∙ sym ready.runs.of_heap.layout
@@ -128,15 +129,29 @@ module _ (heap : HeapShown) (old : RegionShown) (q : CallerShown) (op : Op) (rep
     -- there is a number for each change
     pub may_put_all : CanPutAll mid.books kept changes
     may_put_all = record {
-      names = all_live kept old.books.serial effects changes makes;
+      names = all_live old.books kept effects changes makes;
       identities = let few = left.identities in let same = begun.keeps.identity in omega arith;
-      versions = versions_left kept old.books.serial old.seat.held.part.records begun.keeps.live effects changes makes left.versions;
+      versions = versions_left old.books kept old.seat.held.part.records begun.keeps.live effects changes makes left.versions;
       serials =
           subst (λ (x : Shape × ℕ). All (λ (c : Change). has_serial x.0 x.1 c ≡ true → serial_in c ≤ LAST) changes)
           (λ i. (sym same_layout i, sym begun.keeps.of_unit i))
-          (serials_left kept old.books.serial old.books.layout old.books.unit (is_queue plan.state) of_kind effects changes
+          (serials_left old.books kept old.books.layout old.books.unit (is_state_of unit_kinds.Queue plan.state) of_kind effects changes
           (step_fits plan.state op) left.serial makes);
     }
+
+    -- an item gets a new serial
+    new_serial : adds_item old.books changes ≡ true → IsNewSerial kept old.books.serial
+    new_serial adds =
+        let next = next_kept old.seat.held.part.records kept begun.keeps.live old.books.serial
+        (subst (λ (ws : List Held). IsNextSerial old.seat.held.part.records ws old.books.serial) ready.rests.written
+        (ready.runs.agrees.1.serials (queue_of old.books.layout old.books.unit changes adds))) in
+        let some = next.some in
+        let same = next.is in
+        record {
+          some = omega arith;
+          last = left.serial adds;
+          above = λ other there. let low = next.above other there in omega arith;
+        }
 
     unused : (n : ℕ) → old.books.identity ≤ n → newest_of n kept ≡ None
     unused n low =
@@ -150,8 +165,8 @@ module _ (heap : HeapShown) (old : RegionShown) (q : CallerShown) (op : Op) (rep
 
       are_effects : (epoch : ℕ) → AreEffects old.books.unit kept effects (written epoch)
       are_effects epoch =
-          effects_by old.books.layout old.books.unit old.books.serial epoch kept (is_queue plan.state) of_kind old.books.identity effects
-          changes w.slots unused (step_fits plan.state op) left.serial makes w.each
+          effects_by old.books old.books.layout old.books.unit epoch kept (is_state_of unit_kinds.Queue plan.state) of_kind old.books.identity effects
+          changes w.slots unused (step_fits plan.state op) new_serial makes w.each
 
       same_epoch : g.epoch ≡ guard.epoch
       same_epoch = ap (λ (x : Guard). x.epoch) w.guard_is
@@ -222,6 +237,10 @@ module _ (heap : HeapShown) (old : RegionShown) (q : CallerShown) (op : Op) (rep
         -- what it leaves
         pub answered_call : HasAnsweredCall heap old new q r op receipt
         answered_call = record {
+          showed =
+              shows_before heap old done same_unit same_history
+              (λ identity. ap (live_of identity) same_records ∙ begun.keeps.live identity)
+              (sound_shows heap done w.under_way.runs.agrees.0 k.answered.sound_before);
           judged = judged_in old receipt.entry.reply refl reply_is (λ identity. refl);
           receipt_is =
               k.answered.receipt_is
@@ -240,6 +259,9 @@ module _ (heap : HeapShown) (old : RegionShown) (q : CallerShown) (op : Op) (rep
                 };
               });
           history = ap (λ (p : UnitPart). p.history) k.part ∙ (λ i. same_history i ++ receipt.entry ∷ []);
+          not_before =
+              subst (λ (u : ℕ). slice_index q.held.part.fronts u ≤ receipt.place) (same_seat ∙ sym ready.runs.agrees.0)
+              k.answered.not_before;
           reached = subst (IsReachedBy q old) (sym (same_epoch_now ∙ same_epoch)) begun.reached;
           wrote = record {
             kept = kept;
@@ -256,9 +278,10 @@ module _ (heap : HeapShown) (old : RegionShown) (q : CallerShown) (op : Op) (rep
           identity =
               ap (λ (b : BooksShown). b.identity) k.answered.books
               ∙ (let here = w.identity in let before = begun.keeps.identity in
-              let many = inserts_are kept old.books.serial effects changes makes in omega arith);
+              let many = inserts_are old.books kept effects changes makes in omega arith);
           of_unit = ap (λ (b : BooksShown). b.unit) k.answered.books ∙ same_unit;
           ready = k.answered.ready;
+          sound = k.answered.sound;
         }
 
         pub has_carried : HasCarried old new changes receipt last
@@ -281,8 +304,8 @@ module _ (heap : HeapShown) (old : RegionShown) (q : CallerShown) (op : Op) (rep
   module _ (none : changes ≡ []) where
     no_effects : effects ≡ []
     no_effects =
-        none_made old.seat.held.part.records old.books.serial effects
-        (subst (λ (cs : List Change). AllZip (Makes old.seat.held.part.records old.books.serial) effects cs) none plan.makes)
+        none_made old.books old.seat.held.part.records effects
+        (subst (λ (cs : List Change). AllZip (Makes old.books old.seat.held.part.records) effects cs) none plan.makes)
 
     are_none : AreEffects old.books.unit old.seat.held.part.records effects []
     are_none = subst (λ (es : List Effect). AreEffects old.books.unit old.seat.held.part.records es []) (sym no_effects) tt
@@ -311,16 +334,24 @@ module _ (heap : HeapShown) (old : RegionShown) (q : CallerShown) (op : Op) (rep
 
       pub answered_read : HasAnsweredCall heap old new q r op receipt
       answered_read = record {
+        showed = sound_shows heap old ready.runs.agrees.0 k.answered.sound_before;
         judged = judged_in old receipt.entry.reply refl read_reply (λ identity. refl);
         receipt_is =
             k.answered.receipt_is
             ∙ ap (λ (told : Reply). receipt_of old.seat.held (answer_of q.held op told receipt.entry.epoch)) (sym read_reply);
         caller = k.answered.caller;
         history = ap (λ (p : UnitPart). p.history) k.part;
+        not_before =
+            subst (λ (u : ℕ). slice_index q.held.part.fronts u ≤ receipt.place) (sym ready.runs.agrees.0) k.answered.not_before;
         reached =
             let newest = k.clock.not_before in
             let durable = k.clock.not_behind in
-            record { not_before = omega arith; not_behind = omega arith; after_entries = k.clock.after_entries };
+            record {
+              not_before = omega arith;
+              not_behind = omega arith;
+              after_entries = k.clock.after_entries;
+              after_durable = k.clock.after_durable;
+            };
         wrote = record {
           kept = old.seat.held.part.records;
           live = λ identity. refl;
@@ -339,6 +370,7 @@ module _ (heap : HeapShown) (old : RegionShown) (q : CallerShown) (op : Op) (rep
             let same = same_identity in omega arith;
         of_unit = ap (λ (b : BooksShown). b.unit) k.answered.books;
         ready = k.answered.ready;
+        sound = k.answered.sound;
       }
 
       carried_none : HasCarried old new [] receipt None

@@ -17,10 +17,10 @@ use Rattle.mont_base.specs.declared.refusal.Which.{Which}
 use Rattle.mont_base.specs.Layout.{Shape, kind_of, is_of_kind}
 use Rattle.mont_laws.specs.Records.{live_of}
 use Rattle.core_steps.specs.declared.parts.CallerPart.{CallerPart}
-use Rattle.slots.specs.Books.{RegionShown}
+use Rattle.slots.specs.Books.{BooksShown, RegionShown}
 use Rattle.slots.specs.Changes.{NamesLive, IsLiveAt, ends_version, greatest_version, version_in, has_serial, serial_in, inserts, is_insert}
-use Rattle.slots.proofs.Agreements.{live_newest}
-use Rattle.structure_call.specs.Planning.{NamesThing, HoldsThing, Makes, adds_item, first_at_end}
+use Rattle.structure_call.proofs.KeptPlans.{newest_live}
+use Rattle.structure_call.specs.Planning.{NamesThing, IsBodyNext, Makes, adds_item, first_at_end}
 use Rattle.structure_call.proofs.ChangeEffects.{FitsKind, AllFit, is_item, has_one, has_more}
 
 -- ---- numbers that are left, each to what it is asked for
@@ -57,17 +57,17 @@ numbers_left q r changes none =
     few left asked e = grind (arith, nat_tests)
 
 -- ---- each change by itself
-module _ (kept : List Held) (serial : ℕ) where
+module _ (b : BooksShown) (kept : List Held) where
   live_at : (thing : Thing) (slot identity : ℕ) → NamesThing kept thing slot identity → IsLiveAt kept slot identity
   live_at thing slot identity k = record { live = k.live; is = k.is; in_slot = k.in_slot }
 
-  names_live : (e : Effect) (c : Change) → Makes kept serial e c → NamesLive kept c
+  names_live : (e : Effect) (c : Change) → Makes b kept e c → NamesLive kept c
   names_live (Inserts thing) (Insert body) h = tt
   names_live (Replaces thing) (Replace slot identity body) h = live_at thing slot identity h.0
   names_live (Removes thing) (Remove slot identity) h = live_at thing slot identity h
   names_live _ _ h = absurd h
 
-  pub all_live : (es : List Effect) (cs : List Change) → AllZip (Makes kept serial) es cs → All (NamesLive kept) cs
+  pub all_live : (es : List Effect) (cs : List Change) → AllZip (Makes b kept) es cs → All (NamesLive kept) cs
   all_live [] [] h = All-nil (NamesLive kept)
   all_live [] (c ∷ cs) h = absurd h
   all_live (e ∷ es) [] h = absurd h
@@ -78,10 +78,10 @@ module _ (kept : List Held) (serial : ℕ) where
     same_version : (thing : Thing) (slot identity : ℕ) → NamesThing kept thing slot identity
         → greatest_version identity kept ≡ greatest_version identity old
     same_version thing slot identity k =
-        ap version_in (live_newest kept identity k.live k.is
-        ∙ sym (live_newest old identity k.live (sym (live identity) ∙ k.is)))
+        ap version_in (newest_live kept identity k.live k.is
+        ∙ sym (newest_live old identity k.live (sym (live identity) ∙ k.is)))
 
-    version_left : (e : Effect) (c : Change) → Makes kept serial e c → ends_version old c ≡ false → ends_version kept c ≡ false
+    version_left : (e : Effect) (c : Change) → Makes b kept e c → ends_version old c ≡ false → ends_version kept c ≡ false
     version_left (Inserts thing) (Insert body) h left = refl
     version_left (Replaces thing) (Replace slot identity body) h left =
         ap (λ (v : ℕ). nat_le LAST v) (same_version thing slot identity h.0) ∙ left
@@ -93,7 +93,7 @@ module _ (kept : List Held) (serial : ℕ) where
     neither true b e = absurd (cc)
     neither false b e = (refl, e)
 
-    pub versions_left : (es : List Effect) (cs : List Change) → AllZip (Makes kept serial) es cs
+    pub versions_left : (es : List Effect) (cs : List Change) → AllZip (Makes b kept) es cs
         → list_any (ends_version old) cs ≡ false → All (λ (c : Change). ends_version kept c ≡ false) cs
     versions_left [] [] h left = All-nil (λ (c : Change). ends_version kept c ≡ false)
     versions_left [] (c ∷ cs) h left = absurd h
@@ -111,16 +111,16 @@ module _ (kept : List Held) (serial : ℕ) where
         by true is e = (sym is, e)
         by false is e = absurd (cc)
 
-    item_serial : (thing : Thing) (body : List ℕ) → is_item thing ≡ true → serial ≤ LAST → HoldsThing kept serial thing body
+    item_serial : (thing : Thing) (body : List ℕ) → is_item thing ≡ true → b.serial ≤ LAST → IsBodyNext b kept thing body
         → slice_index body 0 ≤ LAST
-    item_serial (Item item) body is low k =
-        let first : slice_index body 0 ≡ serial = ap (λ (words : List ℕ). slice_index words 0) k.body_is in omega arith
+    item_serial (Item item) body is low h =
+        let first : slice_index body 0 ≡ b.serial = ap (λ (words : List ℕ). slice_index words 0) h in omega arith
     item_serial (Pair key value) body is low h = absurd (cc)
     item_serial (Vertex vertex attribute) body is low h = absurd (cc)
     item_serial (Edge from to attribute) body is low h = absurd (cc)
 
-    serial_left : (e : Effect) (c : Change) → FitsKind queue e → (queue ≡ true → is_insert c ≡ true → serial ≤ LAST)
-        → Makes kept serial e c → has_serial s unit c ≡ true → serial_in c ≤ LAST
+    serial_left : (e : Effect) (c : Change) → FitsKind queue e → (queue ≡ true → is_insert c ≡ true → b.serial ≤ LAST)
+        → Makes b kept e c → has_serial s unit c ≡ true → serial_in c ≤ LAST
     serial_left (Inserts thing) (Insert body) fits low h has =
         let is = of_queue true has in item_serial thing body (fits ∙ is.0) (low is.0 refl) h
     serial_left (Replaces thing) (Replace slot identity body) fits low h has = absurd (cc ((of_queue false has).1))
@@ -128,7 +128,7 @@ module _ (kept : List Held) (serial : ℕ) where
     serial_left _ _ fits low h has = absurd h
 
     pub serials_left : (es : List Effect) (cs : List Change) → AllFit queue es
-        → (list_any (has_serial s unit) cs ≡ true → serial ≤ LAST) → AllZip (Makes kept serial) es cs
+        → (list_any (has_serial s unit) cs ≡ true → b.serial ≤ LAST) → AllZip (Makes b kept) es cs
         → All (λ (c : Change). IsTrue (has_serial s unit c) → serial_in c ≤ LAST) cs
     serials_left [] [] fit low h = All-nil (λ (c : Change). IsTrue (has_serial s unit c) → serial_in c ≤ LAST)
     serials_left [] (c ∷ cs) fit low h = absurd h

@@ -12,11 +12,20 @@ use Rattle.mont_base.specs.declared.record.Change.TheVariants.{Insert, Replace, 
 use Rattle.mont_base.specs.declared.record.Held.{Held}
 use Rattle.mont_base.specs.Layout.{Shape}
 use Rattle.mont_base.specs.State.{State, MapOf, QueueOf, GraphOf}
+use Rattle.mont_base.specs.Versions.{newest_of}
+use Rattle.mont_laws.proofs.Edits.{live_facts}
 use Rattle.mont_laws.specs.Effects.{HasLiveSerial, HasNameOf}
 use Rattle.mont_laws.specs.Records.{live_of}
 use Rattle.mont_laws.specs.Shows.{Shows, live_things, held_in}
 use Rattle.mont_laws.specs.Structures.{HasStructure, pair_for, item_for, part_for, attribute_of}
-use Rattle.structure_call.specs.Planning.{NamesThing, HoldsThing, Makes}
+use Rattle.slots.specs.Books.{BooksShown}
+use Rattle.slots.specs.Serials.{IsNextSerial}
+use Rattle.structure_call.specs.Planning.{NamesThing, IsBodyNext, Makes}
+
+-- a live record is the newest of its identity
+pub newest_live : (records : List Held) (identity : ℕ) (r : Held) → live_of identity records ≡ Some r
+    → newest_of identity records ≡ Some r
+newest_live records identity r is = (live_facts (newest_of identity records) r is).0
 
 module _ (old new : List Held) (live : (identity : ℕ) → live_of identity new ≡ live_of identity old) where
   things_kept : {A : Type 0} (read : List ℕ → Option A) (i : ℕ) → live_things read new i ≡ live_things read old i
@@ -46,6 +55,15 @@ module _ (old new : List Held) (live : (identity : ℕ) → live_of identity new
   serial_kept : (serial : ℕ) → HasLiveSerial new serial → HasLiveSerial old serial
   serial_kept serial h = (h.0, h.1, h.2, sym (live h.0) ∙ h.3, h.4)
 
+  -- the serial that is next is above those of the same items
+  pub next_kept : (serial : ℕ) → IsNextSerial old [] serial → IsNextSerial new [] serial
+  next_kept serial k = record {
+    before = k.before;
+    some = k.some;
+    above = λ other there. k.above other (serial_kept other there);
+    is = k.is;
+  }
+
   name_kept : (thing : Thing) (body : List ℕ) → HasNameOf old thing body → HasNameOf new thing body
   name_kept (Pair key value) body h = h
   name_kept (Item item) body h = (h.0, h.1, λ other there. h.2 other (serial_kept other there))
@@ -60,26 +78,22 @@ module _ (old new : List Held) (live : (identity : ℕ) → live_of identity new
     named = name_kept thing k.live.body k.named;
   }
 
-  body_kept : (serial : ℕ) (thing : Thing) (body : List ℕ) → HoldsThing old serial thing body → HoldsThing new serial thing body
-  body_kept serial (Pair key value) body h = h
-  body_kept serial (Item item) body k = record {
-    body_is = k.body_is;
-    some = k.some;
-    above = λ other there. k.above other (serial_kept other there);
-  }
-  body_kept serial (Vertex vertex attribute) body h = h
-  body_kept serial (Edge from to attribute) body h = h
+  body_kept : (b : BooksShown) (thing : Thing) (body : List ℕ) → IsBodyNext b old thing body → IsBodyNext b new thing body
+  body_kept b (Pair key value) body h = h
+  body_kept b (Item item) body h = h
+  body_kept b (Vertex vertex attribute) body h = h
+  body_kept b (Edge from to attribute) body h = h
 
-  makes_kept : (serial : ℕ) (e : Effect) (c : Change) → Makes old serial e c → Makes new serial e c
-  makes_kept serial (Inserts thing) (Insert body) h = body_kept serial thing body h
-  makes_kept serial (Replaces thing) (Replace slot identity body) h =
-      (names_kept thing slot identity h.0, body_kept serial thing body h.1)
-  makes_kept serial (Removes thing) (Remove slot identity) h = names_kept thing slot identity h
-  makes_kept serial _ _ h = absurd h
+  makes_kept : (b : BooksShown) (e : Effect) (c : Change) → Makes b old e c → Makes b new e c
+  makes_kept b (Inserts thing) (Insert body) h = body_kept b thing body h
+  makes_kept b (Replaces thing) (Replace slot identity body) h =
+      (names_kept thing slot identity h.0, body_kept b thing body h.1)
+  makes_kept b (Removes thing) (Remove slot identity) h = names_kept thing slot identity h
+  makes_kept b _ _ h = absurd h
 
   -- the same changes make the same effects
-  pub all_kept : (serial : ℕ) (es : List Effect) (cs : List Change) → AllZip (Makes old serial) es cs → AllZip (Makes new serial) es cs
-  all_kept serial [] [] h = h
-  all_kept serial [] (c ∷ cs) h = h
-  all_kept serial (e ∷ es) [] h = h
-  all_kept serial (e ∷ es) (c ∷ cs) h = (makes_kept serial e c h.0, all_kept serial es cs h.1)
+  pub all_kept : (b : BooksShown) (es : List Effect) (cs : List Change) → AllZip (Makes b old) es cs → AllZip (Makes b new) es cs
+  all_kept b [] [] h = h
+  all_kept b [] (c ∷ cs) h = h
+  all_kept b (e ∷ es) [] h = h
+  all_kept b (e ∷ es) (c ∷ cs) h = (makes_kept b e c h.0, all_kept b es cs h.1)

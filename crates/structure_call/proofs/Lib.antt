@@ -1,4 +1,5 @@
 pub mod KeptPlans
+pub mod SoundHistories
 pub mod ChangeEffects
 pub mod ChangeNumbers
 pub mod ChangeRecords

@@ -1,5 +1,5 @@
 -- What a call of a structure leaves, whatever its kind.
-use Rattle.std.specs.Prelude.{◌≡◌, ℕ, ◌+◌, Bool, true, false, List, [], ◌∷◌, ◌++◌, All, count_by, length, Err}
+use Rattle.std.specs.Prelude.{◌≡◌, ℕ, ◌+◌, ◌≤◌, Bool, true, false, List, [], ◌∷◌, ◌++◌, All, count_by, length, slice_index, Err}
 use Rattle.std.specs.declared.result.Result.{Result}
 use Rattle.mont_base.specs.declared.effect.Effect.{Effect}
 use Rattle.mont_base.specs.declared.effect.Effect.TheVariants.{Inserts}
@@ -22,6 +22,8 @@ use Rattle.heap_rule.specs.Views.{caller_answered}
 use Rattle.op_guard.specs.Guarding.{IsReachedBy}
 use Rattle.op_guard.specs.Regions.{IsReady}
 use Rattle.slots.specs.Books.{RegionShown}
+use Rattle.slots.specs.Reclaiming.{IsSound}
+use Rattle.structure_call.specs.Standing.{ShowsHistory}
 use Rattle.structure_call.specs.Planning.{IsPlan}
 use Rattle.structure_call.specs.Checking.{WasHaltedBefore, EndsCount}
 use Rattle.structure_call.specs.Carrying.{LeavesUncarried}
@@ -41,11 +43,12 @@ abbrev pub is_insertion : Effect → Bool
 is_insertion (Inserts thing) = true
 is_insertion _ = false
 
--- The unit has one entry more, in the order that the caller had seen. Its reply is the plain step's
--- on the state that the unit's records showed.
+-- The unit has one entry more, behind all that the caller had seen of it. Its reply is the plain
+-- step's on the state that the unit's records showed, and to which its history had led.
 pub record HasAnsweredCall
     (heap : HeapShown) (old new : RegionShown) (q r : CallerShown) (op : Op) (receipt : Receipt)
     : Type 0 where
+  pub showed : ShowsHistory heap old
   pub judged : IsJudged heap.opening.layout old.books.unit old.seat.held.part op
       receipt.entry.reply
   pub receipt_is : receipt
@@ -57,6 +60,7 @@ pub record HasAnsweredCall
   }
   pub history : new.seat.held.part.history
       ≡ old.seat.held.part.history ++ receipt.entry ∷ []
+  pub not_before : slice_index q.held.part.fronts old.books.unit ≤ receipt.place
   pub reached : IsReachedBy q old receipt.entry.epoch
   pub wrote : HasWritten old.books.unit old.seat.held.part.records new.seat.held.part.records
       (step judged.state op).effects receipt.entry.epoch
@@ -66,15 +70,17 @@ pub record HasAnsweredCall
       ≡ old.books.identity + count_by is_insertion (step judged.state op).effects
   pub of_unit : new.books.unit ≡ old.books.unit
   pub ready : IsReady heap new
+  pub sound : IsSound heap new
 
 -- ---- refusals
 -- a number is at its end for the changes of the operation
 pub record HasEnd
-    (old new : RegionShown) (q r : CallerShown) (op : Op) (why : CallRefusal) : Type 0 where
+    (heap : HeapShown) (old new : RegionShown) (q r : CallerShown) (op : Op) (why : CallRefusal)
+    : Type 0 where
   pub reply : Reply
   pub changes : List Change
   pub plan : IsPlan old op reply changes
-  pub ends : EndsCount old new q r changes why
+  pub ends : EndsCount heap old new q r changes why
 
 -- nothing changed but spare room
 abbrev pub IsUntouched : RegionShown → RegionShown → CallerShown → CallerShown → Type 0
@@ -91,8 +97,8 @@ pub record IsUncarried
 
 abbrev pub LeavesCall :
     HeapShown → RegionShown → RegionShown → CallerShown → CallerShown → Op → CallRefusal → Type 0
-LeavesCall heap old new q r op (Halted unit by) = WasHaltedBefore old new q r (Halted unit by)
-LeavesCall heap old new q r op (CountEnd which) = HasEnd old new q r op (CountEnd which)
+LeavesCall heap old new q r op (Halted unit by) = WasHaltedBefore heap old new q r (Halted unit by)
+LeavesCall heap old new q r op (CountEnd which) = HasEnd heap old new q r op (CountEnd which)
 LeavesCall heap old new q r op Memory = IsUntouched old new q r
 LeavesCall heap old new q r op (Full need free clock) =
     IsUncarried heap old new q r op (Full need free clock)

@@ -1,11 +1,11 @@
 -- A planned operation: what it is answered, and the changes that make its effects.
-use Rattle.std.specs.Prelude.{◌≡◌, ℕ, ◌<◌, ◌≤◌, nat_lt, Bool, List, Option, Some, if◌then◌else◌}
+use Rattle.std.specs.Prelude.{◌≡◌, ℕ, nat_lt, Bool, List, Option, Some, if◌then◌else◌}
 use Rattle.std.specs.List.{AllZip, list_any}
 use Rattle.mont_base.specs.declared.constants.TheConstants.{LAST}
 use Rattle.mont_base.specs.declared.effect.Effect.{Effect}
 use Rattle.mont_base.specs.declared.effect.Effect.TheVariants.{Inserts, Replaces, Removes}
 use Rattle.mont_base.specs.declared.effect.Thing.{Thing}
-use Rattle.mont_base.specs.declared.effect.Thing.TheVariants.{Item}
+use Rattle.mont_base.specs.declared.effect.Thing.TheVariants.{Pair, Item, Vertex, Edge}
 use Rattle.mont_base.specs.declared.operation.Op.{Op}
 use Rattle.mont_base.specs.declared.operation.Reply.{Reply}
 use Rattle.mont_base.specs.declared.record.Change.{Change}
@@ -15,7 +15,7 @@ use Rattle.mont_base.specs.declared.refusal.Which.{Which}
 use Rattle.mont_base.specs.declared.refusal.Which.TheVariants as ends
 use Rattle.mont_base.specs.Bodies.{item_body}
 use Rattle.mont_base.specs.State.{State, step}
-use Rattle.mont_laws.specs.Effects.{IsOpOf, HasNameOf, IsBodyOf, HasLiveSerial}
+use Rattle.mont_laws.specs.Effects.{IsOpOf, HasNameOf, IsBodyOf}
 use Rattle.mont_laws.specs.Records.{live_of}
 use Rattle.mont_laws.specs.Structures.{HasStructure}
 use Rattle.core_steps.specs.declared.parts.CallerPart.{CallerPart}
@@ -30,26 +30,22 @@ pub record NamesThing (records : List Held) (thing : Thing) (slot identity : ℕ
   pub in_slot : live.slot ≡ slot
   pub named : HasNameOf records thing live.body
 
--- An item gets the serial that is next, which is above that of each live item. It may be above
--- the last number.
-pub record IsNextItem (records : List Held) (serial item : ℕ) (body : List ℕ) : Type 0 where
-  pub body_is : body ≡ item_body serial item
-  pub some : 1 ≤ serial
-  pub above : (other : ℕ) → HasLiveSerial records other → other < serial
+-- a body is that of a thing; an item has the serial that is next, which may be above the last
+-- number
+abbrev pub IsBodyNext : BooksShown → List Held → Thing → List ℕ → Type 0
+IsBodyNext b records (Pair key value) body = IsBodyOf records (Pair key value) body
+IsBodyNext b records (Item item) body = body ≡ item_body b.serial item
+IsBodyNext b records (Vertex vertex attribute) body =
+    IsBodyOf records (Vertex vertex attribute) body
+IsBodyNext b records (Edge from to attribute) body = IsBodyOf records (Edge from to attribute) body
 
--- a body is that of a thing
-abbrev pub HoldsThing : List Held → ℕ → Thing → List ℕ → Type 0
-HoldsThing records serial (Item item) body = IsNextItem records serial item body
-HoldsThing records serial thing body = IsBodyOf records thing body
-
--- a change makes an effect, where this serial is next
-abbrev pub Makes : List Held → ℕ → Effect → Change → Type 0
-Makes records serial (Inserts thing) (Insert body) = HoldsThing records serial thing body
-Makes records serial (Replaces thing) (Replace slot identity body) =
-    NamesThing records thing slot identity × HoldsThing records serial thing body
-Makes records serial (Removes thing) (Remove slot identity) =
-    NamesThing records thing slot identity
-Makes records serial _ _ = ⊥
+-- a change makes an effect
+abbrev pub Makes : BooksShown → List Held → Effect → Change → Type 0
+Makes b records (Inserts thing) (Insert body) = IsBodyNext b records thing body
+Makes b records (Replaces thing) (Replace slot identity body) =
+    NamesThing records thing slot identity × IsBodyNext b records thing body
+Makes b records (Removes thing) (Remove slot identity) = NamesThing records thing slot identity
+Makes b records _ _ = ⊥
 
 -- The reply is the plain step's on the state that the unit's records show, and the changes make
 -- its effects, one for each, in their order.
@@ -59,8 +55,7 @@ pub record IsPlan
   pub state : State
   pub shown : HasStructure r.books.layout r.books.unit r.seat.held.part.records state
   pub replies : reply ≡ (step state op).reply
-  pub makes : AllZip (Makes r.seat.held.part.records r.books.serial) (step state op).effects
-      changes
+  pub makes : AllZip (Makes r.books r.seat.held.part.records) (step state op).effects changes
 
 -- ---- numbers
 -- an item is added to a queue

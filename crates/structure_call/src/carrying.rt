@@ -3,8 +3,10 @@
 ghost use Rattle.std.specs.Prelude.{◌≡◌, ◌≤◌, ◌+◌, [], ◌∷◌, ◌++◌, length, None, IfOk, OnOk, IfErr, OnErr, is_err};
 ghost use Rattle.heap.specs.GateAsked.{IsAskedOften};
 ghost use Rattle.heap_pass.specs.Spare.{spare_of};
+ghost use Rattle.slots.specs.Books.{Agrees};
 ghost use Rattle.op_guard.specs.Regions.{IsReady, IsUnderWay, WasHalted};
 ghost use Rattle.structure_call.specs.Planning.{IsPlan, first_at_end};
+ghost use Rattle.structure_call.specs.Standing.{IsStanding};
 ghost use Rattle.structure_call.specs.Carrying.{CanPutAll, HasWrittenAll, HasCarried, LeavesUncarried};
 ghost use Rattle.structure_call.specs.Calling.{HasAnsweredCall, was_cut};
 
@@ -53,6 +55,8 @@ pub fn carry_out<R: Wait, G: Gate>(
     ensures kept { OnErr result (pass.new.receipts ≡ pass.old.receipts) }
     ensures refused { IfErr result (λ why. LeavesUncarried heap.now region.old region.new
         pass.old.ticket pass.new.ticket (length changes.now) why) }
+    ensures agrees { Agrees region.new }
+    ensures stands { IsStanding heap.now region.new }
 {
     let unit = region.unit();
     if changes.is_empty() {

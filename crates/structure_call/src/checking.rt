@@ -17,13 +17,15 @@ pub fn check_running<G: Gate>(
     pass: &mut Pass<G>,
 ) -> Result<(), CallRefusal>
     requires region { region.old.seat.table ≡ heap.now.table }
+    requires agrees { Agrees region.old }
     requires pass { pass.old.ticket.table ≡ heap.now.table }
     ensures gate { pass.new.gate ≡ pass.old.gate }
     ensures receipts { pass.new.receipts ≡ pass.old.receipts }
+    ensures agrees { Agrees region.new }
     ensures ok { OnOk result ((region.old.books.halted ≡ None) × (region.new ≡ region.old)
         × (pass.new.ticket ≡ pass.old.ticket)) }
-    ensures halted { IfErr result (λ why. WasHaltedBefore region.old region.new pass.old.ticket
-        pass.new.ticket why) }
+    ensures halted { IfErr result (λ why. WasHaltedBefore heap.now region.old region.new
+        pass.old.ticket pass.new.ticket why) }
 {
     let Some(by) = region.halted() else {
         return Ok(());
@@ -51,11 +53,12 @@ pub fn check_numbers<G: Gate>(
     requires serial { serial ≡ adds_item region.old.books changes.now }
     ensures gate { pass.new.gate ≡ pass.old.gate }
     ensures receipts { pass.new.receipts ≡ pass.old.receipts }
+    ensures agrees { Agrees region.new }
     ensures ok { OnOk result (
         (first_at_end pass.old.ticket.held.part region.old changes.now ≡ None)
         × (region.new ≡ region.old) × (pass.new.ticket ≡ pass.old.ticket)) }
-    ensures ends { IfErr result (λ why. EndsCount region.old region.new pass.old.ticket
-        pass.new.ticket changes.now why) }
+    ensures ends { IfErr result (λ why. EndsCount heap.now region.old region.new
+        pass.old.ticket pass.new.ticket changes.now why) }
 {
     let which = if pass.ticket.calls() > LAST {
         Some(Which::Call)
