@@ -27,6 +27,7 @@ use Rattle.heap.specs.HeapShown.{HeapShown, CallerShown}
 use Rattle.heap.specs.Receipts.{receipt_of}
 use Rattle.heap_rule.specs.Plays.{answer_of}
 use Rattle.slots.specs.Books.{BooksShown, RegionShown, HasLowerIdentity}
+use Rattle.slots.specs.Serials.{IsNextSerial}
 use Rattle.slots.specs.Changes.{record_by, identity_after, has_serial, serial_in}
 use Rattle.op_guard.specs.declared.guard.Guard.{Guard}
 use Rattle.op_guard.specs.Answered.{HasCommitted, HasRead}
@@ -34,7 +35,7 @@ use Rattle.op_guard.specs.Guarding.{HasBegun, IsReachedBy}
 use Rattle.op_guard.specs.Regions.{IsReady}
 use Rattle.structure_call.specs.Calling.{HasAnsweredCall, is_insertion}
 use Rattle.structure_call.specs.Carrying.{CanPutAll, HasWrittenAll, HasCarried, records_by, serial_behind}
-use Rattle.structure_call.specs.Planning.{IsPlan, Makes, first_at_end}
+use Rattle.structure_call.specs.Planning.{IsPlan, Makes, adds_item, first_at_end}
 use Rattle.structure_call.proofs.ChangeEffects.{step_fits, effects_by, queue_of, inserts_are, none_made}
 use Rattle.structure_call.proofs.ChangeNumbers.{AreLeft, numbers_left, all_live, versions_left, serials_left}
 use Rattle.structure_call.proofs.SoundHistories.{sound_shows, shows_before}

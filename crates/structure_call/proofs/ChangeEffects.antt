@@ -4,7 +4,6 @@ use Rattle.std.specs.Prelude.{◌||◌, ◌&&◌, Option, Some, None, count_by}
 use Rattle.std.specs.List.{AllZip, list_any}
 use Rattle.std.specs.FinMap as finite
 use Rattle.std.proofs.lemmas.List.Sums.{sum_by-cons}
-use Rattle.mont_base.specs.declared.constants.TheConstants.{LAST}
 use Rattle.mont_base.specs.declared.effect.Effect.{Effect}
 use Rattle.mont_base.specs.declared.effect.Effect.TheVariants.{Inserts, Replaces, Removes}
 use Rattle.mont_base.specs.declared.effect.Thing.{Thing}

@@ -1,5 +1,6 @@
 pub mod KeptPlans
 pub mod SoundHistories
+pub mod Notes
 pub mod ChangeEffects
 pub mod ChangeNumbers
 pub mod ChangeRecords

@@ -1,7 +1,7 @@
 -- The records of a unit that is sound show the state to which its history leads.
 use Rattle.std.proofs.Common.{◌≡◌, ℕ, List, sym, subst}
 use Rattle.mont_base.specs.declared.operation.Entry.{Entry}
-use Rattle.mont_base.specs.Image.{clock_of, IsRecovered}
+use Rattle.mont_base.specs.Image.{clock_of}
 use Rattle.mont_base.specs.History.{state_after}
 use Rattle.mont_base.specs.State.{State}
 use Rattle.mont_laws.specs.Records.{live_of}
@@ -9,8 +9,6 @@ use Rattle.mont_laws.specs.Structures.{HasStructure}
 use Rattle.core_steps.specs.Opened.{opened_at}
 use Rattle.core_steps.specs.Sound.{base_state}
 use Rattle.heap.specs.HeapShown.{HeapShown}
-use Rattle.heap_rule.specs.SoundUnits.{IsSoundUnit}
-use Rattle.heap_rule.specs.declared.views.UnitHeld.{UnitHeld}
 use Rattle.heap_rule.proofs.ShownHistories.{sound_units_show_histories}
 use Rattle.slots.specs.Books.{RegionShown}
 use Rattle.slots.specs.Reclaiming.{IsSound}

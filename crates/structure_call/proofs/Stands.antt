@@ -1,8 +1,8 @@
 -- A region stands before and after each call.
-use Rattle.std.proofs.Common.{◌≡◌, ℕ, sym, ap, ◌∙◌, subst}
-use Rattle.std.specs.Prelude.{Some, None, Result, Ok, Err}
+use Rattle.std.proofs.Common.{◌≡◌, ℕ, sym, ap, subst}
+use Rattle.std.specs.Prelude.{None}
 use Rattle.mont_base.specs.declared.refusal.CallRefusal.{CallRefusal}
-use Rattle.mont_base.specs.declared.refusal.CallRefusal.TheVariants.{Full, Cut, Halted, CountEnd, Memory}
+use Rattle.mont_base.specs.declared.refusal.CallRefusal.TheVariants.{Full, Cut}
 use Rattle.heap.specs.HeapShown.{HeapShown, CallerShown}
 use Rattle.heap_rule.specs.declared.views.UnitTurn.{UnitTurn}
 use Rattle.slots.specs.Books.{RegionShown, Agrees}
@@ -51,7 +51,3 @@ uncarried_stands heap old new q r many (Full need free clock) k =
     (k.1.ready.runs.agrees, full_stands heap old new q r need free clock k.1)
 uncarried_stands heap old new q r many (Cut unit) k = (k.1.agrees, halted_stands heap old new q r k.1)
 uncarried_stands heap old new q r many _ k = absurd k
-
--- ---- it stands in one way
-pub standing_once : (heap : HeapShown) (r : RegionShown) → IsProp (IsStanding heap r)
-standing_once heap r = ?

@@ -1,5 +1,6 @@
 -- What stands of a unit between two calls, as its lock keeps it.
 use Rattle.std.specs.Prelude.{◌≡◌, false, List, None, IsTrue}
+use Rattle.std.proofs.Props.{props}
 use Rattle.mont_base.specs.Image.{clock_of, IsRecovered}
 use Rattle.mont_base.specs.Layout.{units_of}
 use Rattle.mont_base.specs.History.{state_after}
@@ -24,6 +25,10 @@ pub record IsStanding (heap : HeapShown) (r : RegionShown) : Type 0 where
   pub clean : IsTrue (are_clean (units_of heap.opening.layout) r.seat.held.clean)
   pub home : r.seat.held.turn.out ≡ false
   pub idle : r.books.halted ≡ None → IsIdle r.seat.held
+
+-- it does in one way at most
+pub standing_once : (heap : HeapShown) (r : RegionShown) → IsProp (IsStanding heap r)
+standing_once heap r = hlevel props
 
 -- The records show the state to which the unit's history leads from what recovery gave it when the
 -- store was opened.

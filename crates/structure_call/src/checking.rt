@@ -3,7 +3,7 @@ ghost use Rattle.std.specs.Prelude.{◌≡◌, None, All, OnOk, OnErr, IfErr};
 ghost use Rattle.slots.specs.Books.{Agrees};
 ghost use Rattle.slots.specs.Changes.{NamesLive};
 ghost use Rattle.structure_call.specs.Planning.{adds_item, first_at_end};
-ghost use Rattle.structure_call.specs.Checking.{WasHaltedBefore, EndsCount};
+ghost use Rattle.structure_call.specs.Checking.{WasNoted, WasHaltedBefore, EndsCount};
 
 use heap::Heap;
 use heap_pass::Pass;
@@ -30,7 +30,7 @@ pub fn check_running<G: Gate>(
     let Some(by) = region.halted() else {
         return Ok(());
     };
-    heap.hear_unit(&mut pass.ticket, region.seat_mut());
+    take_note(heap, region, pass);
     Err(CallRefusal::Halted {
         unit: region.unit(),
         by,
@@ -68,6 +68,18 @@ pub fn check_numbers<G: Gate>(
     let Some(which) = which else {
         return Ok(());
     };
-    heap.hear_unit(&mut pass.ticket, region.seat_mut());
+    take_note(heap, region, pass);
     Err(CallRefusal::CountEnd { which })
+}
+
+// The pass takes a note of the unit.
+fn take_note<G: Gate>(heap: &Heap, region: &mut Region, pass: &mut Pass<G>)
+    requires region { region.old.seat.table ≡ heap.now.table }
+    requires agrees { Agrees region.old }
+    requires pass { pass.old.ticket.table ≡ heap.now.table }
+    ensures gate { pass.new.gate ≡ pass.old.gate }
+    ensures receipts { pass.new.receipts ≡ pass.old.receipts }
+    ensures noted { WasNoted heap.now region.old region.new pass.old.ticket pass.new.ticket }
+{
+    heap.hear_unit(&mut pass.ticket, region.seat_mut());
 }
