@@ -166,8 +166,8 @@ module _ (heap : HeapShown) (old : RegionShown) (q : CallerShown) (op : Op) (rep
 
       are_effects : (epoch : ℕ) → AreEffects old.books.unit kept effects (written epoch)
       are_effects epoch =
-          effects_by old.books old.books.layout old.books.unit epoch kept (is_state_of unit_kinds.Queue plan.state) of_kind old.books.identity effects
-          changes w.slots unused (step_fits plan.state op) new_serial makes w.each
+          effects_by old.books old.books.layout old.books.unit epoch kept (is_state_of unit_kinds.Queue plan.state) of_kind
+          old.books.identity effects changes w.slots unused (step_fits plan.state op) new_serial makes w.each
 
       same_epoch : g.epoch ≡ guard.epoch
       same_epoch = ap (λ (x : Guard). x.epoch) w.guard_is

@@ -28,8 +28,8 @@ use Rattle.structure_call.specs.Planning.{IsPlan}
 use Rattle.structure_call.specs.Checking.{WasHaltedBefore, EndsCount}
 use Rattle.structure_call.specs.Carrying.{LeavesUncarried}
 
--- What was written are these effects, each with the entry's epoch. Nothing else of what is live is
--- another.
+-- Behind records of which the same are live as before stand those that the effects write, each
+-- with the entry's epoch.
 pub record HasWritten
     (unit : ℕ) (old new : List Held) (effects : List Effect) (epoch : ℕ) : Type 0 where
   pub kept : List Held
@@ -39,6 +39,7 @@ pub record HasWritten
   pub are_effects : AreEffects unit kept effects written
   pub epochs : All (λ (w : Held). w.label.epoch ≡ epoch) written
 
+-- an effect adds an object
 abbrev pub is_insertion : Effect → Bool
 is_insertion (Inserts thing) = true
 is_insertion _ = false

@@ -15,7 +15,7 @@ use Rattle.op_guard.specs.Regions.{IsUnderWay, WasHalted}
 use Rattle.slots.specs.Books.{BooksShown, RegionShown}
 use Rattle.slots.specs.Changes.{NamesLive, inserts, identity_after, record_by, has_serial, serial_in, ends_version}
 
--- the records that changes write into these slots, in their order
+-- ---- what changes write into these slots, in their order
 abbrev pub records_by : ℕ → ℕ → List Held → ℕ → List Change → List ℕ → List Held
 records_by unit next kept epoch [] slots = []
 records_by unit next kept epoch (c ∷ cs) [] = []
@@ -23,6 +23,7 @@ records_by unit next kept epoch (c ∷ cs) (slot ∷ slots) =
     record_by unit next kept c epoch slot
     ∷ records_by unit (identity_after next c) kept epoch cs slots
 
+-- the last slot, if there is one
 abbrev pub last_of : List ℕ → Option ℕ
 last_of [] = None
 last_of (n ∷ []) = Some n
@@ -35,6 +36,7 @@ serial_behind s unit next (c ∷ cs) =
     serial_behind s unit (if has_serial s unit c then serial_in c + 1 else next) cs
 
 -- ---- numbers
+-- an item's serial isn't above the last number
 abbrev pub HasSerialLeft : BooksShown → Change → Type 0
 HasSerialLeft b c = IsTrue (has_serial b.layout b.unit c) → serial_in c ≤ LAST
 

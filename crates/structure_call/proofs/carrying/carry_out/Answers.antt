@@ -107,9 +107,10 @@ returns-clause-answered g c =
     let ok3 = not_cut c.unit-unit.result c.commit-committed.result receipt c.or_cut-3.result c.or_cut-3.ensures c.in_ok-receipt-2.was in
     let committed = IfOk-at_ok (λ (x : Receipt). HasCommitted heap done new c.write_all-written.new.pass.ticket r c.args.op.now
     c.args.reply.now g2.epoch x) ok3 c.commit-committed.ensures.committed in
-    answered_call heap old q c.args.op.now c.args.reply.now changes c.requires.ready c.requires.plan c.requires.numbers mid guard begun done g2
-    last written new r receipt
-    (subst (λ (x : CallerShown). HasCommitted heap done new x r c.args.op.now c.args.reply.now g2.epoch receipt) (same2 ∙ same) committed)
+    answered_call heap old q c.args.op.now c.args.reply.now changes c.requires.ready c.requires.plan c.requires.numbers mid guard begun
+    done g2 last written new r receipt
+    (subst (λ (x : CallerShown). HasCommitted heap done new x r c.args.op.now c.args.reply.now g2.epoch receipt) (same2 ∙ same)
+    committed)
 
 pub returns-clause-carried : goal.returns-clause-carried
 returns-clause-carried g c =
@@ -136,6 +137,7 @@ returns-clause-carried g c =
     let ok3 = not_cut c.unit-unit.result c.commit-committed.result receipt c.or_cut-3.result c.or_cut-3.ensures c.in_ok-receipt-2.was in
     let committed = IfOk-at_ok (λ (x : Receipt). HasCommitted heap done new c.write_all-written.new.pass.ticket r c.args.op.now
     c.args.reply.now g2.epoch x) ok3 c.commit-committed.ensures.committed in
-    has_carried heap old q c.args.op.now c.args.reply.now changes c.requires.ready c.requires.plan c.requires.numbers mid guard begun done g2
-    last written new r receipt
-    (subst (λ (x : CallerShown). HasCommitted heap done new x r c.args.op.now c.args.reply.now g2.epoch receipt) (same2 ∙ same) committed)
+    has_carried heap old q c.args.op.now c.args.reply.now changes c.requires.ready c.requires.plan c.requires.numbers mid guard begun
+    done g2 last written new r receipt
+    (subst (λ (x : CallerShown). HasCommitted heap done new x r c.args.op.now c.args.reply.now g2.epoch receipt) (same2 ∙ same)
+    committed)
