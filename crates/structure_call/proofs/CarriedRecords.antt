@@ -53,7 +53,8 @@ module _ (heap : HeapShown) (old new : RegionShown) (q r : CallerShown) (op : Op
 
   pub same_records : (a.wrote.kept ≡ k.kept) × (a.wrote.written ≡ written)
   same_records =
-      let effects = AllZip-long (IsEffect old.books.unit a.wrote.kept) (step a.judged.state op).effects a.wrote.written a.wrote.are_effects in
+      let effects = AllZip-long (IsEffect old.books.unit a.wrote.kept) (step a.judged.state op).effects a.wrote.written
+      a.wrote.are_effects in
       let asked : length (step a.judged.state op).effects ≡ length (step plan.state op).effects =
       ap (λ (s : State). length (step s op).effects) same_state in
       let made = AllZip-long (Makes old.books old.seat.held.part.records) (step plan.state op).effects changes plan.makes in
