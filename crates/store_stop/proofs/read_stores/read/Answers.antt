@@ -1,4 +1,4 @@
-use Rattle.std.proofs.Common.{◌+◌, ◌<◌, List, length, map, set, ap, sym, ◌∙◌, subst, refl, arith}
+use Rattle.std.proofs.Common.{◌+◌, List, map, set, ap, sym, ◌∙◌, subst, arith}
 use Rattle.std.proofs.lemmas.List.{map-set}
 use Rattle.core_steps.specs.Answering.{CanRead}
 use Rattle.core_steps.proofs.RowFacts.{row_in_map}
