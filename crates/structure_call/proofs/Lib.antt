@@ -1,0 +1,11 @@
+pub mod KeptPlans
+pub mod SoundHistories
+pub mod Notes
+pub mod ChangeEffects
+pub mod ChangeNumbers
+pub mod ChangeRecords
+pub mod WrittenChanges
+pub mod CarriedOut
+pub mod Stands
+pub mod Refusals
+pub mod CarriedRecords

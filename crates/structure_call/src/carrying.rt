@@ -1,0 +1,123 @@
+// How a planned operation is carried out: one step where it changes nothing, else the steps of a
+// guard.
+ghost use Rattle.std.specs.Prelude.{◌≡◌, ◌≤◌, ◌+◌, [], ◌∷◌, ◌++◌, length, None, IfOk, OnOk, IfErr, OnErr, is_err};
+ghost use Rattle.heap.specs.GateAsked.{IsAskedOften};
+ghost use Rattle.heap_pass.specs.Spare.{spare_of};
+ghost use Rattle.slots.specs.Books.{Agrees};
+ghost use Rattle.op_guard.specs.Regions.{IsReady, IsUnderWay, WasHalted};
+ghost use Rattle.structure_call.specs.Planning.{IsPlan, first_at_end};
+ghost use Rattle.structure_call.specs.Standing.{IsStanding};
+ghost use Rattle.structure_call.specs.Carrying.{CanPutAll, HasWrittenAll, HasCarried, LeavesUncarried};
+ghost use Rattle.structure_call.specs.Calling.{HasAnsweredCall, was_cut};
+
+use crate::refusing::{or_cut, or_refused};
+use heap::Heap;
+use heap_pass::Pass;
+use mont_base::{CallRefusal, Change, Cut, Gate, Op, Receipt, Reply, Slot};
+use op_guard::{Guard, begin, change, commit, read};
+use slots::Region;
+use std::sync::Wait;
+
+/// An operation that was carried out.
+#[derive(Clone, Copy, Debug, PartialEq, Eq)]
+pub struct Carried {
+    pub receipt: Receipt,
+    /// The slot of the last change, if there was one.
+    pub slot: Option<Slot>,
+}
+
+/// Carries a planned operation out, and keeps the receipt in the pass.
+///
+/// It may wait for the clock to stand still.
+pub fn carry_out<R: Wait, G: Gate>(
+    rt: &R,
+    heap: &Heap,
+    region: &mut Region,
+    pass: &mut Pass<G>,
+    op: &Op,
+    reply: &Reply,
+    changes: &[Change],
+) -> Result<Carried, CallRefusal>
+    requires ready { IsReady heap.now region.old }
+    requires pass { pass.old.ticket.table ≡ heap.now.table }
+    requires spare { 1 ≤ spare_of pass.old.receipts }
+    requires plan { IsPlan region.old op.now reply.now changes.now }
+    requires numbers { first_at_end pass.old.ticket.held.part region.old changes.now ≡ None }
+    ensures gate { IsAskedOften G.cuts G.endless pass.old.gate pass.new.gate (was_cut result) }
+    ensures answered { IfOk result (λ carried. HasAnsweredCall heap.now region.old region.new
+        pass.old.ticket pass.new.ticket op.now carried.receipt) }
+    ensures replies { IfOk result (λ carried. carried.receipt.entry.reply ≡ reply.now) }
+    ensures carried { IfOk result (λ carried. HasCarried region.old region.new changes.now
+        carried.receipt carried.slot) }
+    ensures receipts { IfOk result (λ carried. pass.new.receipts.items
+        ≡ pass.old.receipts.items ++ carried.receipt ∷ []) }
+    ensures spare { OnOk result (spare_of pass.new.receipts + 1 ≡ spare_of pass.old.receipts) }
+    ensures kept { OnErr result (pass.new.receipts ≡ pass.old.receipts) }
+    ensures refused { IfErr result (λ why. LeavesUncarried heap.now region.old region.new
+        pass.old.ticket pass.new.ticket (length changes.now) why) }
+    ensures agrees { Agrees region.new }
+    ensures stands { IsStanding heap.now region.new }
+{
+    let unit = region.unit();
+    if changes.is_empty() {
+        let answered = read(heap, region, pass, op, reply);
+        let receipt = or_cut(answered, unit)?;
+        return Ok(Carried {
+            receipt,
+            slot: None,
+        });
+    }
+    let begun = begin(rt, heap, region, changes.len() as u64, pass);
+    let guard = or_refused(begun, unit)?;
+    let written = write_all(guard, heap, region, changes, pass);
+    let (guard, slot) = or_cut(written, unit)?;
+    let committed = commit(guard, heap, region, pass, op, reply);
+    let receipt = or_cut(committed, unit)?;
+    Ok(Carried { receipt, slot })
+}
+
+// Writes the record of each change, in their order, and answers the slot of the last one with the
+// guard. After a cut the guard is spent.
+fn write_all<G: Gate>(
+    mut guard: Guard,
+    heap: &Heap,
+    region: &mut Region,
+    changes: &[Change],
+    pass: &mut Pass<G>,
+) -> Result<(Guard, Option<Slot>), Cut>
+    requires under_way { IsUnderWay heap.now guard region.old }
+    requires needed { guard.written + length changes.now ≤ guard.need }
+    requires pass { pass.old.ticket.table ≡ heap.now.table }
+    requires by { guard.by ≡ pass.old.ticket.held.caller }
+    requires may { CanPutAll region.old.books region.old.seat.held.part.records changes.now }
+    ensures gate { IsAskedOften G.cuts G.endless pass.old.gate pass.new.gate (is_err result) }
+    ensures receipts { pass.new.receipts ≡ pass.old.receipts }
+    ensures written { IfOk result (λ done. HasWrittenAll heap.now region.old region.new guard
+        done.0 changes.now done.1) }
+    ensures caller { OnOk result (pass.new.ticket ≡ pass.old.ticket) }
+    ensures cut { OnErr result (WasHalted heap.now region.old region.new pass.old.ticket
+        pass.new.ticket) }
+{
+    let mut slot = None;
+    for one in changes {
+        match change(&mut guard, heap, region, one, pass) {
+            Ok(written) => slot = Some(written),
+            Err(cut) => {
+                spend(guard);
+                return Err(cut);
+            }
+        }
+    }
+    Ok((guard, slot))
+}
+
+// Takes a guard apart whose unit was halted.
+fn spend(guard: Guard) {
+    let Guard {
+        unit: _,
+        by: _,
+        epoch: _,
+        need: _,
+        written: _,
+    } = guard;
+}
