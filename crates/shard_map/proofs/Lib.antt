@@ -1,0 +1,5 @@
+pub mod KeyFacts
+pub mod KeyEdits
+pub mod KeysFilled
+pub mod MapPlans
+pub mod MapCalls

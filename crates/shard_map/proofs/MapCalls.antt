@@ -1,0 +1,261 @@
+-- What a map unit is behind each answer of a call.
+use Rattle.std.proofs.Common.{◌≡◌, ℕ, ◌≤◌, List, [], ◌∷◌, ◌++◌, sym, refl, ap, ◌∙◌, subst, arith, Bool, true, false, inl, inr, ◌⊎◌}
+use Rattle.std.specs.Prelude.{Option, Some, None, All, length, is_some, option_to_list}
+use Rattle.std.specs.FinMap as finite
+use Rattle.std.specs.List.{AllZip, list_any}
+use Rattle.std.proofs.Math.Path.{fun_ext}
+use Rattle.std.proofs.lemmas.List.Elements.{All-nil, All-cons}
+use Rattle.std.proofs.lemmas.Option.{same_Some}
+use Rattle.mont_base.specs.declared.effect.Effect.{Effect}
+use Rattle.mont_base.specs.declared.effect.Effect.TheVariants.{Inserts, Replaces, Removes}
+use Rattle.mont_base.specs.declared.effect.Thing.TheVariants.{Pair}
+use Rattle.mont_base.specs.declared.kinds.UnitKind.{UnitKind}
+use Rattle.mont_base.specs.declared.kinds.UnitKind.TheVariants as unit_kinds
+use Rattle.mont_base.specs.declared.operation.Op.{Op}
+use Rattle.mont_base.specs.declared.operation.Op.TheVariants as ops
+use Rattle.mont_base.specs.declared.operation.Receipt.{Receipt}
+use Rattle.mont_base.specs.declared.operation.Reply.{Reply}
+use Rattle.mont_base.specs.declared.record.Change.{Change}
+use Rattle.mont_base.specs.declared.record.Change.TheVariants.{Insert, Replace, Remove}
+use Rattle.mont_base.specs.declared.record.Held.{Held}
+use Rattle.mont_base.specs.Layout.{Shape, kind_of, is_of_kind}
+use Rattle.mont_base.specs.State.{State, MapOf, QueueOf, GraphOf, Key, Value, Pairs, set_effects, map_step, map_del, step}
+use Rattle.mont_laws.specs.Effects.{IsEffect, AreEffects, IsOpOf}
+use Rattle.mont_laws.specs.Records.{live_of}
+use Rattle.mont_laws.specs.Shows.{held_in, Shows}
+use Rattle.mont_laws.specs.Structures.{pair_for, HasPairs, HasStructure}
+use Rattle.mont_laws.proofs.Edits.{no_zip, one_zip}
+use Rattle.mont_laws.proofs.Maps.{pairs_once}
+use Rattle.heap.specs.HeapShown.{HeapShown, CallerShown}
+use Rattle.index_kit.specs.Index.{Places}
+use Rattle.op_guard.specs.Regions.{IsReady, IsRunning, KeepsUnit, WasHalted}
+use Rattle.slots.specs.Books.{RegionShown, IsRegionOf, Agrees}
+use Rattle.slots.specs.Changes.{NamesLive, has_serial, is_insert, record_by}
+use Rattle.structure_call.specs.Calling.{HasAnsweredCall, HasWritten}
+use Rattle.structure_call.specs.Carrying.{HasCarried, records_by, last_of}
+use Rattle.structure_call.specs.Planning.{IsPlan, Makes}
+use Rattle.structure_call.specs.Standing.{IsStanding, IsIdle}
+use Rattle.shard_map.specs.LiveKeys.{HoldsLiveKeys}
+use Rattle.shard_map.specs.MapCall.{places_behind, HasRoomFor, AddsKey}
+use Rattle.shard_map.specs.MapShard.{IsMapUnit}
+use Rattle.shard_map.proofs.KeyFacts.{no_value}
+use Rattle.shard_map.proofs.KeyEdits.{keys_of_same_live, slot_of_one, keys_follow}
+
+-- ---- between two calls
+pub ready_of : (heap : HeapShown) (r : RegionShown) → IsStanding heap r → r.books.halted ≡ None → IsReady heap r
+ready_of heap r s running = record {
+  runs = record { of_heap = s.of_heap; agrees = s.agrees; running = running; clean = s.clean };
+  rests = (s.idle running).rests;
+  home = (s.idle running).home;
+}
+
+pub standing_of : (heap : HeapShown) (r : RegionShown) → IsReady heap r → IsStanding heap r
+standing_of heap r h = record {
+  of_heap = h.runs.of_heap;
+  agrees = h.runs.agrees;
+  clean = h.runs.clean;
+  idle = λ _. record { rests = h.rests; home = h.home };
+}
+
+pub standing_halted : (heap : HeapShown) (old new : RegionShown) (q r : CallerShown) → WasHalted heap old new q r → IsStanding heap new
+standing_halted heap old new q r h = record {
+  of_heap = h.of_heap;
+  agrees = h.agrees;
+  clean = h.clean;
+  idle = λ e. let f = h.by in absurd (cc);
+}
+
+-- ---- what is planned
+module _ (rs : List Held) where
+  named : (e : Effect) (c : Change) → Makes rs e c → NamesLive rs c
+  named (Inserts t) (Insert body) m = tt
+  named (Inserts t) (Replace slot identity body) m = absurd m
+  named (Inserts t) (Remove slot identity) m = absurd m
+  named (Replaces t) (Insert body) m = absurd m
+  named (Replaces t) (Replace slot identity body) m = record { live = m.0.live; is = m.0.is; in_slot = m.0.in_slot }
+  named (Replaces t) (Remove slot identity) m = absurd m
+  named (Removes t) (Insert body) m = absurd m
+  named (Removes t) (Replace slot identity body) m = absurd m
+  named (Removes t) (Remove slot identity) m = record { live = m.live; is = m.is; in_slot = m.in_slot }
+
+  pub all_named : (es : List Effect) (cs : List Change) → AllZip (Makes rs) es cs → All (NamesLive rs) cs
+  all_named [] [] m = All-nil (NamesLive rs)
+  all_named [] (c ∷ cs) m = absurd m
+  all_named (e ∷ es) [] m = absurd m
+  all_named (e ∷ es) (c ∷ cs) m = All-cons (NamesLive rs) c cs (named e c m.0) (all_named es cs m.1)
+
+-- a map has no serials
+pub no_serial : (s : Shape) (unit : ℕ) (cs : List Change) → kind_of s unit ≡ Some unit_kinds.Map → list_any (has_serial s unit) cs ≡ false
+no_serial s unit [] e = refl
+no_serial s unit (c ∷ cs) e = rw e (no_serial s unit cs e)
+
+-- ---- the change of a plan
+-- an operation on a map has one effect at most
+one_effect : (m : Pairs) (op : Op) → ((map_step m op).effects ≡ []) ⊎ ((e : Effect) × ((map_step m op).effects ≡ e ∷ []))
+one_effect m (ops.Put key value) = set (finite.contains_key m key)
+  where
+    set : (t : Bool) → (set_effects t (Pair key value) ≡ []) ⊎ ((e : Effect) × (set_effects t (Pair key value) ≡ e ∷ []))
+    set true = inr (Replaces (Pair key value), refl)
+    set false = inr (Inserts (Pair key value), refl)
+one_effect m (ops.Del key) = del (finite.get m key)
+  where
+    del : (o : Option Value) → ((map_del m key o).effects ≡ []) ⊎ ((e : Effect) × ((map_del m key o).effects ≡ e ∷ []))
+    del None = inl refl
+    del (Some value) = inr (Removes (Pair key value), refl)
+one_effect m _ = inl refl
+
+-- ---- the record of an operation
+abbrev end_of : List Held → Option Held
+end_of [] = None
+end_of (r ∷ []) = Some r
+end_of (r ∷ q ∷ rs) = end_of (q ∷ rs)
+
+end_push : (rs : List Held) (w : Held) → end_of (rs ++ w ∷ []) ≡ Some w
+end_push [] w = refl
+end_push (r ∷ []) w = refl
+end_push (r ∷ q ∷ rs) w = end_push (q ∷ rs) w
+
+-- what was written is in the slot of the last change
+same_slot : (u next epoch : ℕ) (rs kept others ws : List Held) (es : List Effect) (cs : List Change) (slots : List ℕ)
+    → kept ++ ws ≡ others ++ records_by u next others epoch cs slots → (es ≡ []) ⊎ ((e : Effect) × (es ≡ e ∷ []))
+    → AreEffects u kept es ws → AllZip (Makes rs) es cs → length slots ≡ length cs → last_of slots ≡ slot_of_one ws
+same_slot u next epoch rs kept others ws es cs slots same few are makes long = by few
+  where
+    none : (ws : List Held) (cs : List Change) (slots : List ℕ) → ws ≡ [] → cs ≡ [] → length slots ≡ length cs → last_of slots ≡ slot_of_one ws
+    none [] [] [] e f l = refl
+    none [] [] (n ∷ slots) e f l = absurd (omega arith)
+    none [] (c ∷ cs) slots e f l = absurd (cc)
+    none (w ∷ ws) cs slots e f l = absurd (cc)
+
+    one : (w : Held) (c : Change) (slots : List ℕ) → kept ++ w ∷ [] ≡ others ++ records_by u next others epoch (c ∷ []) slots
+        → length slots ≡ 1 → last_of slots ≡ Some w.slot
+    one w c [] e l = absurd (omega arith)
+    one w c (n ∷ []) e l =
+        let f : Some w ≡ Some (record_by u next others c epoch n) = sym (end_push kept w) ∙ ap end_of e ∙ end_push others _ in
+        ap (λ (h : Held). Some h.slot) (sym (same_Some w (record_by u next others c epoch n) f))
+    one w c (n ∷ m ∷ slots) e l = absurd (omega arith)
+
+    by : (es ≡ []) ⊎ ((e : Effect) × (es ≡ e ∷ [])) → last_of slots ≡ slot_of_one ws
+    by (inl e) = none ws cs slots
+        (no_zip (IsEffect u kept) ws (subst (λ (fs : List Effect). AreEffects u kept fs ws) e are))
+        (no_zip (Makes rs) cs (subst (λ (fs : List Effect). AllZip (Makes rs) fs cs) e makes)) long
+    by (inr e) =
+        let b = one_zip (IsEffect u kept) e.0 ws (subst (λ (fs : List Effect). AreEffects u kept fs ws) e.1 are) in
+        let d = one_zip (Makes rs) e.0 cs (subst (λ (fs : List Effect). AllZip (Makes rs) fs cs) e.1 makes) in
+        let f : kept ++ b.0 ∷ [] ≡ others ++ records_by u next others epoch (d.0 ∷ []) slots =
+        ap (λ (zs : List Held). kept ++ zs) (sym b.1) ∙ same ∙ ap (λ (ds : List Change). others ++ records_by u next others epoch ds slots) d.1 in
+        one b.0 d.0 slots f (long ∙ ap (λ (ds : List Change). length ds) d.1) ∙ ap slot_of_one (sym b.1)
+
+-- the state of a map unit is a map
+map_state : (s : Shape) (u : ℕ) (rs : List Held) (state : State) → kind_of s u ≡ Some unit_kinds.Map → HasStructure s u rs state
+    → (m : Pairs) × (state ≡ MapOf m) × HasPairs s u rs m
+map_state s u rs (MapOf m) e h = (m, refl, h.things)
+map_state s u rs (QueueOf items) e h = let f = h.of_unit in absurd (cc)
+map_state s u rs (GraphOf graph) e h = let f = h.of_unit in absurd (cc)
+
+-- where an operation sets a key that has no place, its change adds it
+pub room_for : (r : RegionShown) (places : Places) → IsMapUnit r places → r.books.halted ≡ None → (op : Op) (reply : Reply)
+    (change : Option Change) (spare : ℕ) → IsPlan r op reply (option_to_list change) → (AddsKey change → 1 ≤ spare)
+    → HasRoomFor places spare op
+room_for r places unit running (ops.Put key value) reply change spare plan room none =
+    room (inserts change (subst (λ (t : Bool). AllZip (Makes r.seat.held.part.records) (set_effects t (Pair key value)) (option_to_list change))
+    (ap is_some absent) (subst (λ (st : State). AllZip (Makes r.seat.held.part.records) (step st (ops.Put key value)).effects
+    (option_to_list change)) b.1 plan.makes)))
+  where
+    b : (m : Pairs) × (plan.state ≡ MapOf m) × HasPairs r.books.layout r.books.unit r.seat.held.part.records m
+    b = map_state r.books.layout r.books.unit r.seat.held.part.records plan.state unit.kind plan.shown
+
+    absent : finite.get b.0 key ≡ None
+    absent = no_value r.books.layout r.books.unit r.seat.held.part.records places (unit.indexed running) b.0 b.2 key none
+
+    inserts : (c : Option Change) → AllZip (Makes r.seat.held.part.records) (Inserts (Pair key value) ∷ []) (option_to_list c) → AddsKey c
+    inserts None z = absurd z
+    inserts (Some (Insert body)) z = tt
+    inserts (Some (Replace at identity body)) z = absurd z.0
+    inserts (Some (Remove at identity)) z = absurd z.0
+room_for r places unit running _ reply change spare plan room = tt
+
+-- pairs that records show, shown by others of which the same are live
+pairs_of_same_live : (s : Shape) (u : ℕ) (rs qs : List Held) (m : Pairs) → ((i : ℕ) → live_of i qs ≡ live_of i rs)
+    → HasPairs s u rs m → HasPairs s u qs m
+pairs_of_same_live s u rs qs m same h =
+    subst (λ (l : ℕ → Option (Option (Key × Value))). Shows l (finite.get m)) (fun_ext (λ i. ap (held_in (pair_for s u)) (sym (same i)))) h
+
+module _ (heap : HeapShown) (old new : RegionShown) (places : Places) (unit : IsMapUnit old places) where
+  -- ---- behind a refusal
+  -- nothing else is live
+  pub unit_kept : old.books.halted ≡ None → IsRegionOf heap old → IsReady heap new → KeepsUnit old new → IsMapUnit new places
+  unit_kept was_running stands ready keeps = record {
+    agrees = ready.runs.agrees;
+    kind = subst (λ (s : Shape). kind_of s new.books.unit ≡ Some unit_kinds.Map) layout
+        (subst (λ (u : ℕ). kind_of old.books.layout u ≡ Some unit_kinds.Map) (sym keeps.of_unit) unit.kind);
+    indexed = λ running. subst (λ (s : Shape). HoldsLiveKeys s new.books.unit new.seat.held.part.records places) layout
+        (subst (λ (u : ℕ). HoldsLiveKeys old.books.layout u new.seat.held.part.records places) (sym keeps.of_unit)
+        (keys_of_same_live old.books.layout old.books.unit old.seat.held.part.records new.seat.held.part.records places keeps.live
+        (unit.indexed was_running)));
+  }
+    where
+      layout : old.books.layout ≡ new.books.layout
+      layout = stands.layout ∙ sym ready.runs.of_heap.layout
+
+  -- it is halted
+  pub unit_halted : (q r : CallerShown) → IsRegionOf heap old → WasHalted heap old new q r → IsMapUnit new places
+  unit_halted q r stands h = record {
+    agrees = h.agrees;
+    kind = subst (λ (s : Shape). kind_of s new.books.unit ≡ Some unit_kinds.Map) (stands.layout ∙ sym h.of_heap.layout)
+        (subst (λ (u : ℕ). kind_of old.books.layout u ≡ Some unit_kinds.Map) (sym h.of_unit) unit.kind);
+    indexed = λ e. let f = h.by in absurd (cc);
+  }
+
+  -- ---- behind an answer
+  module _ (running : old.books.halted ≡ None) (stands : IsRegionOf heap old) (q r : CallerShown) (op : Op) (receipt : Receipt)
+      (answered : HasAnsweredCall heap old new q r op receipt) (reply : Reply) (changes : List Change) (slot : Option ℕ)
+      (plan : IsPlan old op reply changes) (carried : HasCarried old new changes receipt slot) where
+    judged_map : (m : Pairs) × (answered.judged.state ≡ MapOf m) × HasPairs old.books.layout old.books.unit old.seat.held.part.records m
+    judged_map = map_state old.books.layout old.books.unit old.seat.held.part.records answered.judged.state unit.kind
+        (subst (λ (s : Shape). HasStructure s old.books.unit old.seat.held.part.records answered.judged.state) (sym stands.layout)
+        answered.judged.shown)
+
+    planned_map : (m : Pairs) × (plan.state ≡ MapOf m) × HasPairs old.books.layout old.books.unit old.seat.held.part.records m
+    planned_map = map_state old.books.layout old.books.unit old.seat.held.part.records plan.state unit.kind plan.shown
+
+    effects_are : AreEffects old.books.unit answered.wrote.kept (map_step judged_map.0 op).effects answered.wrote.written
+    effects_are = subst (λ (st : State). AreEffects old.books.unit answered.wrote.kept (step st op).effects answered.wrote.written)
+        judged_map.1 answered.wrote.are_effects
+
+    makes : AllZip (Makes old.seat.held.part.records) (map_step judged_map.0 op).effects changes
+    makes = subst (λ (st : State). AllZip (Makes old.seat.held.part.records) (step st op).effects changes)
+        (planned_map.1 ∙ ap MapOf (pairs_once old.books.layout old.books.unit old.seat.held.part.records planned_map.0 judged_map.0
+        planned_map.2 judged_map.2)) plan.makes
+
+    slot_is : slot_of_one answered.wrote.written ≡ slot
+    slot_is = sym (carried.last_is ∙ same_slot old.books.unit old.books.identity receipt.entry.epoch old.seat.held.part.records
+        answered.wrote.kept carried.kept answered.wrote.written (map_step judged_map.0 op).effects changes carried.slots
+        (sym answered.wrote.records_are ∙ carried.records_are) (one_effect judged_map.0 op) effects_are makes carried.each)
+
+    keys_behind : HoldsLiveKeys old.books.layout old.books.unit new.seat.held.part.records (places_behind places op slot)
+    keys_behind =
+        subst (λ (rs : List Held). HoldsLiveKeys old.books.layout old.books.unit rs (places_behind places op slot))
+        (sym answered.wrote.records_are)
+        (subst (λ (o : Option ℕ). HoldsLiveKeys old.books.layout old.books.unit (answered.wrote.kept ++ answered.wrote.written)
+        (places_behind places op o)) slot_is
+        (keys_follow old.books.layout old.books.unit answered.wrote.kept places
+        (keys_of_same_live old.books.layout old.books.unit old.seat.held.part.records answered.wrote.kept places answered.wrote.live
+        (unit.indexed running))
+        judged_map.0
+        (pairs_of_same_live old.books.layout old.books.unit old.seat.held.part.records answered.wrote.kept judged_map.0
+        answered.wrote.live judged_map.2)
+        op answered.wrote.written plan.of_unit effects_are))
+
+    layout : old.books.layout ≡ new.books.layout
+    layout = stands.layout ∙ sym answered.ready.runs.of_heap.layout
+
+    pub unit_behind : IsMapUnit new (places_behind places op slot)
+    unit_behind = record {
+      agrees = answered.ready.runs.agrees;
+      kind = subst (λ (s : Shape). kind_of s new.books.unit ≡ Some unit_kinds.Map) layout
+          (subst (λ (u : ℕ). kind_of old.books.layout u ≡ Some unit_kinds.Map) (sym answered.of_unit) unit.kind);
+      indexed = λ _. subst (λ (s : Shape). HoldsLiveKeys s new.books.unit new.seat.held.part.records (places_behind places op slot)) layout
+          (subst (λ (u : ℕ). HoldsLiveKeys old.books.layout u new.seat.held.part.records (places_behind places op slot))
+          (sym answered.of_unit) keys_behind);
+    }

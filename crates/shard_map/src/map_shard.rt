@@ -1,0 +1,44 @@
+// A map unit: the region of its slots, and an index from each live key to its slot.
+ghost use Rattle.std.specs.Prelude.{◌≡◌};
+
+use index_kit::Index;
+use slots::Region;
+use std::marker::Model;
+
+/// A map unit. The pairs stand in the region's records alone; the index, which the unit's maker
+/// hands in, says in which slot each live key's record is.
+///
+/// Contracts see the region and the index's places. The index of a unit in which a caller was cut
+/// is of no use any more.
+#[derive(Drop)]
+pub struct MapShard {
+    pub(crate) region: Region,
+    pub(crate) index: Box<dyn Index + Send>,
+}
+
+impl Model for MapShard {
+    ghost use Rattle.shard_map.specs.MapShard.{MapShown, IsMapUnit};
+
+    ghost Value = { MapShown };
+
+    ghost view = { λ m. record { region = m.region; places = places m.index } };
+
+    ghost invariant = { λ m. IsMapUnit m.region (places m.index) };
+}
+
+impl MapShard {
+    /// The unit's region.
+    pub fn region(&self) -> &Region
+        ensures { result.now ≡ self.now.region }
+    {
+        &self.region
+    }
+
+    /// Gives the region back, and drops the index.
+    pub fn into_region(self) -> Region
+        ensures { result ≡ self.region }
+    {
+        let MapShard { region, index: _ } = self;
+        region
+    }
+}
