@@ -7,13 +7,14 @@ use Rattle.std.specs.Ordering.{eq_by_cmp}
 use Rattle.std.proofs.lemmas.Bool.Decides.{nat_tests}
 use Rattle.std.proofs.lemmas.Option.{same_Some}
 use Rattle.mont_base.specs.declared.record.Held.{Held}
-use Rattle.mont_base.specs.Layout.{Shape}
-use Rattle.mont_base.specs.State.{Key, Value, Pairs, key_cmp}
+use Rattle.mont_base.specs.declared.kinds.UnitKind.TheVariants as unit_kinds
+use Rattle.mont_base.specs.Layout.{Shape, kind_of}
+use Rattle.mont_base.specs.State.{State, MapOf, QueueOf, GraphOf, Key, Value, Pairs, key_cmp}
 use Rattle.mont_base.specs.Structure.{pairs_of}
 use Rattle.mont_base.specs.Versions.{live_objects}
 use Rattle.mont_laws.specs.Records.{AreApart, live_of}
 use Rattle.mont_laws.specs.Shows.{live_things, Shows}
-use Rattle.mont_laws.specs.Structures.{pair_for, HasPairs}
+use Rattle.mont_laws.specs.Structures.{pair_for, HasPairs, HasStructure}
 use Rattle.mont_laws.proofs.Edits.{live_facts}
 use Rattle.mont_laws.proofs.Holders.{live_holder, held_live}
 use Rattle.mont_laws.proofs.Keys.{one_text}
@@ -195,3 +196,10 @@ module _ (s : Shape) (unit : ℕ) (rs : List Held) where
       has_pairs =
           let b = entries_shown (eq_by_cmp key_cmp) one_text (pair_for s unit) rs apart value_by pairs_shown in
           made_pairs s unit rs b.0 b.1 apart
+
+-- the state of a map unit is a map
+pub map_state : (s : Shape) (u : ℕ) (rs : List Held) (state : State) → kind_of s u ≡ Some unit_kinds.Map → HasStructure s u rs state
+    → (m : Pairs) × (state ≡ MapOf m) × HasPairs s u rs m
+map_state s u rs (MapOf m) e h = (m, refl, h.things)
+map_state s u rs (QueueOf items) e h = let f = h.of_unit in absurd (cc)
+map_state s u rs (GraphOf graph) e h = let f = h.of_unit in absurd (cc)

@@ -1,11 +1,12 @@
 -- An index with the keys of the live objects has the live keys.
-use Rattle.std.proofs.Common.{◌≡◌, ℕ, List, [], ◌∷◌, ◌++◌, map, sym, refl, ap, ◌∙◌, subst, arith, Bool, true, false, cond, inl, inr, ◌⊎◌}
+use Rattle.std.proofs.Common.{◌≡◌, ℕ, ◌+◌, ◌<◌, List, [], ◌∷◌, ◌++◌, length, take, get_or, map, sym, refl, ap, ◌∙◌, subst, arith, Bool, true, false, cond, inl, inr, ◌⊎◌}
 use Rattle.std.specs.Prelude.{◌≢◌, Option, Some, None, is_some}
 use Rattle.std.specs.Bool.{Decides}
 use Rattle.std.specs.Cmp.Lexicographic.{nat_list_cmp_total}
 use Rattle.std.specs.FinMap as finite
 use Rattle.std.specs.List.{Contains}
 use Rattle.std.specs.Ordering.{eq_by_cmp}
+use Rattle.std.proofs.lemmas.List.{take_more}
 use Rattle.std.proofs.lemmas.List.Elements.{Contains-push, Contains-push_cases, Contains-append_left}
 use Rattle.std.proofs.lemmas.Option.{same_Some}
 use Rattle.mont_base.specs.declared.record.Held.{Held}
@@ -49,7 +50,7 @@ pub no_keys : (places : Places) → finite.len places ≡ 0 → HasKeysOf [] pla
 no_keys places e = record {
   each = λ o p a f. absurd (no_element o a);
   only = λ key slot f.
-      let none : finite.get places key ≡ None = ap (λ (m : Places). finite.get m key) (finite.empty_of_len places e) ∙ finite.get-empty key in
+      let none : finite.get places key ≡ None = ap (λ (m : Places). finite.get m key) (finite.empty_of_len places e) ∙ finite.get-empty key_cmp key in
       absurd (cc);
 }
 
@@ -112,13 +113,23 @@ module _ (os : List Object) (o : Object) (places : Places) (h : HasKeysOf os pla
       only : (key : Key) (slot : ℕ) → finite.get (finite.insert places p.0 o.slot) key ≡ Some slot → IsObjectAt (os ++ o ∷ []) key slot
       only key slot f = by key slot (eq_by_cmp key_cmp key p.0) refl (sym (got key) ∙ f)
 
+module _ (os : List Object) (i : ℕ) (d : Object) (places : Places) (inside : i < length os) (h : HasKeysOf (take i os) places) where
+  pub next_past : pair_at (get_or os i d) ≡ None → HasKeysOf (take (i + 1) os) places
+  next_past none = subst (λ (zs : List Object). HasKeysOf zs places) (sym (take_more os i d inside))
+      (keys_past (take i os) (get_or os i d) places h none)
+
+  pub next_with : (p : Key × Value) → pair_at (get_or os i d) ≡ Some p
+      → HasKeysOf (take (i + 1) os) (finite.insert places p.0 (get_or os i d).slot)
+  next_with p is = subst (λ (zs : List Object). HasKeysOf zs (finite.insert places p.0 (get_or os i d).slot))
+      (sym (take_more os i d inside)) (keys_with (take i os) (get_or os i d) places h p is)
+
 -- ---- what a filled index has
 -- where nothing is live no key is
 pub keys_of_none : (s : Shape) (unit : ℕ) (rs : List Held) → ((i : ℕ) → live_of i rs ≡ None) → HoldsLiveKeys s unit rs finite.empty
 keys_of_none s unit rs none = record {
   readable = λ i e. let f = ap (key_of_live s unit) (none i) in absurd (cc);
   found = λ i key slot e. let f = ap (key_of_live s unit) (none i) in absurd (cc);
-  there = λ key slot e. let f : finite.get {X = ℕ} {R = key_cmp} finite.empty key ≡ None = finite.get-empty key in absurd (cc);
+  there = λ key slot e. let f : finite.get {X = ℕ} {R = key_cmp} finite.empty key ≡ None = finite.get-empty key_cmp key in absurd (cc);
   once = λ i j key v w e f. let g = ap (key_of_live s unit) (none i) in absurd (cc);
 }
 

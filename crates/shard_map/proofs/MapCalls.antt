@@ -19,7 +19,7 @@ use Rattle.mont_base.specs.declared.record.Change.{Change}
 use Rattle.mont_base.specs.declared.record.Change.TheVariants.{Insert, Replace, Remove}
 use Rattle.mont_base.specs.declared.record.Held.{Held}
 use Rattle.mont_base.specs.Layout.{Shape, kind_of, is_of_kind}
-use Rattle.mont_base.specs.State.{State, MapOf, QueueOf, GraphOf, Key, Value, Pairs, set_effects, map_step, map_del, step}
+use Rattle.mont_base.specs.State.{State, MapOf, Key, Value, Pairs, set_effects, map_step, map_del, step}
 use Rattle.mont_laws.specs.Effects.{IsEffect, AreEffects, IsOpOf}
 use Rattle.mont_laws.specs.Records.{live_of}
 use Rattle.mont_laws.specs.Shows.{held_in, Shows}
@@ -34,40 +34,15 @@ use Rattle.slots.specs.Changes.{NamesLive, has_serial, is_insert, record_by}
 use Rattle.structure_call.specs.Calling.{HasAnsweredCall, HasWritten}
 use Rattle.structure_call.specs.Carrying.{HasCarried, records_by, last_of}
 use Rattle.structure_call.specs.Planning.{IsPlan, Makes}
-use Rattle.structure_call.specs.Standing.{IsStanding, IsIdle}
 use Rattle.shard_map.specs.LiveKeys.{HoldsLiveKeys}
 use Rattle.shard_map.specs.MapCall.{places_behind, HasRoomFor, AddsKey}
 use Rattle.shard_map.specs.MapShard.{IsMapUnit}
-use Rattle.shard_map.proofs.KeyFacts.{no_value}
+use Rattle.shard_map.proofs.KeyFacts.{map_state, no_value}
 use Rattle.shard_map.proofs.KeyEdits.{keys_of_same_live, slot_of_one, keys_follow}
 
--- ---- between two calls
-pub ready_of : (heap : HeapShown) (r : RegionShown) → IsStanding heap r → r.books.halted ≡ None → IsReady heap r
-ready_of heap r s running = record {
-  runs = record { of_heap = s.of_heap; agrees = s.agrees; running = running; clean = s.clean };
-  rests = (s.idle running).rests;
-  home = (s.idle running).home;
-}
-
-pub standing_of : (heap : HeapShown) (r : RegionShown) → IsReady heap r → IsStanding heap r
-standing_of heap r h = record {
-  of_heap = h.runs.of_heap;
-  agrees = h.runs.agrees;
-  clean = h.runs.clean;
-  idle = λ _. record { rests = h.rests; home = h.home };
-}
-
-pub standing_halted : (heap : HeapShown) (old new : RegionShown) (q r : CallerShown) → WasHalted heap old new q r → IsStanding heap new
-standing_halted heap old new q r h = record {
-  of_heap = h.of_heap;
-  agrees = h.agrees;
-  clean = h.clean;
-  idle = λ e. let f = h.by in absurd (cc);
-}
-
 -- ---- what is planned
-module _ (rs : List Held) where
-  named : (e : Effect) (c : Change) → Makes rs e c → NamesLive rs c
+module _ (rs : List Held) (serial : ℕ) where
+  named : (e : Effect) (c : Change) → Makes rs serial e c → NamesLive rs c
   named (Inserts t) (Insert body) m = tt
   named (Inserts t) (Replace slot identity body) m = absurd m
   named (Inserts t) (Remove slot identity) m = absurd m
@@ -78,7 +53,7 @@ module _ (rs : List Held) where
   named (Removes t) (Replace slot identity body) m = absurd m
   named (Removes t) (Remove slot identity) m = record { live = m.live; is = m.is; in_slot = m.in_slot }
 
-  pub all_named : (es : List Effect) (cs : List Change) → AllZip (Makes rs) es cs → All (NamesLive rs) cs
+  pub all_named : (es : List Effect) (cs : List Change) → AllZip (Makes rs serial) es cs → All (NamesLive rs) cs
   all_named [] [] m = All-nil (NamesLive rs)
   all_named [] (c ∷ cs) m = absurd m
   all_named (e ∷ es) [] m = absurd m
@@ -116,10 +91,10 @@ end_push (r ∷ []) w = refl
 end_push (r ∷ q ∷ rs) w = end_push (q ∷ rs) w
 
 -- what was written is in the slot of the last change
-same_slot : (u next epoch : ℕ) (rs kept others ws : List Held) (es : List Effect) (cs : List Change) (slots : List ℕ)
+same_slot : (u next epoch serial : ℕ) (rs kept others ws : List Held) (es : List Effect) (cs : List Change) (slots : List ℕ)
     → kept ++ ws ≡ others ++ records_by u next others epoch cs slots → (es ≡ []) ⊎ ((e : Effect) × (es ≡ e ∷ []))
-    → AreEffects u kept es ws → AllZip (Makes rs) es cs → length slots ≡ length cs → last_of slots ≡ slot_of_one ws
-same_slot u next epoch rs kept others ws es cs slots same few are makes long = by few
+    → AreEffects u kept es ws → AllZip (Makes rs serial) es cs → length slots ≡ length cs → last_of slots ≡ slot_of_one ws
+same_slot u next epoch serial rs kept others ws es cs slots same few are makes long = by few
   where
     none : (ws : List Held) (cs : List Change) (slots : List ℕ) → ws ≡ [] → cs ≡ [] → length slots ≡ length cs → last_of slots ≡ slot_of_one ws
     none [] [] [] e f l = refl
@@ -138,37 +113,30 @@ same_slot u next epoch rs kept others ws es cs slots same few are makes long = b
     by : (es ≡ []) ⊎ ((e : Effect) × (es ≡ e ∷ [])) → last_of slots ≡ slot_of_one ws
     by (inl e) = none ws cs slots
         (no_zip (IsEffect u kept) ws (subst (λ (fs : List Effect). AreEffects u kept fs ws) e are))
-        (no_zip (Makes rs) cs (subst (λ (fs : List Effect). AllZip (Makes rs) fs cs) e makes)) long
+        (no_zip (Makes rs serial) cs (subst (λ (fs : List Effect). AllZip (Makes rs serial) fs cs) e makes)) long
     by (inr e) =
         let b = one_zip (IsEffect u kept) e.0 ws (subst (λ (fs : List Effect). AreEffects u kept fs ws) e.1 are) in
-        let d = one_zip (Makes rs) e.0 cs (subst (λ (fs : List Effect). AllZip (Makes rs) fs cs) e.1 makes) in
+        let d = one_zip (Makes rs serial) e.0 cs (subst (λ (fs : List Effect). AllZip (Makes rs serial) fs cs) e.1 makes) in
         let f : kept ++ b.0 ∷ [] ≡ others ++ records_by u next others epoch (d.0 ∷ []) slots =
         ap (λ (zs : List Held). kept ++ zs) (sym b.1) ∙ same ∙ ap (λ (ds : List Change). others ++ records_by u next others epoch ds slots) d.1 in
         one b.0 d.0 slots f (long ∙ ap (λ (ds : List Change). length ds) d.1) ∙ ap slot_of_one (sym b.1)
-
--- the state of a map unit is a map
-map_state : (s : Shape) (u : ℕ) (rs : List Held) (state : State) → kind_of s u ≡ Some unit_kinds.Map → HasStructure s u rs state
-    → (m : Pairs) × (state ≡ MapOf m) × HasPairs s u rs m
-map_state s u rs (MapOf m) e h = (m, refl, h.things)
-map_state s u rs (QueueOf items) e h = let f = h.of_unit in absurd (cc)
-map_state s u rs (GraphOf graph) e h = let f = h.of_unit in absurd (cc)
 
 -- where an operation sets a key that has no place, its change adds it
 pub room_for : (r : RegionShown) (places : Places) → IsMapUnit r places → r.books.halted ≡ None → (op : Op) (reply : Reply)
     (change : Option Change) (spare : ℕ) → IsPlan r op reply (option_to_list change) → (AddsKey change → 1 ≤ spare)
     → HasRoomFor places spare op
-room_for r places unit running (ops.Put key value) reply change spare plan room none =
-    room (inserts change (subst (λ (t : Bool). AllZip (Makes r.seat.held.part.records) (set_effects t (Pair key value)) (option_to_list change))
-    (ap is_some absent) (subst (λ (st : State). AllZip (Makes r.seat.held.part.records) (step st (ops.Put key value)).effects
+room_for r places unit running (ops.Put key value) reply change spare plan room = λ none.
+    room (inserts change (subst (λ (t : Bool). AllZip (Makes r.seat.held.part.records r.books.serial) (set_effects t (Pair key value)) (option_to_list change))
+    (ap is_some (absent none)) (subst (λ (st : State). AllZip (Makes r.seat.held.part.records r.books.serial) (step st (ops.Put key value)).effects
     (option_to_list change)) b.1 plan.makes)))
   where
     b : (m : Pairs) × (plan.state ≡ MapOf m) × HasPairs r.books.layout r.books.unit r.seat.held.part.records m
     b = map_state r.books.layout r.books.unit r.seat.held.part.records plan.state unit.kind plan.shown
 
-    absent : finite.get b.0 key ≡ None
-    absent = no_value r.books.layout r.books.unit r.seat.held.part.records places (unit.indexed running) b.0 b.2 key none
+    absent : finite.get places key ≡ None → finite.get b.0 key ≡ None
+    absent none = no_value r.books.layout r.books.unit r.seat.held.part.records places (unit.indexed running) b.0 b.2 key none
 
-    inserts : (c : Option Change) → AllZip (Makes r.seat.held.part.records) (Inserts (Pair key value) ∷ []) (option_to_list c) → AddsKey c
+    inserts : (c : Option Change) → AllZip (Makes r.seat.held.part.records r.books.serial) (Inserts (Pair key value) ∷ []) (option_to_list c) → AddsKey c
     inserts None z = absurd z
     inserts (Some (Insert body)) z = tt
     inserts (Some (Replace at identity body)) z = absurd z.0
@@ -223,13 +191,13 @@ module _ (heap : HeapShown) (old new : RegionShown) (places : Places) (unit : Is
     effects_are = subst (λ (st : State). AreEffects old.books.unit answered.wrote.kept (step st op).effects answered.wrote.written)
         judged_map.1 answered.wrote.are_effects
 
-    makes : AllZip (Makes old.seat.held.part.records) (map_step judged_map.0 op).effects changes
-    makes = subst (λ (st : State). AllZip (Makes old.seat.held.part.records) (step st op).effects changes)
+    makes : AllZip (Makes old.seat.held.part.records old.books.serial) (map_step judged_map.0 op).effects changes
+    makes = subst (λ (st : State). AllZip (Makes old.seat.held.part.records old.books.serial) (step st op).effects changes)
         (planned_map.1 ∙ ap MapOf (pairs_once old.books.layout old.books.unit old.seat.held.part.records planned_map.0 judged_map.0
         planned_map.2 judged_map.2)) plan.makes
 
     slot_is : slot_of_one answered.wrote.written ≡ slot
-    slot_is = sym (carried.last_is ∙ same_slot old.books.unit old.books.identity receipt.entry.epoch old.seat.held.part.records
+    slot_is = sym (carried.last_is ∙ same_slot old.books.unit old.books.identity receipt.entry.epoch old.books.serial old.seat.held.part.records
         answered.wrote.kept carried.kept answered.wrote.written (map_step judged_map.0 op).effects changes carried.slots
         (sym answered.wrote.records_are ∙ carried.records_are) (one_effect judged_map.0 op) effects_are makes carried.each)
 

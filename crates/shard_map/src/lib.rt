@@ -3,7 +3,6 @@
 #![tactic(auto)]
 
 mod map_beginning;
-// mod map_call;
 mod map_plan;
 mod map_shard;
 

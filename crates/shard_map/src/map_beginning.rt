@@ -18,14 +18,14 @@ use payload::pair_in;
 use slots::Region;
 use std::alloc::AllocError;
 
-impl MapShard {
+impl<I: Index> MapShard<I> {
     /// The map unit of a region in which nothing is live, with an empty index.
-    pub fn fresh(layout: Layout, region: Region, index: Box<dyn Index + Send>) -> MapShard
+    pub fn fresh(layout: Layout, region: Region, index: I) -> MapShard<I>
         requires layout { region.books.layout ≡ layout }
         requires kind { kind_of layout region.books.unit ≡ Some kinds.Map }
         requires agrees { Agrees region }
         requires none { (identity : ℕ) → live_of identity region.seat.held.part.records ≡ None }
-        requires empty { finite.len (places index) ≡ 0 }
+        requires empty { finite.len (I.places index) ≡ 0 }
         ensures region { result.region ≡ region }
         ensures index { result.places ≡ finite.empty }
     {
@@ -39,15 +39,15 @@ impl MapShard {
         layout: Layout,
         region: Region,
         objects: &[Object],
-        index: Box<dyn Index + Send>,
-    ) -> Result<MapShard, AllocError>
+        index: I,
+    ) -> Result<MapShard<I>, AllocError>
         requires layout { region.books.layout ≡ layout }
         requires kind { kind_of layout region.books.unit ≡ Some kinds.Map }
         requires agrees { Agrees region }
         requires live { objects.now ≡ live_objects region.seat.held.part.records }
         requires structure { (state : State)
             × IsStructure layout region.books.unit objects.now state }
-        requires empty { finite.len (places index) ≡ 0 }
+        requires empty { finite.len (I.places index) ≡ 0 }
         ensures region { IfOk result (λ m. m.region ≡ region) }
         ensures index { IfOk result (λ m. HoldsLiveKeys layout region.books.unit
             region.seat.held.part.records m.places) }
@@ -59,18 +59,15 @@ impl MapShard {
 }
 
 // An empty index, filled with the keys of objects.
-fn filled(
-    index: Box<dyn Index + Send>,
-    objects: &[Object],
-) -> Result<Box<dyn Index + Send>, AllocError>
-    requires { finite.len (places index) ≡ 0 }
-    ensures { IfOk result (λ filled. HasKeysOf objects.now (places filled)) }
+fn filled<I: Index>(index: I, objects: &[Object]) -> Result<I, AllocError>
+    requires { finite.len (I.places index) ≡ 0 }
+    ensures { IfOk result (λ filled. HasKeysOf objects.now (I.places filled)) }
 {
     let mut index = index;
     for object in objects {
         index.reserve()?;
-        if let Some((key, _)) = pair_in(&object.body) {
-            index.put(key, object.slot);
+        if let Some(pair) = pair_in(&object.body) {
+            index.put(pair.0, object.slot);
         }
     }
     Ok(index)

@@ -30,30 +30,29 @@ pub(crate) struct Found {
 }
 
 // Plans an operation of a map unit.
-pub(crate) fn plan(region: &Region, index: &dyn Index, op: &Op) -> MapPlan
-    requires unit { IsMapUnit region.now (places index.now) }
+pub(crate) fn plan<I: Index>(region: &Region, index: &I, op: &Op) -> MapPlan
+    requires unit { IsMapUnit region.now (I.places index.now) }
     requires running { region.now.books.halted ≡ None }
     requires op { IsOpOf region.now.books.layout region.now.books.unit op.now }
     ensures { IsPlan region.now op.now result.reply (option_to_list result.change) }
 {
-    match *op {
+    match op {
         Op::Put { key, value } => {
             let found = find(region, index, key);
-            let body = pair_body(&key, &value);
             MapPlan {
-                reply: reply_of(found),
-                change: Some(setting(found, body)),
+                reply: reply_of(&found),
+                change: Some(setting(&found, pair_body(key, value))),
             }
         }
         Op::Get { key } => MapPlan {
-            reply: reply_of(find(region, index, key)),
+            reply: reply_of(&find(region, index, key)),
             change: None,
         },
         Op::Del { key } => {
             let found = find(region, index, key);
             MapPlan {
-                reply: reply_of(found),
-                change: removal(found),
+                reply: reply_of(&found),
+                change: removal(&found),
             }
         }
         _ => MapPlan {
@@ -64,14 +63,14 @@ pub(crate) fn plan(region: &Region, index: &dyn Index, op: &Op) -> MapPlan
 }
 
 // What the live record of a key says, if the key is there.
-fn find(region: &Region, index: &dyn Index, key: Text) -> Option<Found>
-    requires unit { IsMapUnit region.now (places index.now) }
+fn find<I: Index>(region: &Region, index: &I, key: &Text) -> Option<Found>
+    requires unit { IsMapUnit region.now (I.places index.now) }
     requires running { region.now.books.halted ≡ None }
-    ensures value { HasValue region.now key (value_found result) }
+    ensures value { HasValue region.now key.now (value_found result) }
     ensures named { IfSome result (λ found. NamesThing region.now.seat.held.part.records
-        (Pair key found.value) found.slot found.identity) }
+        (Pair key.now found.value) found.slot found.identity) }
 {
-    let slot = index.find(key)?;
+    let slot = index.find(*key)?;
     let held = region.find_record(slot)?;
     let (_, value) = pair_in(&held.body)?;
     Some(Found {
@@ -82,8 +81,8 @@ fn find(region: &Region, index: &dyn Index, key: Text) -> Option<Found>
 }
 
 // What an operation on a key is answered: the value that it had.
-fn reply_of(found: Option<Found>) -> Reply
-    ensures { result ≡ earlier_text (value_found found) }
+fn reply_of(found: &Option<Found>) -> Reply
+    ensures { result ≡ earlier_text (value_found found.now) }
 {
     match found {
         Some(found) => Reply::WasText { value: found.value },
@@ -92,8 +91,8 @@ fn reply_of(found: Option<Found>) -> Reply
 }
 
 // The change that sets the pair of a key.
-fn setting(found: Option<Found>, body: [u64; BODY]) -> Change
-    ensures { result ≡ setting found body }
+fn setting(found: &Option<Found>, body: [u64; BODY]) -> Change
+    ensures { result ≡ setting found.now body }
 {
     match found {
         Some(found) => Change::Replace {
@@ -106,9 +105,14 @@ fn setting(found: Option<Found>, body: [u64; BODY]) -> Change
 }
 
 // The change that takes a key out, if it is there.
-fn removal(found: Option<Found>) -> Option<Change>
-    ensures { result ≡ removal found }
+fn removal(found: &Option<Found>) -> Option<Change>
+    ensures { result ≡ removal found.now }
 {
-    let Found { slot, identity, .. } = found?;
-    Some(Change::Remove { slot, identity })
+    match found {
+        Some(found) => Some(Change::Remove {
+            slot: found.slot,
+            identity: found.identity,
+        }),
+        None => None,
+    }
 }

@@ -11,22 +11,24 @@ use std::marker::Model;
 /// Contracts see the region and the index's places. The index of a unit in which a caller was cut
 /// is of no use any more.
 #[derive(Drop)]
-pub struct MapShard {
+pub struct MapShard<I: Index = Box<dyn Index + Send>> {
     pub(crate) region: Region,
-    pub(crate) index: Box<dyn Index + Send>,
+    pub(crate) index: I,
 }
 
-impl Model for MapShard {
-    ghost use Rattle.shard_map.specs.MapShard.{MapShown, IsMapUnit};
+impl<I: Index> Model for MapShard<I> {
+    ghost use Rattle.shard_map.specs.MapShard.{MapShown, map_shown_code, IsMapUnit};
 
     ghost Value = { MapShown };
 
-    ghost view = { λ m. record { region = m.region; places = places m.index } };
+    ghost coded = { map_shown_code };
 
-    ghost invariant = { λ m. IsMapUnit m.region (places m.index) };
+    ghost view = { λ m. record { region = m.region; places = I.places m.index } };
+
+    ghost invariant = { λ m. IsMapUnit m.region (I.places m.index) };
 }
 
-impl MapShard {
+impl<I: Index> MapShard<I> {
     /// The unit's region.
     pub fn region(&self) -> &Region
         ensures { result.now ≡ self.now.region }
