@@ -4,7 +4,7 @@ ghost use Rattle.mont_base.specs.declared.constants.TheConstants.{FIRST_CLOCK, L
 ghost use Rattle.mont_base.specs.Layout.{units_of};
 ghost use Rattle.core_steps.specs.Announcing.{can_look, can_tell};
 ghost use Rattle.heap_rule.specs.Plays.{IsClock};
-ghost use Rattle.heap_rule.specs.Views.{are_clean, home_turn};
+ghost use Rattle.heap_rule.specs.Views.{are_clean};
 ghost use Rattle.heap.specs.GateAsked.{IsAskedOften};
 ghost use Rattle.announce.specs.Registering.{HasTried, IsRegistered, IsRegisteredAt, IsOut, LeavesOut, was_cut};
 
@@ -53,7 +53,6 @@ pub fn register_at<G: Gate>(
     requires may { IsTrue (can_look seat.old.held.part) }
     requires first { FIRST_CLOCK ≤ epoch }
     requires last { epoch ≤ LAST }
-    requires home { seat.old.held.turn ≡ home_turn }
     requires clean { IsTrue (are_clean (units_of heap.now.opening.layout) seat.old.held.clean) }
     ensures gate { IsAskedOften G.cuts G.endless gate.old gate.new (was_cut result) }
     ensures ok { OnOk result (IsRegisteredAt seat.old seat.new epoch) }

@@ -1,5 +1,5 @@
 -- What the fields of a ticket are once it has taken a note.
-use Rattle.std.proofs.Common.{◌≡◌, ℕ, zero, suc, ◌*◌, ◌<◌, List, [], ◌∷◌, length, set, get_or, replicate, refl, ap, sym, ◌∙◌, subst, arith}
+use Rattle.std.proofs.Common.{◌≡◌, ℕ, suc, ◌*◌, ◌<◌, ◌≤◌, List, [], ◌∷◌, length, set, get_or, replicate, refl, ap, sym, ◌∙◌, subst, arith}
 use Rattle.std.specs.Prelude.{max}
 use Rattle.atomic_table.specs.Seated.{TableId}
 use Rattle.core_steps.specs.Notes.{greater_fronts, last_epoch}
@@ -8,25 +8,9 @@ use Rattle.heap_rule.specs.declared.views.CallerHeld.{CallerHeld}
 use Rattle.heap_rule.specs.declared.views.NoteHeld.{NoteHeld}
 use Rattle.heap_rule.specs.declared.views.UnitHeld.{UnitHeld}
 use Rattle.heap_rule.specs.Views.{Seated, caller_view, the_caller, note_of_unit, note_of_advancer, caller_heard}
+use Rattle.heap_rule.specs.Plays.{IsNotBeyond}
+use Rattle.heap_rule.proofs.HearPlays.{greater_none, greater_one}
 use Rattle.heap.specs.HeapShown.{IsCaller, Counts}
-
--- no front rises by fronts of 0
-greater_none : (ns : List ℕ) → greater_fronts ns (replicate (length ns) 0) ≡ ns
-greater_none [] = refl
-greater_none (n ∷ ns) = λ i. largest n i ∷ greater_none ns i
-  where
-    largest : (n : ℕ) → max n 0 ≡ n
-    largest n = omega arith
-
--- and one does by one
-greater_one : (ns : List ℕ) (u m : ℕ) → u < length ns
-    → greater_fronts ns (set (replicate (length ns) 0) u m) ≡ set ns u (max (get_or ns u 0) m)
-greater_one [] u m l = absurd (omega arith)
-greater_one (n ∷ ns) zero m l = λ i. max n m ∷ greater_none ns i
-greater_one (n ∷ ns) (suc u) m l = λ i. largest n i ∷ greater_one ns u m (omega arith) i
-  where
-    largest : (n : ℕ) → max n 0 ≡ n
-    largest n = omega arith
 
 pub length-greater : (ns ms : List ℕ) → length (greater_fronts ns ms) ≡ length ns
 length-greater [] ms = refl
@@ -61,15 +45,17 @@ module _ (t : TableId) (number : ℕ) (counts : Counts) (fronts synced : List �
   -- of a unit
   pub unit_heard : (r : TableId) (n : Seated) (h : UnitHeld) (unit entries newest durable : ℕ) (more : List ℕ) (now later : ℕ) → r ≡ t
       → unit ≡ h.unit → unit < length fronts → entries ≡ length h.part.history → newest ≡ last_epoch h.part.history
-      → durable ≡ h.part.durable → n ≡ (caller_view (caller_heard hearer (note_of_unit (length hearer.part.fronts) h)), [])
-      → more ≡ set fronts unit (max (get_or fronts unit 0) entries) → now ≡ max counts.newest newest
+      → durable ≡ h.part.durable → IsNotBeyond hearer h
+      → n ≡ (caller_view (caller_heard hearer (note_of_unit (length hearer.part.fronts) h)), [])
+      → more ≡ set fronts unit entries → now ≡ max counts.newest newest
       → later ≡ max counts.durable durable
       → IsCaller r number (record { calls = counts.calls; newest = now; durable = later }) more synced n
-  unit_heard r n h unit entries newest durable more now later same of_unit inside entries_are newest_is durable_is is more_is now_is
-      later_is =
+  unit_heard r n h unit entries newest durable more now later same of_unit inside entries_are newest_is durable_is low is more_is
+      now_is later_is =
       heard_keeps r n (note_of_unit (length hearer.part.fronts) h) more now later same
-      (more_is ∙ ((λ j. set fronts (of_unit j) (max (get_or fronts (of_unit j) 0) (entries_are j)))
-      ∙ (sym (greater_one fronts h.unit (length h.part.history) (subst (λ (x : ℕ). x < length fronts) of_unit inside))
+      (more_is ∙ ((λ j. set fronts (of_unit j) (entries_are j))
+      ∙ (sym (greater_one fronts h.unit (length h.part.history) (subst (λ (x : ℕ). x < length fronts) of_unit inside)
+      (subst (λ (ns : List ℕ). get_or ns h.unit 0 ≤ length h.part.history) (sym k.fronts_are) low))
       ∙ (λ j. greater_fronts fronts (set (replicate (length (k.fronts_are j)) 0) h.unit (length h.part.history))))))
       (now_is ∙ ap (max counts.newest) newest_is) (later_is ∙ ap (max counts.durable) durable_is) is
 

@@ -1,5 +1,5 @@
 -- From what contracts see of a heap and its seats to what their fields have.
-use Rattle.std.proofs.Common.{◌≡◌, ℕ, ◌+◌, ◌*◌, ◌<◌, ◌≤◌, refl, ap, sym, ◌∙◌, subst, arith, [], ◌∷◌, ◌++◌, true, false, cond}
+use Rattle.std.proofs.Common.{◌≡◌, ℕ, ◌+◌, ◌*◌, ◌<◌, ◌≤◌, refl, ap, sym, ◌∙◌, subst, arith, [], ◌∷◌, ◌++◌, Bool, true, false, cond}
 use Rattle.std.specs.Prelude.{◌||◌, nat_le, Some, None}
 use Rattle.atomic_table.specs.Seated.{TableId}
 use Rattle.atomic_table.specs.Table.{rest}
@@ -19,7 +19,7 @@ use Rattle.heap_rule.specs.declared.views.AdvHeld.{AdvHeld}
 use Rattle.heap_rule.specs.declared.views.CallerHeld.{CallerHeld}
 use Rattle.heap_rule.specs.declared.views.UnitHeld.{UnitHeld}
 use Rattle.heap_rule.specs.declared.views.View.{View}
-use Rattle.heap_rule.specs.Views.{Cell, Seated, listing, list_place, listed_in, list_at, unit_view, advancer_view, the_unit, the_advancer, unit_took, advancer_took, slot_at_hand, field_at_hand, odd_announcement, caller_view, pair_view, with_callers}
+use Rattle.heap_rule.specs.Views.{Cell, Seated, home_turn, listing, list_place, listed_in, list_at, unit_view, advancer_view, the_unit, the_advancer, unit_took, advancer_took, slot_at_hand, field_at_hand, odd_announcement, caller_view, pair_view, with_callers}
 use Rattle.heap_rule.specs.TableWords.{announcement_place, durable_place, word_count}
 use Rattle.heap.specs.HeapShown.{HeapShown, UnitShown, AdvShown, CallerShown, IsUnit, IsAdvancer}
 
@@ -76,6 +76,15 @@ close_label_rests p slot may = ap is_within may.stage
 
 pub persist_close_rests : (p : UnitPart) (slot : ℕ) → CanPersistClose p slot → is_within p.stage ≡ false
 persist_close_rests p slot may = ap is_within may.stage
+
+-- a unit that takes its announcement back has its list at home with nothing pushed
+pub withdraw_rests : (h : UnitHeld) → (is_within h.part.stage ≡ false → h.turn ≡ home_turn)
+    → (is_within h.part.stage ≡ true → h.turn ≡ home_turn) → h.turn ≡ home_turn
+withdraw_rests h rests within = by (is_within h.part.stage) refl
+  where
+    by : (b : Bool) → is_within h.part.stage ≡ b → h.turn ≡ home_turn
+    by true e = within e
+    by false e = rests e
 
 -- ---- slots
 pub slot_inside : (slot : ℕ) (a b : HeapShown) → a ≡ b → slot < total_of b.opening.layout → slot < total_of a.opening.layout

@@ -4,7 +4,7 @@ ghost use Rattle.mont_base.specs.Layout.{units_of};
 ghost use Rattle.core_steps.specs.Stages.{epoch_of};
 ghost use Rattle.core_steps.specs.Announcing.{can_freeze};
 ghost use Rattle.core_steps.specs.Answering.{CanLeave, CanRead};
-ghost use Rattle.heap_rule.specs.Plays.{IsClock, answer_of};
+ghost use Rattle.heap_rule.specs.Plays.{IsClock, IsNotBeyond, answer_of};
 ghost use Rattle.heap_rule.specs.SoundUnits.{IsSoundUnit};
 ghost use Rattle.heap_rule.specs.TableWords.{announcement_place};
 ghost use Rattle.heap_rule.specs.Views.{are_clean, slots_written, pair_view, the_unit, the_caller, unit_left, unit_read, unit_frozen, caller_answered, caller_cut};
@@ -44,6 +44,9 @@ impl Heap {
         ensures receipt { IfOk result (λ r. r ≡ receipt_of seat.old.held
             (answer_of ticket.old.held op.now reply.now
             (epoch_of seat.old.held.part.stage))) }
+        ensures front { OnOk result (IsNotBeyond ticket.old.held seat.old.held) }
+        ensures sound_before { OnOk result ((now durable : ℕ)
+            × IsSoundUnit self.now.opening now durable seat.old.held) }
         ensures sound { IfOk result (λ _. (now durable : ℕ)
             × IsSoundUnit self.now.opening now durable seat.new.held) }
         ensures cut { OnErr result ((seat.new ≡ seat.old) × (ticket.new ≡ ticket.old)) }
@@ -111,6 +114,9 @@ impl Heap {
                   (epoch_of (the_unit seat.old.me.0).part.stage))),
               seat.old.me.1,
             ) }
+        ensures front { IsNotBeyond (the_caller seat.old.me.0) (the_unit seat.old.me.0) }
+        ensures sound_before { (now durable : ℕ)
+            × IsSoundUnit N.opening now durable (the_unit seat.old.me.0) }
         ensures sound { (now durable : ℕ) × IsSoundUnit N.opening now durable
             (unit_left (the_unit seat.old.me.0)
             (answer_of (the_caller seat.old.me.0) op.now reply.now
@@ -145,11 +151,14 @@ impl Heap {
         }) }
         ensures receipt { IfOk result (λ r. r ≡ receipt_of seat.old.held
             (answer_of ticket.old.held op.now reply.now r.entry.epoch)) }
+        ensures front { OnOk result (IsNotBeyond ticket.old.held seat.old.held) }
         ensures clock { IfOk result (λ r. IsClock (record {
           newest = max seat.old.held.learnt.newest ticket.old.held.part.newest;
           durable = max seat.old.held.learnt.durable ticket.old.held.part.durable;
         })
             seat.old.held.part r.entry.epoch) }
+        ensures sound_before { OnOk result ((now durable : ℕ)
+            × IsSoundUnit self.now.opening now durable seat.old.held) }
         ensures sound { IfOk result (λ r. (durable : ℕ)
             × IsSoundUnit self.now.opening r.entry.epoch durable seat.new.held) }
         ensures cut { OnErr result ((seat.new ≡ seat.old) × (ticket.new ≡ ticket.old)) }
@@ -202,12 +211,15 @@ impl Heap {
                   (answer_of (the_caller seat.old.me.0) op.now reply.now result)),
               seat.old.me.1,
             ) }
+        ensures front { IsNotBeyond (the_caller seat.old.me.0) (the_unit seat.old.me.0) }
         ensures clock { IsClock (record {
           newest = max (the_unit seat.old.me.0).learnt.newest
               (the_caller seat.old.me.0).part.newest;
           durable = max (the_unit seat.old.me.0).learnt.durable
               (the_caller seat.old.me.0).part.durable;
         }) (the_unit seat.old.me.0).part result }
+        ensures sound_before { (now durable : ℕ)
+            × IsSoundUnit N.opening now durable (the_unit seat.old.me.0) }
         ensures sound { (durable : ℕ) × IsSoundUnit N.opening result durable
             (unit_read (the_unit seat.old.me.0) result
             (answer_of (the_caller seat.old.me.0) op.now reply.now result)) }

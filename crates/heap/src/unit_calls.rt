@@ -1,7 +1,7 @@
 // The steps by which a unit looks at the clock and announces an epoch.
 ghost use Rattle.std.specs.Prelude.{◌≡◌, ◌<◌, ℕ, max, IsTrue, IfOk, OnOk, OnErr};
 ghost use Rattle.mont_base.specs.Layout.{units_of};
-ghost use Rattle.core_steps.specs.Stages.{is_idle};
+ghost use Rattle.core_steps.specs.Stages.{is_idle, is_within};
 ghost use Rattle.core_steps.specs.Announcing.{can_look, can_tell, can_confirm, can_withdraw};
 ghost use Rattle.core_steps.specs.Closing.{can_load_durable};
 ghost use Rattle.heap_rule.specs.Plays.{IsClock, IsDurable};
@@ -72,7 +72,8 @@ impl Heap {
     pub fn withdraw<G: Gate>(&self, seat: &mut UnitSeat, gate: &mut G) -> Result<(), Cut>
         requires heap { seat.old.table ≡ self.now.table }
         requires may { IsTrue (can_withdraw seat.old.held.part) }
-        requires home { seat.old.held.turn ≡ home_turn }
+        requires home { IsTrue (is_within seat.old.held.part.stage)
+            → seat.old.held.turn ≡ home_turn }
         ensures gate { IsAskedOnce G.cuts G.endless G.asked gate.old gate.new result }
         ensures ok { OnOk result (seat.new
             ≡ record { table = seat.old.table; held = unit_withdrew seat.old.held }) }

@@ -48,9 +48,9 @@ use Rattle.heap_rule.specs.SoundUnits.{IsSoundUnit}
 use Rattle.heap_rule.specs.Plays.{answer_of, left, read as was_read, frozen, saw_durable}
 use Rattle.heap_rule.proofs.HomeSlots.{unit_home_in, in_other, unit_home_else}
 use Rattle.heap_rule.proofs.Growing.{Sweeps, sweeps_itself, clean_still, learnt_still, entries_still}
-use Rattle.heap_rule.proofs.RuleFrames.{Reached, goes, Moves, steps, loads, one_given, given_hit, given_miss}
+use Rattle.heap_rule.proofs.RuleFrames.{Reached, goes, stays, Moves, steps, loads, one_given, given_hit, given_miss}
 use Rattle.heap_rule.proofs.RunFacts.{unit_sound}
-use Rattle.heap_rule.proofs.CoreFacts.{at_row, none_clean, none_announced, clock_low, is_clock, is_durable, stores_announced, found_clock, found_durable_clock}
+use Rattle.heap_rule.proofs.CoreFacts.{at_row, none_clean, none_announced, clock_low, is_clock, is_durable, stores_announced, not_beyond, found_clock, found_durable_clock}
 use Rattle.heap_rule.proofs.UnitPlays.{IsOwnStep, sweeps_one, own_moves, own_homes, own_passed}
 
 -- ---- a caller that is answered has seen the whole history
@@ -208,6 +208,8 @@ leaves o slots seat h q c op reply may given s k long at small =
           (pair_board o s k seat h q f g d home_turn) y owed.moves (stores_announced o s k h.unit 0) owed.passed owed.homes owed.fits,
       (
         refl,
+        not_beyond o s k h q f.part g.part,
+        (clock core, durable_clock core, unit_sound o s k core (stays o s k) refl h f.part f.clean),
         (
           clock core,
           durable_clock core,
@@ -275,9 +277,11 @@ reads o slots seat h q c op reply may clean s k long at small =
           (pair_board o s k seat h q f g d h.turn) y owed.moves refl owed.passed owed.homes owed.fits),
       (
         refl,
+        not_beyond o s k h q f.part g.part,
         is_clock _ core k.sound
             (record { newest = max h.learnt.newest q.part.newest; durable = max h.learnt.durable q.part.durable }) h.unit h.part x
             (record { newest = omega arith; durable = omega arith }) f.part found,
+        (clock core, durable_clock core, unit_sound o s k core (stays o s k) refl h f.part f.clean),
         (
           durable_clock core,
           subst (λ (z : ℕ). IsSoundUnit o z (durable_clock core) (unit_read h z (answer_of q op reply z))) (sym found)

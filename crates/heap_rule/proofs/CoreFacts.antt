@@ -1,8 +1,9 @@
 -- What the rule tells of the core: its words among those of the table, its clocks, and which units have no
 -- lost slot.
-use Rattle.std.proofs.Common.{◌≡◌, ◌≢◌, ℕ, zero, suc, ◌+◌, ◌*◌, ◌<◌, ◌≤◌, List, [], ◌∷◌, length, set, sym, refl, ap, ◌∙◌, arith, true, false}
-use Rattle.std.specs.Prelude.{slice_get, slice_index, Some}
+use Rattle.std.proofs.Common.{◌≡◌, ◌≢◌, ℕ, zero, suc, ◌+◌, ◌*◌, ◌<◌, ◌≤◌, List, [], ◌∷◌, ◌++◌, length, set, sym, refl, ap, ◌∙◌, arith, Bool, true, false, ◌⊎◌, inl, inr, ⊎_elim}
+use Rattle.std.specs.Prelude.{slice_get, slice_index, Some, ◌||◌, ◌==◌}
 use Rattle.std.specs.List.{Contains}
+use Rattle.std.proofs.lemmas.Option.{slice_get_within, slice_get-get_or}
 use mathlib.Core.Logic.{dite}
 use native.Mathlib.Decide.{ℕ_discrete}
 use Rattle.atomic_table.specs.Table.{State}
@@ -17,16 +18,20 @@ use Rattle.core_steps.specs.Places.{on_row}
 use Rattle.core_steps.specs.Clock.{clock, durable_clock}
 use Rattle.core_steps.specs.Stages.{is_announced, limit_of, passed_of}
 use Rattle.core_steps.specs.Events.{AreNoneLost}
+use Rattle.core_steps.specs.Notes.{histories_of}
 use Rattle.core_steps.specs.Sound.{Base, IsSound, LostWait}
+use Rattle.core_steps.proofs.CallerFrames.{history_row}
 use Rattle.core_steps.proofs.Decisions.{both}
 use Rattle.core_steps.proofs.NoteLaws.{last_within, limit_reached}
 use Rattle.heap_rule.specs.declared.rule.Opening.{Opening}
+use Rattle.heap_rule.specs.declared.views.CallerHeld.{CallerHeld}
 use Rattle.heap_rule.specs.declared.views.Learnt.{Learnt}
+use Rattle.heap_rule.specs.declared.views.UnitHeld.{UnitHeld}
 use Rattle.heap_rule.specs.declared.views.View.{View}
 use Rattle.heap_rule.specs.Views.{Cell, is_among, are_clean}
 use Rattle.heap_rule.specs.TableWords.{laid_out, table_words, durable_place, announcement_place}
 use Rattle.heap_rule.specs.Rule.{IsLearnt, AreClean, ShowsCore}
-use Rattle.heap_rule.specs.Plays.{IsClock, IsDurable}
+use Rattle.heap_rule.specs.Plays.{IsClock, IsDurable, IsNotBeyond}
 use Rattle.heap_rule.proofs.WordPlaces.{set_current, set_durable, set_announced, get_current, get_durable, get_announced}
 
 -- ---- a part that there is
@@ -52,6 +57,20 @@ pub all_clean : (units : List UnitPart) (n : ℕ) (clean : List ℕ) → AreClea
     → AreNoneLost units
 all_clean units n clean are all count u p at =
     let l = row_within units u p at in are u p at (among_clean n clean u all (omega arith))
+
+-- clean for one, or for the other
+among_both : (a b : List ℕ) (u : ℕ) → is_among (a ++ b) u ≡ true → (is_among a u ≡ true) ⊎ (is_among b u ≡ true)
+among_both [] b u e = inr e
+among_both (x ∷ xs) b u e = by (x == u) refl e (among_both xs b u)
+  where
+    by : (t : Bool) → (x == u) ≡ t → (t || is_among (xs ++ b) u) ≡ true
+        → (is_among (xs ++ b) u ≡ true → (is_among xs u ≡ true) ⊎ (is_among b u ≡ true))
+        → (is_among (x ∷ xs) u ≡ true) ⊎ (is_among b u ≡ true)
+    by true is e rest = inl (ap (λ t. t || is_among xs u) is)
+    by false is e rest = ⊎_elim (λ h. inl (ap (λ t. t || is_among xs u) is ∙ h)) inr (rest e)
+
+pub clean_both : (units : List UnitPart) (a b : List ℕ) → AreClean units a → AreClean units b → AreClean units (a ++ b)
+clean_both units a b x y u p at among = ⊎_elim (x u p at) (y u p at) (among_both a b u among)
 
 -- no slot is lost while a unit has an epoch announced, or an advance is under way
 nothing_in : (lost : List ℕ) → ((slot : ℕ) → Contains lost slot → ⊥) → lost ≡ []
@@ -144,6 +163,17 @@ module _ (o : Opening) (s : State Cell View) (k : ShowsCore o s) where
       → AreNoneLost k.board.core.units
   none_clean clean are all =
       all_clean k.board.core.units (units_of o.layout) clean are all (k.sound.sizes.unit_count ∙ ap units_of k.layout)
+
+  -- no front of a caller is beyond the unit's history
+  pub not_beyond : (h : UnitHeld) (q : CallerHeld) → slice_get k.board.core.units h.unit ≡ Some h.part
+      → slice_get k.board.core.callers q.caller ≡ Some q.part → IsNotBeyond q h
+  not_beyond h q at there =
+      let seen = (k.sound.callers.each q.caller q.part there).seen in
+      let history = history_row k.board.core.units h.unit h.part at in
+      let inside = slice_get_within (histories_of k.board.core.units) h.unit h.part.history history in
+      let count = seen.units in
+      (seen.each h.unit (slice_index q.part.fronts h.unit) h.part.history
+      (slice_get-get_or q.part.fronts h.unit 0 (omega arith)) history).there
 
   pub found_clock : slice_index s.words 0 ≡ clock k.board.core
   found_clock = found_current 0 (omega arith)

@@ -5,11 +5,13 @@ pub mod RuleFrames
 pub mod UsedSlots
 pub mod RunFacts
 pub mod CoreFacts
+pub mod ShownHistories
 pub mod UnitPlays
 pub mod StorePlays
 pub mod ListFacts
 pub mod FlushPlays
 pub mod AnswerPlays
+pub mod HearPlays
 pub mod ListRoom
 pub mod ListPlays
 pub mod SeatPlays

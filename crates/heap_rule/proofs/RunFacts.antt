@@ -76,6 +76,7 @@ unit_sound o s k d r same h at clean =
     let layout : d.layout ≡ o.layout = same ∙ k.layout in
     let slots = r.sound.slots in
     let unit = r.sound.units h.unit h.part at in record {
+      accepted = k.accepted;
       begun = clocks.begun;
       behind = clocks.behind;
       near = clocks_near (phase_of d.advancer) (clock d) (durable_clock d) clocks.stand;

@@ -1,5 +1,5 @@
 -- What each step tells: the seat after it, and what the rule says of the word that was found.
-use Rattle.std.specs.Prelude.{◌≡◌, ℕ, ◌+◌, ◌*◌, ◌/◌, ◌<◌, ◌≤◌, ◌⊎◌, List, ◌∷◌, ◌++◌, length, max, All}
+use Rattle.std.specs.Prelude.{◌≡◌, ℕ, ◌+◌, ◌*◌, ◌/◌, ◌<◌, ◌≤◌, ◌⊎◌, List, ◌∷◌, ◌++◌, length, max, slice_get, slice_index, All, Some}
 use Rattle.atomic_table.specs.Table.{Step, rest}
 use Rattle.mont_base.specs.declared.constants.TheConstants.{FIRST_CLOCK, LAST}
 use Rattle.mont_base.specs.declared.operation.Entry.{Entry}
@@ -15,7 +15,7 @@ use Rattle.heap_rule.specs.declared.views.Learnt.{Learnt}
 use Rattle.heap_rule.specs.declared.views.UnitHeld.{UnitHeld}
 use Rattle.heap_rule.specs.declared.views.AdvHeld.{AdvHeld}
 use Rattle.heap_rule.specs.declared.views.CallerHeld.{CallerHeld}
-use Rattle.heap_rule.specs.Views.{Cell, Seated, listing, list_place, list_at, listed_in, unit_view, advancer_view, caller_view, pair_view, the_unit, the_advancer, the_caller, unit_looked, unit_told, unit_confirmed, unit_wrote, unit_withdrew, unit_loaded_durable, unit_closed, unit_persisted, unit_left, unit_read, unit_frozen, unit_took, unit_gave, advancer_checked, advancer_loaded, advancer_persisted, advancer_set, advancer_rested, advancer_took, advancer_gave, place_at_hand, caller_answered, caller_saw, caller_cut}
+use Rattle.heap_rule.specs.Views.{Cell, Seated, listing, list_place, list_at, listed_in, unit_view, advancer_view, caller_view, pair_view, the_unit, the_advancer, the_caller, unit_looked, unit_told, unit_confirmed, unit_wrote, unit_withdrew, unit_loaded_durable, unit_closed, unit_persisted, unit_left, unit_read, unit_frozen, unit_took, unit_gave, advancer_checked, advancer_loaded, advancer_persisted, advancer_set, advancer_rested, advancer_took, advancer_gave, place_at_hand, caller_answered, caller_saw, caller_cut, caller_heard, note_of_unit}
 use Rattle.heap_rule.specs.TableWords.{slot_at, field_at}
 use Rattle.heap_rule.specs.SoundUnits.{IsSoundUnit}
 
@@ -71,6 +71,28 @@ persisted o s m found n =
     let w : UnitHeld = unit_persisted h (closing_of h.part.stage) in
     (n ≡ (unit_view w, m.1)) × ((now durable : ℕ) × IsSoundUnit o now durable w)
 
+-- ---- what a caller has seen of a unit
+-- its front there is not beyond the unit's history
+abbrev pub IsNotBeyond : CallerHeld → UnitHeld → Type 0
+IsNotBeyond q h = slice_index q.part.fronts h.unit ≤ length h.part.history
+
+-- all entries of the unit
+pub record HasSeenAll (q : CallerHeld) (h : UnitHeld) : Type 0 where
+  pub front : slice_index q.part.fronts h.unit ≡ length h.part.history
+  pub entries : slice_get q.entries h.unit ≡ Some h.part.history
+
+-- The caller takes a note of the unit. The clock that is loaded stands nowhere: the load is no step
+-- of the machine.
+abbrev pub heard : Opening → Step Cell → Seated → ℕ → Seated → Type 0
+heard o s m found n =
+    let h : UnitHeld = the_unit m.0 in
+    let q : CallerHeld = the_caller m.0 in
+    let r : CallerHeld = caller_heard q (note_of_unit (length q.part.fronts) h) in
+    (n ≡ (pair_view h r, m.1))
+    × IsNotBeyond q h
+    × HasSeenAll r h
+    × ((now durable : ℕ) × IsSoundUnit o now durable h)
+
 -- ---- answers
 -- the entry of a caller's operation
 abbrev pub answer_of : CallerHeld → Op → Reply → ℕ → Entry
@@ -82,6 +104,8 @@ left o op reply s m found n =
     let q : CallerHeld = the_caller m.0 in
     let e : Entry = answer_of q op reply (epoch_of h.part.stage) in
     (n ≡ (pair_view (unit_left h e) (caller_answered q h e), m.1))
+    × IsNotBeyond q h
+    × ((now durable : ℕ) × IsSoundUnit o now durable h)
     × ((now durable : ℕ) × IsSoundUnit o now durable (unit_left h e))
 
 abbrev pub read : Opening → Op → Reply → Step Cell → Seated → ℕ → Seated → Type 0
@@ -90,10 +114,12 @@ read o op reply s m found n =
     let q : CallerHeld = the_caller m.0 in
     let e : Entry = answer_of q op reply found in
     (n ≡ (pair_view (unit_read h found e) (caller_answered q h e), m.1))
+    × IsNotBeyond q h
     × IsClock (record {
       newest = max h.learnt.newest q.part.newest;
       durable = max h.learnt.durable q.part.durable;
     }) h.part found
+    × ((now durable : ℕ) × IsSoundUnit o now durable h)
     × ((durable : ℕ) × IsSoundUnit o found durable (unit_read h found e))
 
 abbrev pub frozen : Step Cell → Seated → ℕ → Seated → Type 0

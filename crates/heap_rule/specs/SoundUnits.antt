@@ -2,10 +2,12 @@
 use Rattle.std.specs.Prelude.{◌≡◌, ◌≢◌, ℕ, ◌+◌, ◌<◌, ◌≤◌, true, List, [], ◌∷◌, ◌++◌, map, All, AllPairs, Option, Some, None}
 use Rattle.mont_base.specs.declared.constants.TheConstants.{LAST}
 use Rattle.mont_base.specs.declared.record.Held.{Held}
-use Rattle.mont_base.specs.Image.{clock_of, IsRecovered}
+use Rattle.mont_base.specs.Image.{clock_of, IsRecovered, IsWellFormed}
 use Rattle.mont_base.specs.Layout.{Shape, total_of, unit_of_slot}
 use Rattle.mont_base.specs.State.{State}
+use Rattle.mont_base.specs.History.{state_after}
 use Rattle.mont_laws.specs.SlotReadings.{IsRecordOf}
+use Rattle.mont_laws.specs.Structures.{HasStructure}
 use Rattle.core_steps.specs.declared.parts.UnitPart.{UnitPart}
 use Rattle.core_steps.specs.declared.parts.Writing.{Writing}
 use Rattle.core_steps.specs.Opened.{opened_at}
@@ -36,6 +38,7 @@ pub record HasOwnSlots (s : Shape) (u : ℕ) (p : UnitPart) : Type 0 where
 -- ---- The unit's clauses of the invariant, from whatever state recovery gave it when the store was
 -- opened, where the clocks show now and durable.
 pub record IsSoundUnit (o : Opening) (now durable : ℕ) (h : UnitHeld) : Type 0 where
+  pub accepted : IsWellFormed o.layout o.words
   pub begun : clock_of o.words ≤ durable
   pub behind : durable ≤ now
   pub near : now ≤ durable + 1
@@ -47,3 +50,15 @@ pub record IsSoundUnit (o : Opening) (now durable : ℕ) (h : UnitHeld) : Type 0
   pub fits : (states : List State) → IsRecovered o.layout o.words states
       → UnitFits o.layout (clock_of o.words) now durable h.unit
       (base_state (opened_at (clock_of o.words) states) h.unit) h.part
+
+-- the state of the unit's history, from what recovery gave it
+abbrev pub state_shown : Opening → List State → UnitHeld → State
+state_shown o states h =
+    state_after (base_state (opened_at (clock_of o.words) states) h.unit) h.part.history
+
+-- its records show that state
+abbrev pub SoundUnitsShowHistories : Type 0
+SoundUnitsShowHistories =
+    (o : Opening) (now durable : ℕ) (h : UnitHeld) (states : List State)
+    → IsSoundUnit o now durable h → IsRecovered o.layout o.words states
+    → HasStructure o.layout h.unit h.part.records (state_shown o states h)

@@ -458,22 +458,10 @@ shown_caller v w = let q : CallerHeld = the_caller w in record {
   notes = [];
 }
 
--- the caller of the other takes a note of the unit or the advancer of the one
-abbrev pub notes_of_parts : ℕ → View → List NoteHeld
-notes_of_parts units v =
-    map (λ (h : UnitHeld). note_of_unit units h) v.units
-    ++ map (λ (a : AdvHeld). note_of_advancer units a) v.advancers
-
-abbrev pub hears_all : CallerHeld → List NoteHeld → CallerHeld
-hears_all q [] = q
-hears_all q (n ∷ ns) = hears_all (caller_heard q n) ns
-
-abbrev pub heard_caller : View → View → View
-heard_caller v w = let q : CallerHeld = the_caller w in record {
-  units = v.units;
-  advancers = v.advancers;
-  callers = hears_all q (notes_of_parts (length q.part.fronts) v) ∷ [];
-  notes = [];
+-- the caller of the other takes a note of the advancer of the one
+abbrev pub heard_advancer : View → View → View
+heard_advancer v w = let q : CallerHeld = the_caller w in record v {
+  callers = caller_heard q (note_of_advancer (length q.part.fronts) (the_advancer v)) ∷ [];
 }
 
 -- the caller of the one takes the note of the other

@@ -13,13 +13,13 @@ mod seat_moves;
 mod views;
 
 pub use plays::{
-    Answer, Checks, ClosesLabel, Confirms, Freezes, GivesEmpty, GivesList, Leaves, LoadsDurable,
-    LoadsWord, Looks, Opened, PersistsClock, PersistsClose, PersistsWord, Reads, SeesDurable,
-    SetsClock, Stores, TakesFull, TakesList, Tells, Withdraws,
+    Answer, Checks, ClosesLabel, Confirms, Freezes, GivesEmpty, GivesList, HearsUnit, Leaves,
+    LoadsDurable, LoadsWord, Looks, Opened, PersistsClock, PersistsClose, PersistsWord, Reads,
+    SeesDurable, SetsClock, Stores, TakesFull, TakesList, Tells, Withdraws,
 };
 pub use rule::{Opening, Rule};
 pub use seat_moves::{
-    Callers, CopiesCaller, FirstCaller, FirstUnit, HearsCaller, HearsNews, ShowsCaller,
+    Callers, CopiesCaller, FirstCaller, FirstUnit, HearsAdvancer, HearsNews, ShowsCaller,
     TakesCallers, TakesUnits, Whole,
 };
 pub use views::{AdvHeld, CallerHeld, Cell, FullTurn, Learnt, NoteHeld, UnitHeld, UnitTurn, View};

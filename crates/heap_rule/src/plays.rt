@@ -41,6 +41,17 @@ impl Answer for Brand {
     ghost reply = { Nothing };
 }
 
+/// The caller takes a note of the unit.
+pub struct HearsUnit<N> {
+    of: PhantomData<N>,
+}
+
+impl<N: Opened> Play<Cell, View> for HearsUnit<N> {
+    ghost use Rattle.heap_rule.specs.Plays.{heard};
+
+    ghost then = { heard N.opening };
+}
+
 /// The unit leaves its epoch with an answer.
 pub struct Leaves<N> {
     of: PhantomData<N>,

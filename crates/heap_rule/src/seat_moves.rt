@@ -90,13 +90,13 @@ impl Join<View> for ShowsCaller {
     ghost spent = { nothing };
 }
 
-/// The caller, whose part comes to the seat, takes a note of the unit or the advancer.
-pub struct HearsCaller;
+/// The caller, whose part comes to the seat, takes a note of the advancer.
+pub struct HearsAdvancer;
 
-impl Join<View> for HearsCaller {
-    ghost use Rattle.heap_rule.specs.Views.{heard_caller, nothing};
+impl Join<View> for HearsAdvancer {
+    ghost use Rattle.heap_rule.specs.Views.{heard_advancer, nothing};
 
-    ghost both = { heard_caller };
+    ghost both = { heard_advancer };
 
     ghost spent = { nothing };
 }

@@ -112,6 +112,8 @@ module _ (s : Shape) (heap : HeapShown) (one : units_of s ≡ 1) (empty : OpensE
           caller = refl;
           other = refl;
           home = refl;
+          fronts = ap (λ n. length (replicate n zero)) one;
+          synced = ap (λ n. length (replicate n zero)) one;
         };
         turn = refl;
         clean = subst (λ (o : Opening). IsTrue (are_clean (units_of o.layout) (clean_at (fresh_opening s 2)))) (sym opening) empty.clean;

@@ -1,5 +1,5 @@
 -- What stays true of a store of one unit and two callers while it runs.
-use Rattle.std.specs.Prelude.{◌≡◌, false, List, [], ◌∷◌, IsTrue}
+use Rattle.std.specs.Prelude.{◌≡◌, false, List, [], ◌∷◌, length, IsTrue}
 use Rattle.mont_base.specs.Layout.{units_of}
 use Rattle.core_steps.specs.declared.parts.CallerPart.{CallerPart}
 use Rattle.core_steps.specs.Sound.{Base, IsSound}
@@ -8,7 +8,8 @@ use Rattle.heap.specs.HeapShown.{UnitShown, CallerShown}
 use Rattle.heap_worked.specs.declared.bench.Bench.{Bench}
 use Rattle.heap_worked.specs.Advances.{IsAtRest}
 
--- The bench has all seats of its heap, and the unit's list is at home.
+-- The bench has all seats of its heap, and the unit's list is at home. The other caller has a front of
+-- the one unit.
 pub record AreHome (b : Bench) : Type 0 where
   pub one : units_of b.heap.opening.layout ≡ 1
   pub two : b.heap.opening.callers ≡ 2
@@ -20,6 +21,8 @@ pub record AreHome (b : Bench) : Type 0 where
   pub caller : b.caller.held.caller ≡ 0
   pub other : b.other.held.caller ≡ 1
   pub home : b.unit.held.turn.out ≡ false
+  pub fronts : length b.other.held.part.fronts ≡ 1
+  pub synced : length b.other.held.part.synced ≡ 1
 
 -- What the unit and the first caller show is what the program's core has.
 pub record Mirrors (b : Bench) : Type 0 where

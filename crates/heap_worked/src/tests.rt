@@ -29,6 +29,7 @@ fn each_step_leaves_its_words(rt: HostRuntime) -> Result<(), Fail> {
 }
 
 // What the first caller has seen of the unit comes to the other by the unit's seat, and by a note.
+#[tactic(auto, using(crate::proofs::HeardFronts::as_many))]
 #[test]
 fn notes_are_taken(rt: HostRuntime) -> Result<(), Fail> {
     let mut bench = begin(rt.alloc(), Fuel::endless())?;
@@ -43,9 +44,11 @@ fn notes_are_taken(rt: HostRuntime) -> Result<(), Fail> {
         gate: _,
         core: _,
     } = bench;
+    assert_eq!(rt; (other.front(0), other.synced(0)), (0, 0));
     let news = heap.copy_ticket(rt.alloc(), &mut caller)?;
     heap.hear_news(&mut other, news);
     assert_eq!(rt; (other.number(), other.calls(), other.newest()), (1, 0, 2));
+    assert_eq!(rt; (other.front(0), other.synced(0)), (1, 0));
     let news = heap.copy_ticket(rt.alloc(), &mut other)?;
     heap.hear_news(&mut caller, news);
     assert_eq!(rt;

@@ -1,5 +1,5 @@
 -- A unit that registers once it has taken a note of the caller.
-use Rattle.std.proofs.Common.{◌≡◌, ℕ, ◌≤◌, length, refl, ap, sym, ◌∙◌, subst, arith, true}
+use Rattle.std.proofs.Common.{◌≡◌, ℕ, ◌≤◌, length, refl, ap, sym, ◌∙◌, subst, arith, true, false}
 use Rattle.mont_base.specs.Layout.{units_of}
 use Rattle.mont_laws.specs.Records.{live_of}
 use Rattle.core_steps.specs.Notes.{last_epoch}
@@ -8,7 +8,8 @@ use Rattle.core_steps.specs.declared.parts.UnitStage.TheVariants.{Within}
 use Rattle.heap.specs.HeapShown.{HeapShown, UnitShown, CallerShown}
 use Rattle.heap_pass.proofs.Cleanness.{are_clean-append}
 use Rattle.heap_rule.specs.Plays.{IsClock}
-use Rattle.heap_rule.specs.Views.{are_clean, unit_shown}
+use Rattle.heap_rule.specs.declared.views.UnitTurn.{UnitTurn}
+use Rattle.heap_rule.specs.Views.{are_clean, home_turn, unit_shown}
 use Rattle.announce.specs.Registering.{Comes, IsRegistered, IsOut, at_stage}
 use Rattle.slots.specs.Books.{RegionShown}
 use Rattle.slots.specs.Putting.{MayWrite}
@@ -57,10 +58,10 @@ pub runs_out : (heap : HeapShown) (r : RegionShown) (q : CallerShown) (seat : Un
 runs_out heap r q seat runs out =
     runs_at heap r q seat.held.part.stage seat.held.steps seat.held.loaded seat runs out.only
 
--- and has the same history
-pub history_out : (r : RegionShown) (q : CallerShown) (seat : UnitShown) → IsOut (seat_shown r q) seat
-    → seat.held.part.history ≡ r.seat.held.part.history
-history_out r q seat out = ap (λ (s : UnitShown). s.held.part.history) out.only
+-- and has its list at home
+pub home_out : (r : RegionShown) (q : CallerShown) (seat : UnitShown) → r.seat.held.turn ≡ home_turn → IsOut (seat_shown r q) seat
+    → seat.held.turn.out ≡ false
+home_out r q seat home out = ap (λ (s : UnitShown). s.held.turn.out) out.only ∙ ap (λ (t : UnitTurn). t.out) home
 
 -- an operation is under way
 pub has_begun : (heap : HeapShown) (old r : RegionShown) (q : CallerShown) (need epoch : ℕ) (seat : UnitShown)
@@ -79,6 +80,8 @@ has_begun heap old r q need epoch seat ready keeps room same registered clock =
     let low = clock.low in
     let newest = clock.not_before in
     let durable = clock.not_behind in
+    let before : old.seat.held.part.durable ≤ r.seat.held.part.durable = keeps.durable in
+    let known : r.seat.held.part.durable ≤ epoch = clock.after_durable in
     let entries : last_epoch r.seat.held.part.history ≤ epoch = clock.after_entries in
     record {
       guard_is = ap (λ (u : ℕ). guard_at u q.held.caller epoch need) keeps.of_unit;
@@ -100,6 +103,7 @@ has_begun heap old r q need epoch seat ready keeps room same registered clock =
         not_before = omega arith;
         not_behind = omega arith;
         after_entries = subst (λ h. last_epoch h ≤ epoch) keeps.history entries;
+        after_durable = omega arith;
       };
       keeps = record {
         of_unit = keeps.of_unit;
@@ -107,6 +111,7 @@ has_begun heap old r q need epoch seat ready keeps room same registered clock =
         live = λ identity. ap (λ (s : UnitShown). live_of identity s.held.part.records) comes ∙ keeps.live identity;
         identity = keeps.identity;
         serial = keeps.serial;
+        durable = subst (λ (s : UnitShown). old.seat.held.part.durable ≤ s.held.part.durable) (sym comes) before;
       };
       enough = λ few. ap (λ (s : RegionShown). s.books) (same few);
     }

@@ -1,21 +1,15 @@
--- A unit that was halted after other steps in the same call, and what stands until then.
-use Rattle.std.proofs.Common.{◌≡◌, ℕ, ap, ◌∙◌}
-use Rattle.heap.specs.HeapShown.{HeapShown, CallerShown}
-use Rattle.heap_rule.specs.Views.{caller_cut}
+-- What stays of a region until it is halted.
+use Rattle.std.proofs.Common.{◌≡◌, ℕ, List, [], ◌∷◌, refl, ap, ◌∙◌, inl, inr, ⊎_elim}
+use Rattle.mont_base.specs.declared.record.Change.{Change}
+use Rattle.mont_base.specs.declared.record.Held.{Held}
+use Rattle.mont_laws.specs.declared.retiring.Retired.{Retired}
+use Rattle.heap.specs.HeapShown.{HeapShown, UnitShown}
+use Rattle.heap_rule.specs.declared.views.UnitHeld.{UnitHeld}
+use Rattle.heap_rule.specs.Views.{unit_closed, unit_persisted, unit_loaded_durable}
 use Rattle.slots.specs.Books.{RegionShown, StaysOpen, Agrees}
-use Rattle.op_guard.specs.Regions.{IsRunning, WasHalted}
-
--- steps before the cut left the unit's number and its history
-pub halted_behind : (heap : HeapShown) (old mid new : RegionShown) (q r : CallerShown) → mid.books.unit ≡ old.books.unit
-    → mid.seat.held.part.history ≡ old.seat.held.part.history → WasHalted heap mid new q r → WasHalted heap old new q r
-halted_behind heap old mid new q r of_unit history k = record {
-  of_heap = k.of_heap;
-  agrees = k.agrees;
-  of_unit = k.of_unit ∙ of_unit;
-  by = k.by;
-  history = k.history ∙ history;
-  caller = k.caller ∙ ap (λ (u : ℕ). record { table = q.table; held = caller_cut q.held u }) of_unit;
-}
+use Rattle.slots.specs.Putting.{IsUnfinishedAt, FirstIsUnfinished, WasCutPutting}
+use Rattle.slots.specs.Reclaiming.{IsClosing, WasCutReclaiming, unit_emptied}
+use Rattle.op_guard.specs.Regions.{IsRunning}
 
 -- a region that stays open may still make steps
 pub stays_running : (heap : HeapShown) (old new : RegionShown) → IsRunning heap old → StaysOpen heap old new → Agrees new
@@ -26,3 +20,33 @@ stays_running heap old new runs stays agrees = record {
   running = stays.running;
   clean = stays.clean runs.clean;
 }
+
+-- ---- its list stays where it was
+turn_emptied : (h : UnitHeld) (closed : List Retired) → (unit_emptied h closed).turn ≡ h.turn
+turn_emptied h [] = refl
+turn_emptied h (t ∷ ts) = turn_emptied (unit_persisted (unit_closed h t.slot) t.slot) ts
+
+turn_closing : (h now : UnitHeld) (left : List Retired) → IsClosing h now left → now.turn ≡ h.turn
+turn_closing h now [] k = absurd k
+turn_closing h now (t ∷ ts) k = ap (λ (x : UnitHeld). x.turn) k
+
+-- by a reclaim that was cut
+pub turn_reclaiming : (old new : RegionShown) → WasCutReclaiming old new → new.seat.held.turn ≡ old.seat.held.turn
+turn_reclaiming old new (inl same) = ap (λ (r : RegionShown). r.seat.held.turn) same
+turn_reclaiming old new (inr k) =
+    let h : UnitHeld = unit_emptied (unit_loaded_durable old.seat.held k.clock) k.closed in
+    ⊎_elim (λ (e : new.seat.held ≡ h). ap (λ (x : UnitHeld). x.turn) e) (turn_closing h new.seat.held k.left) k.held_is
+    ∙ turn_emptied (unit_loaded_durable old.seat.held k.clock) k.closed
+
+turn_unfinished : (old new : UnitShown) (w : Held) → IsUnfinishedAt old new w → new.held.turn ≡ old.held.turn
+turn_unfinished old new w (inl same) = ap (λ (s : UnitShown). s.held.turn) same
+turn_unfinished old new w (inr k) = ap (λ (x : UnitHeld). x.turn) k.1.shows
+
+-- and by a put that was
+pub turn_putting : (old new : RegionShown) (change : Change) (epoch : ℕ) → WasCutPutting old new change epoch
+    → new.seat.held.turn ≡ old.seat.held.turn
+turn_putting old new change epoch k = by old.books.free k.unfinished
+  where
+    by : (free : List ℕ) → FirstIsUnfinished old new.seat change epoch free → new.seat.held.turn ≡ old.seat.held.turn
+    by [] f = absurd f
+    by (slot ∷ rest) f = turn_unfinished old.seat new.seat _ f

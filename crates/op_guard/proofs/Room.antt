@@ -3,6 +3,7 @@ use Rattle.std.proofs.Common.{◌≡◌, ℕ, zero, suc, inl, inr, ◌<◌, ◌�
 use Rattle.std.proofs.lemmas.Bool.{cases_lt}
 use Rattle.std.proofs.lemmas.List.Sums.{take_while-cons}
 use Rattle.std.proofs.lemmas.Bool.Decides.{nat_tests}
+use Rattle.std.specs.Prelude.{slice_get, slice_index}
 use Rattle.mont_base.specs.Image.{clock_of}
 use Rattle.mont_base.specs.Layout.{Shape, units_of}
 use Rattle.mont_base.specs.Room.{used_slots}
@@ -16,7 +17,7 @@ use Rattle.core_steps.proofs.Decisions.{both}
 use Rattle.core_steps.proofs.UnitRoom.{unit_used_undue}
 use Rattle.heap.specs.HeapShown.{HeapShown, UnitShown, CallerShown}
 use Rattle.heap_rule.specs.declared.views.UnitHeld.{UnitHeld}
-use Rattle.heap_rule.specs.Plays.{IsDurable}
+use Rattle.heap_rule.specs.Plays.{IsDurable, HasSeenAll}
 use Rattle.heap_rule.specs.Views.{is_among, are_clean, unit_closed, unit_persisted, unit_loaded_durable}
 use Rattle.slots.specs.Books.{BooksShown, RegionShown, Agrees, IsAtRest, StaysOpen}
 use Rattle.slots.specs.Reclaiming.{HasClosed, KeepsLive, IsSound, is_due, due_at, unit_emptied}
@@ -108,13 +109,15 @@ module _ (heap : HeapShown) (old new : RegionShown) (clock : ℕ) (ready : IsRea
     home = ap (λ (h : UnitHeld). h.turn) closed.others_are ∙ ready.home;
   }
 
-  pub keeps_emptied : KeepsLive old new → KeepsUnit old new
-  keeps_emptied live = record {
+  pub keeps_emptied : KeepsLive old new → IsDurable (max old.seat.held.part.durable old.seat.held.learnt.durable) clock
+      → KeepsUnit old new
+  keeps_emptied live found = let known = found.not_behind in let now = ap (λ (p : UnitPart). p.durable) closed.part_is in record {
     of_unit = ap (λ (b : BooksShown). b.unit) closed.books_are;
     history = stays.history;
     live = live;
     identity = ap (λ (b : BooksShown). b.identity) closed.books_are;
     serial = ap (λ (b : BooksShown). b.serial) closed.books_are;
+    durable = omega arith;
   }
 
   pub reclaimed_emptied : IsDurable (max old.seat.held.part.durable old.seat.held.learnt.durable) clock → IsReclaimedBy old new clock
@@ -130,19 +133,27 @@ module _ (heap : HeapShown) (old new : RegionShown) (clock : ℕ) (ready : IsRea
         none_due = none_left clock old.books.retired new.books.retired closed.queue_is;
       }
 
+  -- the unit's number
+  same_unit : IsRunning heap new → new.seat.held.unit ≡ old.books.unit
+  same_unit runs = sym runs.agrees.0 ∙ ap (λ (b : BooksShown). b.unit) closed.books_are
+
   -- too few are free, and the caller took a note
   pub is_full : (q r : CallerShown) (need free : ℕ) → IsAtRest new.seat.held.part → KeepsLive old new
       → IsDurable (max old.seat.held.part.durable old.seat.held.learnt.durable) clock → clock_of heap.opening.words ≤ clock
-      → IsSound heap new → free ≡ length new.books.free → free < need → HasNoted new q r → IsFull heap old new q r need free clock
-  is_full q r need free rests live found begun sound is fewer noted =
+      → IsSound heap new → free ≡ length new.books.free → free < need → HasNoted new q r → HasSeenAll r.held new.seat.held
+      → IsFull heap old new q r need free clock
+  is_full q r need free rests live found begun sound is fewer noted seen =
       let ready_now = ready_emptied rests in
+      let unit = same_unit ready_now.runs in
       let reclaimed = reclaimed_emptied found in
       record {
         ready = ready_now;
-        keeps = keeps_emptied live;
+        keeps = keeps_emptied live found;
         reclaimed = reclaimed;
         free_is = is;
         fewer = fewer;
         room = room_at heap new clock ready_now.runs rests reclaimed.clock_is begun reclaimed.none_due sound;
         noted = noted;
+        front = ap (slice_index r.held.part.fronts) (sym unit) ∙ seen.front;
+        entries = ap (slice_get r.held.entries) (sym unit) ∙ seen.entries;
       }

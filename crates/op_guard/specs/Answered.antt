@@ -1,5 +1,5 @@
 -- What an answer leaves of a region and of the caller.
-use Rattle.std.specs.Prelude.{◌≡◌, ℕ, max, List, map}
+use Rattle.std.specs.Prelude.{◌≡◌, ℕ, ◌≤◌, max, List, map, slice_index}
 use Rattle.mont_base.specs.declared.operation.Op.{Op}
 use Rattle.mont_base.specs.declared.operation.Receipt.{Receipt}
 use Rattle.mont_base.specs.declared.operation.Reply.{Reply}
@@ -10,19 +10,24 @@ use Rattle.heap_rule.specs.Plays.{IsClock, answer_of}
 use Rattle.heap_rule.specs.Views.{caller_answered}
 use Rattle.slots.specs.declared.books.Written.{Written}
 use Rattle.slots.specs.Books.{RegionShown, books_showing}
+use Rattle.slots.specs.Reclaiming.{IsSound}
 use Rattle.op_guard.specs.Regions.{IsReady}
 
--- The unit has one entry more, of this epoch, and the receipt names it.
+-- The unit has one entry more, of this epoch, and the receipt names it. It stands behind all that
+-- the caller had seen of the unit.
 pub record HasAnswered
     (heap : HeapShown) (old new : RegionShown) (q r : CallerShown) (op : Op) (reply : Reply)
     (epoch : ℕ) (receipt : Receipt) : Type 0 where
   pub receipt_is : receipt ≡ receipt_of old.seat.held (answer_of q.held op reply epoch)
+  pub not_before : slice_index q.held.part.fronts old.seat.held.unit ≤ receipt.place
   pub caller : r ≡ record {
     table = q.table;
     held = caller_answered q.held old.seat.held receipt.entry;
   }
   pub books : new.books ≡ books_showing old.books new.seat.held.part
   pub ready : IsReady heap new
+  pub sound_before : IsSound heap old
+  pub sound : IsSound heap new
 
 -- the slots of records that were written, in their order
 abbrev pub slots_of_written : List Written → List ℕ

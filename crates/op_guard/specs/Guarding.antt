@@ -1,5 +1,5 @@
 -- What the beginning of an operation, a change and a return leave.
-use Rattle.std.specs.Prelude.{◌≡◌, ℕ, ◌+◌, ◌<◌, ◌≤◌, Bool, true, false, List, [], length, max, Err}
+use Rattle.std.specs.Prelude.{◌≡◌, ℕ, ◌+◌, ◌<◌, ◌≤◌, Bool, true, false, List, [], length, max, slice_get, slice_index, Some, Err}
 use Rattle.std.specs.declared.result.Result.{Result}
 use Rattle.mont_base.specs.Image.{clock_of, IsRecovered}
 use Rattle.mont_base.specs.Room.{room_of}
@@ -20,11 +20,13 @@ use Rattle.op_guard.specs.declared.guard.GuardRefusal.TheVariants.{Full, Cut}
 use Rattle.op_guard.specs.Regions.{IsReady, IsUnderWay, KeepsUnit, WasHalted}
 
 -- ---- begun
--- an epoch that is not below anything that the caller has seen, nor below the unit's last
+-- an epoch that is not below anything that the caller has seen, nor below the unit's last, nor
+-- below the durable clock that the unit knows
 pub record IsReachedBy (q : CallerShown) (r : RegionShown) (epoch : ℕ) : Type 0 where
   pub not_before : q.held.part.newest ≤ epoch
   pub not_behind : q.held.part.durable ≤ epoch
   pub after_entries : last_epoch r.seat.held.part.history ≤ epoch
+  pub after_durable : r.seat.held.part.durable ≤ epoch
 
 pub record HasBegun
     (heap : HeapShown) (old new : RegionShown) (q : CallerShown) (need : ℕ) (g : Guard)
@@ -76,6 +78,9 @@ pub record IsFull
   pub fewer : free < need
   pub room : HasRoomAt heap new clock
   pub noted : HasNoted new q r
+  -- so it has seen all entries of the unit
+  pub front : slice_index r.held.part.fronts old.books.unit ≡ length new.seat.held.part.history
+  pub entries : slice_get r.held.entries old.books.unit ≡ Some new.seat.held.part.history
 
 abbrev pub LeavesRefused :
     HeapShown → RegionShown → RegionShown → CallerShown → CallerShown → ℕ → GuardRefusal → Type 0

@@ -1,5 +1,5 @@
 -- When a region may begin an operation, and what stands while one is under way.
-use Rattle.std.specs.Prelude.{◌≡◌, ◌+◌, ◌≤◌, length, Some, None, IsTrue}
+use Rattle.std.specs.Prelude.{◌≡◌, ◌+◌, ◌≤◌, false, length, Some, None, IsTrue}
 use Rattle.mont_base.specs.Layout.{units_of}
 use Rattle.heap.specs.HeapShown.{HeapShown, CallerShown}
 use Rattle.heap_rule.specs.Views.{are_clean, home_turn, caller_cut}
@@ -33,21 +33,25 @@ pub record IsUnderWay (heap : HeapShown) (g : Guard) (r : RegionShown) : Type 0 
   pub room : g.need ≤ length r.books.free + g.written
 
 -- ---- what a region keeps
--- It is the unit's still, with the same history and the same live records, and the same numbers
--- are next.
+-- It is the unit's still, with the same history and the same live records, the same numbers are
+-- next, and the durable clock that the unit knows isn't lower.
 pub record KeepsUnit (old new : RegionShown) : Type 0 where
   pub of_unit : new.books.unit ≡ old.books.unit
   pub history : new.seat.held.part.history ≡ old.seat.held.part.history
   pub live : KeepsLive old new
   pub identity : new.books.identity ≡ old.books.identity
   pub serial : new.books.serial ≡ old.books.serial
+  pub durable : old.seat.held.part.durable ≤ new.seat.held.part.durable
 
--- ---- A caller was cut in the unit, which is halted. It got no entry, and nothing was learnt.
+-- ---- A caller was cut in the unit, which is halted. It got no entry, and nothing was learnt. The
+-- unit's list is at home.
 pub record WasHalted
     (heap : HeapShown) (old new : RegionShown) (q r : CallerShown) : Type 0 where
   pub of_heap : IsRegionOf heap new
   pub agrees : Agrees new
   pub of_unit : new.books.unit ≡ old.books.unit
   pub by : new.books.halted ≡ Some q.held.caller
+  pub clean : IsTrue (are_clean (units_of heap.opening.layout) new.seat.held.clean)
+  pub home : new.seat.held.turn.out ≡ false
   pub history : new.seat.held.part.history ≡ old.seat.held.part.history
   pub caller : r ≡ record { table = q.table; held = caller_cut q.held old.books.unit }

@@ -1,5 +1,5 @@
 // A unit in which a caller was cut is halted.
-ghost use Rattle.std.specs.Prelude.{◌≡◌, OnOk, OnErr};
+ghost use Rattle.std.specs.Prelude.{◌≡◌, false, OnOk, OnErr};
 ghost use Rattle.op_guard.specs.Regions.{IsRunning, WasHalted};
 
 use heap::{Heap, Ticket};
@@ -14,6 +14,7 @@ pub(crate) fn or_halt<T>(
     ticket: &mut Ticket,
 ) -> Result<T, Cut>
     requires runs { OnErr answer (IsRunning heap.now region.old) }
+    requires home { OnErr answer (region.old.seat.held.turn.out ≡ false) }
     requires ticket { ticket.old.table ≡ heap.now.table }
     ensures same { result ≡ answer }
     ensures ok { OnOk answer ((region.new ≡ region.old) × (ticket.new ≡ ticket.old)) }

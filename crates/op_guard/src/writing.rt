@@ -29,6 +29,7 @@ pub fn change<G: Gate>(
     ensures receipts { pass.new.receipts ≡ pass.old.receipts }
     ensures changed { IfOk result (λ slot. HasChanged heap.now region.old region.new guard.old
         guard.new change.now slot) }
+    ensures same { OnErr result (guard.new ≡ guard.old) }
     ensures caller { OnOk result (pass.new.ticket ≡ pass.old.ticket) }
     ensures cut { OnErr result (WasHalted heap.now region.old region.new pass.old.ticket
         pass.new.ticket) }

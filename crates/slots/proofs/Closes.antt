@@ -8,7 +8,7 @@ use Rattle.mont_base.specs.declared.operation.Entry.{Entry}
 use Rattle.mont_base.specs.declared.record.Held.{Held}
 use Rattle.mont_base.specs.Layout.{unit_of_slot}
 use Rattle.mont_laws.specs.declared.retiring.Retired.{Retired}
-use Rattle.mont_laws.specs.Records.{AreApart, without_slot}
+use Rattle.mont_laws.specs.Records.{AreApart, without_slot, live_of}
 use Rattle.mont_laws.specs.Retiring.{Retires, IsIn}
 use Rattle.mont_laws.specs.SlotReadings.{IsRecordOf}
 use Rattle.mont_laws.proofs.Apart.{apart_filter, stayed}
@@ -18,6 +18,8 @@ use Rattle.core_steps.proofs.UnitQueues.{slot_record, slots_once, without_free, 
 use Rattle.slots.specs.Books.{BooksShown, AreBooks, times, slots_in, rows_of, HasLowerIdentity}
 use Rattle.slots.proofs.Times.{times_cons, times_here, times_else, times_append, times_there, times_without, times_closed, length_without, record_times, no_record}
 use Rattle.slots.proofs.RowFacts.{rows_without}
+use Rattle.slots.proofs.Lives.{live_stays}
+use Rattle.slots.proofs.NextSerials.{kept_serials}
 use Rattle.slots.proofs.Agreements.{slot_own, slot_once, some_slots}
 
 -- what holds of records and of written ones, with some records dropped
@@ -84,6 +86,11 @@ module _ (recs : List Held) (t : Retired) (ts : List Retired) (lost : List ℕ) 
   rows_closed = ap (λ (rows : List (Option Held)). set rows (t.slot - b.unit * b.layout.slots) None) k.rows_are
       ∙ rows_without b.layout b.unit t.slot (some_slots recs (t ∷ ts) lost [] h frozen b k) due_own recs
 
+  -- the same records are live
+  live_same : (i : ℕ) → live_of i (without_slot t.slot recs) ≡ live_of i recs
+  live_same i = subst (λ (n : ℕ). live_of i (without_slot n recs) ≡ live_of i recs) k.retires.0.in_slot
+      (live_stays recs k.retires.0.due_record t.epoch k.apart k.retires.0.there k.retires.0.due i)
+
   pub closed_books : AreBooks (without_slot t.slot recs) ts lost [] h frozen (record b {
     rows = set b.rows (t.slot - b.unit * b.layout.slots) None;
     retired = drop 1 b.retired;
@@ -105,6 +112,7 @@ module _ (recs : List Held) (t : Retired) (ts : List Retired) (lost : List ℕ) 
     valid = all_kept (IsRecordOf b.unit) t.slot recs [] k.valid;
     begun = k.begun;
     numbered = all_kept (HasLowerIdentity b.identity) t.slot recs [] k.numbered;
+    serials = λ queue. kept_serials recs (without_slot t.slot recs) [] b.serial live_same (k.serials queue);
     retires = k.retires.1;
     rows_are = rows_closed;
     retired_are = ap (drop 1) k.retired_are;
@@ -185,6 +193,7 @@ module _ (recs : List Held) (ret : List Retired) (slot : ℕ) (rest : List ℕ) 
     valid = k.valid;
     begun = k.begun;
     numbered = k.numbered;
+    serials = k.serials;
     retires = k.retires;
     rows_are = k.rows_are;
     retired_are = k.retired_are;

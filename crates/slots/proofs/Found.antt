@@ -1,7 +1,7 @@
 -- The books of a unit of which recovery found records and lost slots.
 use Rattle.std.proofs.Common.{◌≡◌, ℕ, ◌+◌, ◌*◌, ◌<◌, ◌≤◌, List, [], ◌∷◌, length, append-nil, sym, refl, ap, ◌∙◌, subst, arith, Bool, true, false, cond, inl, inr}
-use Rattle.std.specs.Prelude.{◌≢◌, ◌==◌, ◌||◌, not, max, filter, All, AllPairs, Option, None, if◌then◌else◌}
-use Rattle.std.specs.List.{Contains, fold, sum_by}
+use Rattle.std.specs.Prelude.{◌≢◌, ◌==◌, ◌||◌, not, filter, All, AllPairs, Option, None, if◌then◌else◌}
+use Rattle.std.specs.List.{Contains, sum_by}
 use Rattle.std.proofs.lemmas.Bool.{eq-eqb}
 use Rattle.std.proofs.lemmas.Bool.Decides.{nat_tests}
 use Rattle.std.proofs.lemmas.List.Elements.{All-contains, All-head, All-tail, All-cons, All-nil}
@@ -26,6 +26,7 @@ use Rattle.slots.specs.Beginning.{BeginsWith, AreFound, greatest, identities_in,
 use Rattle.slots.specs.Books.{BooksShown, RegionShown, AreBooks, Agrees, times, slots_in, HasLowerIdentity}
 use Rattle.slots.proofs.Times.{times_cons, times_here, times_else, times_there, times_more, OtherSlots}
 use Rattle.slots.proofs.Opens.{free_once}
+use Rattle.slots.proofs.NextSerials.{max_member, found_serials}
 
 -- ---- how often slots stand in lists in which each stands once
 pub once_times : (x : ℕ) (ys : List ℕ) → AllPairs (λ (a b : ℕ). a ≢ b) ys → times x ys ≤ 1
@@ -145,18 +146,7 @@ sum_times (y ∷ ys) zs within =
     let first = sum_one y zs in
     omega arith
 
--- ---- the greatest number
-fold_max : (m : ℕ) (xs : List ℕ) → m ≤ fold max m xs
-fold_max m [] = omega arith
-fold_max m (x ∷ xs) = let ih = fold_max (max m x) xs in omega arith
-
-max_member : (m x : ℕ) (xs : List ℕ) → Contains xs x → x ≤ fold max m xs
-max_member m x [] c = absurd (no_element x c)
-max_member m x (y ∷ xs) c = elim (element_cases y xs x c) [
-  | inl e ↦ let low = fold_max (max m y) xs in omega arith
-  | inr k ↦ max_member (max m y) x xs k
-]
-
+-- ---- the identity of a record is one of theirs
 identity_there : (rs : List Held) (r : Held) → Contains rs r → Contains (identities_in rs) r.label.identity
 identity_there [] r c = absurd (no_element r c)
 identity_there (q ∷ rs) r c = elim (element_cases q rs r c) [
@@ -299,6 +289,7 @@ module _ (s : Shape) (u : ℕ) (layout : IsLayout s) (inside : u < units_of s) (
     apart = found.apart;
     valid = subst (All (IsRecordOf u)) (sym (append-nil recs)) found.valid;
     begun = omega arith;
+    serials = found_serials s u recs;
     numbered = subst (All (HasLowerIdentity (greatest (identities_in recs) + 1))) (sym (append-nil recs))
         (all_elements (HasLowerIdentity (greatest (identities_in recs) + 1)) recs (λ r c.
         let low = max_member 0 r.label.identity (identities_in recs) (identity_there recs r c) in omega arith));

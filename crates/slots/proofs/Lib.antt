@@ -3,6 +3,7 @@ mod RowFacts
 mod Agreements
 mod Puts
 mod Lives
+mod NextSerials
 mod Closes
 mod Settles
 mod Stores

@@ -21,6 +21,7 @@ use Rattle.slots.specs.Beginning.{BeginsWith, fresh_books}
 use Rattle.slots.specs.Books.{BooksShown, RegionShown, AreBooks, Agrees, times}
 use Rattle.slots.proofs.Times.{times_range, times_outside}
 use Rattle.slots.proofs.RowFacts.{range_copies, place_of_slot}
+use Rattle.slots.proofs.NextSerials.{fresh_serials}
 
 -- no records are none by version
 empty_list : {A : Type 0} (l : List A) → ((a : A) → Contains l a → ⊥) → l ≡ []
@@ -67,6 +68,7 @@ module _ (s : Shape) (u : ℕ) (layout : IsLayout s) (inside : u < units_of s) w
     valid = λ i d lt. absurd (omega arith);
     begun = omega arith;
     numbered = λ i d lt. absurd (omega arith);
+    serials = λ queue. fresh_serials;
     retires = record {
       kept = λ r c. absurd (no_element r c);
       single = λ r c. absurd (no_element r c);

@@ -28,7 +28,9 @@ use Rattle.slots.specs.Books.{BooksShown, RegionShown, AreBooks, AreBooksOf, Agr
 use Rattle.slots.specs.Changes.{record_by, identity_by, body_by, version_in, greatest_version, identity_after, serial_after, slot_named, IsLiveAt, NamesLive, CanPut}
 use Rattle.slots.specs.Putting.{MayWrite, MayStore, IsUnfinishedAt, FirstIsUnfinished, HasPut, WasCutPutting, unit_put, put_by, seat_put, books_put}
 use Rattle.slots.specs.Rooms.{at_front}
+use Rattle.slots.specs.Serials.{is_queue, serial_past, IsNextSerial}
 use Rattle.slots.proofs.Times.{times_cons, record_times_append}
+use Rattle.slots.proofs.NextSerials.{put_serials, serial_put}
 use Rattle.slots.proofs.Agreements.{all_before, live_newest, next_unused, record_found, free_slot, slot_inside}
 
 some_version : (kind : Kind) (v : ℕ) → IsVersionOf kind v → 1 ≤ v
@@ -150,9 +152,10 @@ module _ (recs : List Held) (ret : List Retired) (lost : List ℕ) (wr : List He
   low_identity (Remove old i) names = live_low old i names
 
   pub put_books : (w : Held) (rest : List ℕ) (identity serial : ℕ) → b.free ≡ w.slot ∷ rest → IsRecordOf b.unit w
-      → b.identity ≤ identity → w.label.identity < identity → AreBooks recs ret lost (wr ++ w ∷ []) h frozen
+      → b.identity ≤ identity → w.label.identity < identity → (IsTrue (is_queue b.layout b.unit) → serial ≡ serial_past b.serial w)
+      → AreBooks recs ret lost (wr ++ w ∷ []) h frozen
       (record b { free = rest; written = b.written ++ as_written recs w ∷ []; identity = identity; serial = serial })
-  put_books w rest identity serial first valid more low = record {
+  put_books w rest identity serial first valid more low follows = record {
     own = k.own;
     slots = record {
       each = λ x.
@@ -175,6 +178,7 @@ module _ (recs : List Held) (ret : List Retired) (lost : List ℕ) (wr : List He
         (All-append (HasLowerIdentity identity) (recs ++ wr) (w ∷ [])
         (λ i d lt. let below : HasLowerIdentity b.identity (get_or (recs ++ wr) i d) = k.numbered i d lt in omega arith)
         (All-cons (HasLowerIdentity identity) w [] low (All-nil (HasLowerIdentity identity))));
+    serials = λ queue. subst (IsNextSerial recs (wr ++ w ∷ [])) (sym (follows queue)) (put_serials recs wr w b.serial (k.serials queue));
     retires = k.retires;
     rows_are = k.rows_are;
     retired_are = k.retired_are;
@@ -257,7 +261,8 @@ module _ (r : RegionShown) (change : Change) (epoch slot : ℕ) (agrees : Agrees
         put_books p.records p.retired p.lost p.written p.history p.frozen r.books agrees.1 (put_by r change epoch slot) (drop 1 r.books.free)
             (identity_after r.books.identity change) (serial_after r.books change) free_shape (subst (IsRecordOf r.books.unit) is valid)
             (grows p.records p.retired p.lost p.written p.history p.frozen r.books agrees.1 change)
-            (low_identity p.records p.retired p.lost p.written p.history p.frozen r.books agrees.1 change may.names),
+            (low_identity p.records p.retired p.lost p.written p.history p.frozen r.books agrees.1 change may.names)
+            (serial_put r.books p.records change epoch slot),
       )
 
   -- or it was cut

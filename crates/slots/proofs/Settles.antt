@@ -14,6 +14,7 @@ use Rattle.mont_laws.specs.Effects.{AreEffects}
 use Rattle.mont_laws.specs.Records.{AreApart}
 use Rattle.mont_laws.specs.Retiring.{Retires, HaveNewSlots, retired_by, retired_by_all}
 use Rattle.mont_laws.specs.SlotReadings.{IsRecordOf}
+use Rattle.mont_laws.specs.Structures.{HasStructure}
 use Rattle.mont_laws.proofs.Members.{first_element, later_element}
 use Rattle.mont_laws.proofs.Written.{step_retires}
 use Rattle.core_steps.specs.declared.parts.UnitPart.{UnitPart}
@@ -25,6 +26,7 @@ use Rattle.slots.proofs.Times.{times_here, record_times, record_times_append, ap
 use Rattle.slots.proofs.RowFacts.{find_none, rows_push}
 use Rattle.slots.proofs.Agreements.{slot_own, slot_once, some_slots}
 use Rattle.slots.proofs.Closes.{queue_short}
+use Rattle.slots.proofs.NextSerials.{left_serials}
 
 -- the books are those that show the part
 pub books_shown : (p : UnitPart) (b : BooksShown) → AreBooksOf p b → b ≡ books_showing b p
@@ -113,6 +115,7 @@ module _ (recs : List Held) (ret : List Retired) (lost : List ℕ) (wr : List He
     valid = k.valid;
     begun = k.begun;
     numbered = k.numbered;
+    serials = k.serials;
     retires = k.retires;
     rows_are = rows_placed ∙ ap (rows_of b.layout b.unit) (ap (λ (l : List Held). recs ++ l) none ∙ append-nil recs);
     retired_are = queue_placed ∙ ap (λ (l : List Held). ret ++ retired_by_all recs l) none ∙ append-nil ret;
@@ -123,7 +126,8 @@ module _ (recs : List Held) (ret : List Retired) (lost : List ℕ) (wr : List He
     halted_is = k.halted_is;
   }
 
-  module _ (state : State) (e : Entry) (changes : AreEffects b.unit recs (step state e.op).effects wr) where
+  module _ (state : State) (e : Entry) (shown : HasStructure b.layout b.unit recs state)
+      (changes : AreEffects b.unit recs (step state e.op).effects wr) where
     keeps : AreApart (recs ++ wr) × Retires (recs ++ wr) (ret ++ retired_by_all recs wr)
     keeps = step_retires b.unit recs wr ret state e.op k.apart new_slots changes k.retires
 
@@ -147,6 +151,7 @@ module _ (recs : List Held) (ret : List Retired) (lost : List ℕ) (wr : List He
       valid = subst (All (IsRecordOf b.unit)) (sym (append-nil (recs ++ wr))) k.valid;
       begun = k.begun;
       numbered = subst (All (HasLowerIdentity b.identity)) (sym (append-nil (recs ++ wr))) k.numbered;
+      serials = λ queue. left_serials b.unit recs b.layout state e.op wr b.serial queue shown changes (k.serials queue);
       retires = keeps.1;
       rows_are = rows_placed;
       retired_are = queue_placed;
@@ -164,7 +169,7 @@ room_of_answer r receipt j =
     let p = j.before in
     let k : AreBooksOf p r.books = j.books_are in
     elim j.answered [
-      | inl l ↦ queue_room p.records p.retired p.lost p.written p.history p.frozen r.books k l.state receipt.entry l.changes
+      | inl l ↦ queue_room p.records p.retired p.lost p.written p.history p.frozen r.books k l.state receipt.entry l.shown l.changes
       | inr l ↦
           let short = queue_short p.retired p.records k.retires in
           let many = k.slots.many in
@@ -193,7 +198,7 @@ answered_books r receipt j =
     (elim j.answered [
       | inl l ↦ subst (λ (q : UnitPart). AreBooksOf q (record (settled r.books) { places = length p.history + 1; newest = receipt.entry.epoch }))
           (sym l.leaves)
-          (left_books p.records p.retired p.lost p.written p.history p.frozen r.books k l.state receipt.entry l.changes)
+          (left_books p.records p.retired p.lost p.written p.history p.frozen r.books k l.state receipt.entry l.shown l.changes)
       | inr l ↦ subst (λ (q : UnitPart). AreBooksOf q (record (settled r.books) { places = length p.history + 1; newest = receipt.entry.epoch }))
           (sym l.reads)
           (read_books p.records p.retired p.lost p.written p.history p.frozen r.books k receipt.entry l.rests.written)

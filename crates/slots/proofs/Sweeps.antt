@@ -76,6 +76,7 @@ module _ (r : RegionShown) (slot : ℕ) (agrees : Agrees r) (first : at_front r.
         valid = k.valid;
         begun = k.begun;
         numbered = k.numbered;
+        serials = k.serials;
         retires = k.retires;
         rows_are = k.rows_are;
         retired_are = k.retired_are;

@@ -2,11 +2,10 @@
 use Rattle.std.specs.Prelude.{◌≡◌, ◌≢◌, ◌==◌, ℕ, ◌+◌, ◌≤◌, Bool, false, ◌||◌, not, List, [], filter, map, replicate, max, All, AllPairs, None, slice_index, IsTrue, if◌then◌else◌}
 use Rattle.std.specs.List.{fold, list_any}
 use Rattle.mont_base.specs.declared.constants.TheConstants.{LAST}
-use Rattle.mont_base.specs.declared.kinds.UnitKind.TheVariants as unit_kinds
 use Rattle.mont_base.specs.declared.record.Held.{Held}
 use Rattle.mont_base.specs.declared.record.Object.{Object}
 use Rattle.mont_base.specs.Image.{slots_of}
-use Rattle.mont_base.specs.Layout.{Shape, kind_of, is_of_kind, unit_of_slot}
+use Rattle.mont_base.specs.Layout.{Shape, unit_of_slot}
 use Rattle.mont_base.specs.Versions.{live_objects}
 use Rattle.mont_laws.specs.Records.{AreApart}
 use Rattle.mont_laws.specs.Retiring.{retired_among}
@@ -14,6 +13,7 @@ use Rattle.mont_laws.specs.SlotReadings.{IsRecordOf}
 use Rattle.core_steps.specs.declared.parts.UnitPart.{UnitPart}
 use Rattle.core_steps.specs.Opened.{by_version}
 use Rattle.slots.specs.Books.{BooksShown, IsAtRest, rows_of, slots_in}
+use Rattle.slots.specs.Serials.{is_queue}
 
 -- The unit is at rest, has answered nothing, and has these records and lost slots.
 pub record BeginsWith (p : UnitPart) (records : List Held) (lost : List ℕ) : Type 0 where
@@ -36,9 +36,6 @@ serial_of o = slice_index o.body 0
 
 abbrev pub live_serials : List Held → List ℕ
 live_serials records = map serial_of (live_objects records)
-
-abbrev pub is_queue : Shape → ℕ → Bool
-is_queue s unit = is_of_kind (kind_of s unit) unit_kinds.Queue
 
 -- the next serial of a queue, by its live items; 1 in another unit
 abbrev pub serial_at_first : Shape → ℕ → List Held → ℕ

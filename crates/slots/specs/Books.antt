@@ -17,6 +17,7 @@ use Rattle.core_steps.specs.Notes.{last_epoch}
 use Rattle.heap.specs.HeapShown.{HeapShown, UnitShown}
 use Rattle.heap_rule.specs.Views.{are_clean}
 use Rattle.slots.specs.declared.books.Written.{Written}
+use Rattle.slots.specs.Serials.{is_queue, IsNextSerial}
 
 pub record BooksShown : Type 0 where
   pub layout : Shape
@@ -103,6 +104,7 @@ pub record AreBooks
   pub valid : All (IsRecordOf b.unit) (records ++ written)
   pub begun : 1 ≤ b.identity
   pub numbered : All (HasLowerIdentity b.identity) (records ++ written)
+  pub serials : IsTrue (is_queue b.layout b.unit) → IsNextSerial records written b.serial
   pub retires : Retires records retired
   pub rows_are : b.rows ≡ rows_of b.layout b.unit records
   pub retired_are : b.retired ≡ retired

@@ -2,7 +2,6 @@
 use Rattle.std.specs.Prelude.{◌≡◌, ℕ, ◌+◌, ◌-◌, ◌≤◌, nat_lt, nat_le, Bool, true, false, ◌&&◌, List, count_by, slice_index, Option, Some, None, IsTrue, if◌then◌else◌}
 use Rattle.std.specs.List.{list_any}
 use Rattle.mont_base.specs.declared.constants.TheConstants.{LAST}
-use Rattle.mont_base.specs.declared.kinds.UnitKind.TheVariants as unit_kinds
 use Rattle.mont_base.specs.declared.record.Change.{Change}
 use Rattle.mont_base.specs.declared.record.Change.TheVariants.{Insert, Replace, Remove}
 use Rattle.mont_base.specs.declared.record.Held.{Held}
@@ -11,10 +10,11 @@ use Rattle.mont_base.specs.declared.record.Kind.TheVariants as kinds
 use Rattle.mont_base.specs.declared.refusal.Which.{Which}
 use Rattle.mont_base.specs.declared.refusal.Which.TheVariants as ends
 use Rattle.mont_base.specs.Bodies.{no_body}
-use Rattle.mont_base.specs.Layout.{Shape, kind_of, is_of_kind}
+use Rattle.mont_base.specs.Layout.{Shape}
 use Rattle.mont_base.specs.Versions.{newest_of}
 use Rattle.mont_laws.specs.Records.{live_of}
 use Rattle.slots.specs.Books.{BooksShown}
+use Rattle.slots.specs.Serials.{is_queue}
 
 -- ---- what is written
 abbrev pub kind_by : Change → Kind
@@ -65,7 +65,7 @@ identity_after next change = if is_insert change then next + 1 else next
 
 -- an item of a queue has its serial in its first word
 abbrev pub has_serial : Shape → ℕ → Change → Bool
-has_serial s unit change = is_of_kind (kind_of s unit) unit_kinds.Queue && is_insert change
+has_serial s unit change = is_queue s unit && is_insert change
 
 abbrev pub serial_in : Change → ℕ
 serial_in change = slice_index (body_by change) 0

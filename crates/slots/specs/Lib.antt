@@ -1,3 +1,4 @@
+pub mod Serials
 pub mod Books
 pub mod Rooms
 pub mod Changes

@@ -9,6 +9,7 @@ use Rattle.mont_base.specs.Layout.{Shape, total_of}
 use Rattle.mont_base.specs.State.{State, step}
 use Rattle.mont_laws.specs.Effects.{AreEffects}
 use Rattle.mont_laws.specs.SlotReadings.{IsRecordOf}
+use Rattle.mont_laws.specs.Structures.{HasStructure}
 use Rattle.core_steps.specs.declared.parts.UnitPart.{UnitPart}
 use Rattle.core_steps.specs.declared.parts.UnitStage.TheVariants.{Within}
 use Rattle.core_steps.specs.Answering.{after_leave, after_read}
@@ -98,10 +99,12 @@ pub record WasCutPutting (old new : RegionShown) (change : Change) (epoch : ℕ)
   pub unfinished : FirstIsUnfinished old new.seat change epoch old.books.free
 
 -- ---- answers
--- the unit left its epoch with what was written, which are the effects of the operation, or read
-pub record HasLeft (unit : ℕ) (before now : UnitPart) (e : Entry) : Type 0 where
+-- the unit left its epoch with what was written, which are the effects of the operation on the
+-- state that its records showed, or read
+pub record HasLeft (s : Shape) (unit : ℕ) (before now : UnitPart) (e : Entry) : Type 0 where
   pub leaves : now ≡ after_leave before e
   pub state : State
+  pub shown : HasStructure s unit before.records state
   pub changes : AreEffects unit before.records (step state e.op).effects before.written
 
 -- the unit was at rest
@@ -116,5 +119,5 @@ pub record HasJustAnswered (r : RegionShown) (receipt : Receipt) : Type 0 where
   pub books_are : AreBooksOf before r.books
   pub place : receipt.place ≡ length before.history
   pub last : receipt.place ≤ LAST
-  pub answered : HasLeft r.books.unit before r.seat.held.part receipt.entry
+  pub answered : HasLeft r.books.layout r.books.unit before r.seat.held.part receipt.entry
       ⊎ HasRead before r.seat.held.part receipt.entry

@@ -7,7 +7,7 @@ use Rattle.heap_rule.specs.declared.views.UnitHeld.{UnitHeld}
 use Rattle.heap_rule.specs.Views.{unit_closed, unit_persisted}
 use Rattle.slots.specs.Books.{RegionShown}
 
--- the unit is idle, or it is closing its first lost label
+-- the unit is idle, or a sweep was cut between the two steps that close the first lost slot
 abbrev pub IsSweepStage : Bool → UnitPart → Type 0
 IsSweepStage false p = p.stage ≡ Idle
 IsSweepStage true p = (slot : ℕ) × (p.stage ≡ Closing slot) × IsFirstLost p.lost slot

@@ -1,5 +1,5 @@
 -- What a call of a structure leaves, whatever its kind.
-use Rattle.std.specs.Prelude.{◌≡◌, ℕ, ◌+◌, Bool, true, false, List, [], ◌∷◌, ◌++◌, All, count_by, length, Ok, Err}
+use Rattle.std.specs.Prelude.{◌≡◌, ℕ, ◌+◌, ◌≤◌, Bool, true, false, List, [], ◌∷◌, ◌++◌, All, count_by, length, slice_index, Err}
 use Rattle.std.specs.declared.result.Result.{Result}
 use Rattle.mont_base.specs.declared.effect.Effect.{Effect}
 use Rattle.mont_base.specs.declared.effect.Effect.TheVariants.{Inserts}
@@ -13,20 +13,23 @@ use Rattle.mont_base.specs.declared.refusal.CallRefusal.TheVariants.{Halted, Cou
 use Rattle.mont_base.specs.State.{step}
 use Rattle.mont_laws.specs.Effects.{AreEffects}
 use Rattle.mont_laws.specs.Records.{live_of}
+use Rattle.mont_laws.specs.Structures.{HasStructure}
 use Rattle.core_steps.specs.Answering.{IsJudged}
 use Rattle.heap.specs.HeapShown.{HeapShown, CallerShown}
 use Rattle.heap.specs.Receipts.{receipt_of}
 use Rattle.heap_rule.specs.Plays.{answer_of}
 use Rattle.heap_rule.specs.Views.{caller_answered}
-use Rattle.op_guard.specs.Guarding.{IsReachedBy, IsFull}
-use Rattle.op_guard.specs.Regions.{IsReady, WasHalted}
+use Rattle.op_guard.specs.Guarding.{IsReachedBy}
+use Rattle.op_guard.specs.Regions.{IsReady}
 use Rattle.slots.specs.Books.{RegionShown}
-use Rattle.structure_call.specs.Planning.{IsPlan, first_at_end}
+use Rattle.slots.specs.Reclaiming.{IsSound}
+use Rattle.structure_call.specs.Standing.{ShowsHistory}
+use Rattle.structure_call.specs.Planning.{IsPlan}
 use Rattle.structure_call.specs.Checking.{WasHaltedBefore, EndsCount}
 use Rattle.structure_call.specs.Carrying.{LeavesUncarried}
 
--- What was written are these effects, each with the entry's epoch. Nothing else of what is live is
--- another.
+-- Behind records of which the same are live as before stand those that the effects write, each
+-- with the entry's epoch.
 pub record HasWritten
     (unit : ℕ) (old new : List Held) (effects : List Effect) (epoch : ℕ) : Type 0 where
   pub kept : List Held
@@ -36,15 +39,17 @@ pub record HasWritten
   pub are_effects : AreEffects unit kept effects written
   pub epochs : All (λ (w : Held). w.label.epoch ≡ epoch) written
 
+-- an effect adds an object
 abbrev pub is_insertion : Effect → Bool
 is_insertion (Inserts thing) = true
 is_insertion _ = false
 
--- The unit has one entry more, in the order that the caller had seen. Its reply is the plain step's
--- on the state that the unit's records showed.
+-- The unit has one entry more, behind all that the caller had seen of it. Its reply is the plain
+-- step's on the state that the unit's records showed, and to which its history had led.
 pub record HasAnsweredCall
     (heap : HeapShown) (old new : RegionShown) (q r : CallerShown) (op : Op) (receipt : Receipt)
     : Type 0 where
+  pub showed : ShowsHistory heap old
   pub judged : IsJudged heap.opening.layout old.books.unit old.seat.held.part op
       receipt.entry.reply
   pub receipt_is : receipt
@@ -56,22 +61,27 @@ pub record HasAnsweredCall
   }
   pub history : new.seat.held.part.history
       ≡ old.seat.held.part.history ++ receipt.entry ∷ []
+  pub not_before : slice_index q.held.part.fronts old.books.unit ≤ receipt.place
   pub reached : IsReachedBy q old receipt.entry.epoch
   pub wrote : HasWritten old.books.unit old.seat.held.part.records new.seat.held.part.records
       (step judged.state op).effects receipt.entry.epoch
+  pub after : HasStructure heap.opening.layout old.books.unit new.seat.held.part.records
+      (step judged.state op).state
   pub identity : new.books.identity
       ≡ old.books.identity + count_by is_insertion (step judged.state op).effects
   pub of_unit : new.books.unit ≡ old.books.unit
   pub ready : IsReady heap new
+  pub sound : IsSound heap new
 
 -- ---- refusals
 -- a number is at its end for the changes of the operation
 pub record HasEnd
-    (old new : RegionShown) (q r : CallerShown) (op : Op) (why : CallRefusal) : Type 0 where
+    (heap : HeapShown) (old new : RegionShown) (q r : CallerShown) (op : Op) (why : CallRefusal)
+    : Type 0 where
   pub reply : Reply
   pub changes : List Change
   pub plan : IsPlan old op reply changes
-  pub ends : EndsCount old new q r changes why
+  pub ends : EndsCount heap old new q r changes why
 
 -- nothing changed but spare room
 abbrev pub IsUntouched : RegionShown → RegionShown → CallerShown → CallerShown → Type 0
@@ -88,8 +98,8 @@ pub record IsUncarried
 
 abbrev pub LeavesCall :
     HeapShown → RegionShown → RegionShown → CallerShown → CallerShown → Op → CallRefusal → Type 0
-LeavesCall heap old new q r op (Halted unit by) = WasHaltedBefore old new q r (Halted unit by)
-LeavesCall heap old new q r op (CountEnd which) = HasEnd old new q r op (CountEnd which)
+LeavesCall heap old new q r op (Halted unit by) = WasHaltedBefore heap old new q r (Halted unit by)
+LeavesCall heap old new q r op (CountEnd which) = HasEnd heap old new q r op (CountEnd which)
 LeavesCall heap old new q r op Memory = IsUntouched old new q r
 LeavesCall heap old new q r op (Full need free clock) =
     IsUncarried heap old new q r op (Full need free clock)

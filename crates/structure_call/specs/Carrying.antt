@@ -1,5 +1,6 @@
 -- What stands once a planned operation was carried out.
-use Rattle.std.specs.Prelude.{◌≡◌, ℕ, ◌+◌, List, [], ◌∷◌, ◌++◌, length, Option, Some, None, if◌then◌else◌}
+use Rattle.std.specs.Prelude.{◌≡◌, ℕ, ◌+◌, ◌-◌, ◌≤◌, false, List, [], ◌∷◌, ◌++◌, length, All, Option, Some, None, IsTrue, if◌then◌else◌}
+use Rattle.mont_base.specs.declared.constants.TheConstants.{LAST}
 use Rattle.mont_base.specs.declared.operation.Receipt.{Receipt}
 use Rattle.mont_base.specs.declared.record.Change.{Change}
 use Rattle.mont_base.specs.declared.record.Held.{Held}
@@ -8,12 +9,13 @@ use Rattle.mont_base.specs.declared.refusal.CallRefusal.TheVariants.{Full, Cut}
 use Rattle.mont_base.specs.Layout.{Shape}
 use Rattle.mont_laws.specs.Records.{live_of}
 use Rattle.heap.specs.HeapShown.{HeapShown, CallerShown}
+use Rattle.op_guard.specs.declared.guard.Guard.{Guard}
 use Rattle.op_guard.specs.Guarding.{IsFull}
-use Rattle.op_guard.specs.Regions.{WasHalted}
-use Rattle.slots.specs.Books.{RegionShown}
-use Rattle.slots.specs.Changes.{inserts, identity_after, record_by, has_serial, serial_in}
+use Rattle.op_guard.specs.Regions.{IsUnderWay, WasHalted}
+use Rattle.slots.specs.Books.{BooksShown, RegionShown}
+use Rattle.slots.specs.Changes.{NamesLive, inserts, identity_after, record_by, has_serial, serial_in, ends_version}
 
--- the records that changes write into these slots, in their order
+-- ---- what changes write into these slots, in their order
 abbrev pub records_by : ℕ → ℕ → List Held → ℕ → List Change → List ℕ → List Held
 records_by unit next kept epoch [] slots = []
 records_by unit next kept epoch (c ∷ cs) [] = []
@@ -21,6 +23,7 @@ records_by unit next kept epoch (c ∷ cs) (slot ∷ slots) =
     record_by unit next kept c epoch slot
     ∷ records_by unit (identity_after next c) kept epoch cs slots
 
+-- the last slot, if there is one
 abbrev pub last_of : List ℕ → Option ℕ
 last_of [] = None
 last_of (n ∷ []) = Some n
@@ -32,6 +35,19 @@ serial_behind s unit next [] = next
 serial_behind s unit next (c ∷ cs) =
     serial_behind s unit (if has_serial s unit c then serial_in c + 1 else next) cs
 
+-- ---- numbers
+-- an item's serial isn't above the last number
+abbrev pub HasSerialLeft : BooksShown → Change → Type 0
+HasSerialLeft b c = IsTrue (has_serial b.layout b.unit c) → serial_in c ≤ LAST
+
+-- there is a number for all that the changes are given
+pub record CanPutAll (b : BooksShown) (records : List Held) (changes : List Change) : Type 0 where
+  pub names : All (NamesLive records) changes
+  pub identities : inserts changes ≤ LAST + 1 - b.identity
+  pub versions : All (λ (c : Change). ends_version records c ≡ false) changes
+  pub serials : All (HasSerialLeft b) changes
+
+-- ---- what was carried out
 -- The changes are written into slots, behind records of which the same are live as before.
 pub record HasCarried
     (old new : RegionShown) (changes : List Change) (receipt : Receipt) (last : Option ℕ)
@@ -44,6 +60,27 @@ pub record HasCarried
   pub last_is : last ≡ last_of slots
   pub records_are : new.seat.held.part.records
       ≡ kept ++ records_by old.books.unit old.books.identity kept receipt.entry.epoch changes slots
+  pub identity : new.books.identity ≡ old.books.identity + inserts changes
+  pub serial : new.books.serial
+      ≡ serial_behind old.books.layout old.books.unit old.books.serial changes
+
+-- The changes are written into slots at the guard's epoch, and of the unit nothing else changed.
+pub record HasWrittenAll
+    (heap : HeapShown) (old new : RegionShown) (before after : Guard) (changes : List Change)
+    (last : Option ℕ) : Type 0 where
+  pub slots : List ℕ
+  pub each : length slots ≡ length changes
+  pub last_is : last ≡ last_of slots
+  pub guard_is : after ≡ record before { written = before.written + length changes }
+  pub under_way : IsUnderWay heap after new
+  pub part : new.seat.held.part ≡ record old.seat.held.part {
+    writing = None;
+    written = old.seat.held.part.written
+        ++ records_by old.books.unit old.books.identity old.seat.held.part.records before.epoch
+        changes slots;
+  }
+  pub of_unit : new.books.unit ≡ old.books.unit
+  pub layout : new.books.layout ≡ old.books.layout
   pub identity : new.books.identity ≡ old.books.identity + inserts changes
   pub serial : new.books.serial
       ≡ serial_behind old.books.layout old.books.unit old.books.serial changes

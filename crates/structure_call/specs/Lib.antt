@@ -1,5 +1,6 @@
 pub mod Planning
 pub mod Standing
 pub mod Checking
+pub mod Refusing
 pub mod Carrying
 pub mod Calling

@@ -1,10 +1,11 @@
 -- A planned operation: what it is answered, and the changes that make its effects.
-use Rattle.std.specs.Prelude.{◌≡◌, ℕ, ◌+◌, nat_lt, Bool, List, [], ◌∷◌, count_by, Option, Some, if◌then◌else◌}
+use Rattle.std.specs.Prelude.{◌≡◌, ℕ, nat_lt, Bool, List, Option, Some, if◌then◌else◌}
 use Rattle.std.specs.List.{AllZip, list_any}
 use Rattle.mont_base.specs.declared.constants.TheConstants.{LAST}
 use Rattle.mont_base.specs.declared.effect.Effect.{Effect}
 use Rattle.mont_base.specs.declared.effect.Effect.TheVariants.{Inserts, Replaces, Removes}
 use Rattle.mont_base.specs.declared.effect.Thing.{Thing}
+use Rattle.mont_base.specs.declared.effect.Thing.TheVariants.{Pair, Item, Vertex, Edge}
 use Rattle.mont_base.specs.declared.operation.Op.{Op}
 use Rattle.mont_base.specs.declared.operation.Reply.{Reply}
 use Rattle.mont_base.specs.declared.record.Change.{Change}
@@ -12,7 +13,7 @@ use Rattle.mont_base.specs.declared.record.Change.TheVariants.{Insert, Replace, 
 use Rattle.mont_base.specs.declared.record.Held.{Held}
 use Rattle.mont_base.specs.declared.refusal.Which.{Which}
 use Rattle.mont_base.specs.declared.refusal.Which.TheVariants as ends
-use Rattle.mont_base.specs.Layout.{Shape}
+use Rattle.mont_base.specs.Bodies.{item_body}
 use Rattle.mont_base.specs.State.{State, step}
 use Rattle.mont_laws.specs.Effects.{IsOpOf, HasNameOf, IsBodyOf}
 use Rattle.mont_laws.specs.Records.{live_of}
@@ -29,13 +30,22 @@ pub record NamesThing (records : List Held) (thing : Thing) (slot identity : ℕ
   pub in_slot : live.slot ≡ slot
   pub named : HasNameOf records thing live.body
 
+-- a body is that of a thing; an item has the serial that is next, which may be above the last
+-- number
+abbrev pub IsBodyNext : BooksShown → List Held → Thing → List ℕ → Type 0
+IsBodyNext b records (Pair key value) body = IsBodyOf records (Pair key value) body
+IsBodyNext b records (Item item) body = body ≡ item_body b.serial item
+IsBodyNext b records (Vertex vertex attribute) body =
+    IsBodyOf records (Vertex vertex attribute) body
+IsBodyNext b records (Edge from to attribute) body = IsBodyOf records (Edge from to attribute) body
+
 -- a change makes an effect
-abbrev pub Makes : List Held → Effect → Change → Type 0
-Makes records (Inserts thing) (Insert body) = IsBodyOf records thing body
-Makes records (Replaces thing) (Replace slot identity body) =
-    NamesThing records thing slot identity × IsBodyOf records thing body
-Makes records (Removes thing) (Remove slot identity) = NamesThing records thing slot identity
-Makes records _ _ = ⊥
+abbrev pub Makes : BooksShown → List Held → Effect → Change → Type 0
+Makes b records (Inserts thing) (Insert body) = IsBodyNext b records thing body
+Makes b records (Replaces thing) (Replace slot identity body) =
+    NamesThing records thing slot identity × IsBodyNext b records thing body
+Makes b records (Removes thing) (Remove slot identity) = NamesThing records thing slot identity
+Makes b records _ _ = ⊥
 
 -- The reply is the plain step's on the state that the unit's records show, and the changes make
 -- its effects, one for each, in their order.
@@ -45,7 +55,7 @@ pub record IsPlan
   pub state : State
   pub shown : HasStructure r.books.layout r.books.unit r.seat.held.part.records state
   pub replies : reply ≡ (step state op).reply
-  pub makes : AllZip (Makes r.seat.held.part.records) (step state op).effects changes
+  pub makes : AllZip (Makes r.books r.seat.held.part.records) (step state op).effects changes
 
 -- ---- numbers
 -- an item is added to a queue

@@ -1,17 +1,20 @@
 // How a planned operation is carried out: one step where it changes nothing, else the steps of a
 // guard.
-ghost use Rattle.std.specs.Prelude.{◌≡◌, ◌≤◌, ◌+◌, [], ◌∷◌, ◌++◌, length, None, IfOk, OnOk, IfErr, OnErr};
+ghost use Rattle.std.specs.Prelude.{◌≡◌, ◌≤◌, ◌+◌, [], ◌∷◌, ◌++◌, length, None, IfOk, OnOk, IfErr, OnErr, is_err};
 ghost use Rattle.heap.specs.GateAsked.{IsAskedOften};
 ghost use Rattle.heap_pass.specs.Spare.{spare_of};
-ghost use Rattle.op_guard.specs.Regions.{IsReady};
+ghost use Rattle.slots.specs.Books.{Agrees};
+ghost use Rattle.op_guard.specs.Regions.{IsReady, IsUnderWay, WasHalted};
 ghost use Rattle.structure_call.specs.Planning.{IsPlan, first_at_end};
-ghost use Rattle.structure_call.specs.Carrying.{HasCarried, LeavesUncarried};
+ghost use Rattle.structure_call.specs.Standing.{IsStanding};
+ghost use Rattle.structure_call.specs.Carrying.{CanPutAll, HasWrittenAll, HasCarried, LeavesUncarried};
 ghost use Rattle.structure_call.specs.Calling.{HasAnsweredCall, was_cut};
 
+use crate::refusing::{or_cut, or_refused};
 use heap::Heap;
 use heap_pass::Pass;
 use mont_base::{CallRefusal, Change, Cut, Gate, Op, Receipt, Reply, Slot};
-use op_guard::{Guard, GuardRefusal, begin, change, commit, read};
+use op_guard::{Guard, begin, change, commit, read};
 use slots::Region;
 use std::sync::Wait;
 
@@ -52,24 +55,69 @@ pub fn carry_out<R: Wait, G: Gate>(
     ensures kept { OnErr result (pass.new.receipts ≡ pass.old.receipts) }
     ensures refused { IfErr result (λ why. LeavesUncarried heap.now region.old region.new
         pass.old.ticket pass.new.ticket (length changes.now) why) }
+    ensures agrees { Agrees region.new }
+    ensures stands { IsStanding heap.now region.new }
 {
+    let unit = region.unit();
     if changes.is_empty() {
-        let receipt = or_cut(read(heap, region, pass, op, reply), region)?;
+        let answered = read(heap, region, pass, op, reply);
+        let receipt = or_cut(answered, unit)?;
         return Ok(Carried {
             receipt,
             slot: None,
         });
     }
-    let need = changes.len() as u64;
-    let mut guard = or_refused(begin(rt, heap, region, need, pass), region)?;
+    let begun = begin(rt, heap, region, changes.len() as u64, pass);
+    let guard = or_refused(begun, unit)?;
+    let written = write_all(guard, heap, region, changes, pass);
+    let (guard, slot) = or_cut(written, unit)?;
+    let committed = commit(guard, heap, region, pass, op, reply);
+    let receipt = or_cut(committed, unit)?;
+    Ok(Carried { receipt, slot })
+}
+
+// Writes the record of each change, in their order, and answers the slot of the last one with the
+// guard. After a cut the guard is spent.
+fn write_all<G: Gate>(
+    mut guard: Guard,
+    heap: &Heap,
+    region: &mut Region,
+    changes: &[Change],
+    pass: &mut Pass<G>,
+) -> Result<(Guard, Option<Slot>), Cut>
+    requires under_way { IsUnderWay heap.now guard region.old }
+    requires needed { guard.written + length changes.now ≤ guard.need }
+    requires pass { pass.old.ticket.table ≡ heap.now.table }
+    requires by { guard.by ≡ pass.old.ticket.held.caller }
+    requires may { CanPutAll region.old.books region.old.seat.held.part.records changes.now }
+    ensures gate { IsAskedOften G.cuts G.endless pass.old.gate pass.new.gate (is_err result) }
+    ensures receipts { pass.new.receipts ≡ pass.old.receipts }
+    ensures written { IfOk result (λ done. HasWrittenAll heap.now region.old region.new guard
+        done.0 changes.now done.1) }
+    ensures caller { OnOk result (pass.new.ticket ≡ pass.old.ticket) }
+    ensures cut { OnErr result (WasHalted heap.now region.old region.new pass.old.ticket
+        pass.new.ticket) }
+{
     let mut slot = None;
     for one in changes {
-        let written = change(&mut guard, heap, region, one, pass);
-        slot = Some(or_cut(written, region)?);
+        match change(&mut guard, heap, region, one, pass) {
+            Ok(written) => slot = Some(written),
+            Err(cut) => {
+                spend(guard);
+                return Err(cut);
+            }
+        }
     }
-    let receipt = or_cut(commit(guard, heap, region, pass, op, reply), region)?;
-    Ok(Carried {
-        receipt,
-        slot,
-    })
+    Ok((guard, slot))
+}
+
+// Takes a guard apart whose unit was halted.
+fn spend(guard: Guard) {
+    let Guard {
+        unit: _,
+        by: _,
+        epoch: _,
+        need: _,
+        written: _,
+    } = guard;
 }

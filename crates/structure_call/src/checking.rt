@@ -3,7 +3,7 @@ ghost use Rattle.std.specs.Prelude.{◌≡◌, None, All, OnOk, OnErr, IfErr};
 ghost use Rattle.slots.specs.Books.{Agrees};
 ghost use Rattle.slots.specs.Changes.{NamesLive};
 ghost use Rattle.structure_call.specs.Planning.{adds_item, first_at_end};
-ghost use Rattle.structure_call.specs.Checking.{WasHaltedBefore, EndsCount};
+ghost use Rattle.structure_call.specs.Checking.{WasNoted, WasHaltedBefore, EndsCount};
 
 use heap::Heap;
 use heap_pass::Pass;
@@ -17,18 +17,20 @@ pub fn check_running<G: Gate>(
     pass: &mut Pass<G>,
 ) -> Result<(), CallRefusal>
     requires region { region.old.seat.table ≡ heap.now.table }
+    requires agrees { Agrees region.old }
     requires pass { pass.old.ticket.table ≡ heap.now.table }
     ensures gate { pass.new.gate ≡ pass.old.gate }
     ensures receipts { pass.new.receipts ≡ pass.old.receipts }
+    ensures agrees { Agrees region.new }
     ensures ok { OnOk result ((region.old.books.halted ≡ None) × (region.new ≡ region.old)
         × (pass.new.ticket ≡ pass.old.ticket)) }
-    ensures halted { IfErr result (λ why. WasHaltedBefore region.old region.new pass.old.ticket
-        pass.new.ticket why) }
+    ensures halted { IfErr result (λ why. WasHaltedBefore heap.now region.old region.new
+        pass.old.ticket pass.new.ticket why) }
 {
     let Some(by) = region.halted() else {
         return Ok(());
     };
-    heap.hear_unit(&mut pass.ticket, region.seat_mut());
+    take_note(heap, region, pass);
     Err(CallRefusal::Halted {
         unit: region.unit(),
         by,
@@ -51,11 +53,12 @@ pub fn check_numbers<G: Gate>(
     requires serial { serial ≡ adds_item region.old.books changes.now }
     ensures gate { pass.new.gate ≡ pass.old.gate }
     ensures receipts { pass.new.receipts ≡ pass.old.receipts }
+    ensures agrees { Agrees region.new }
     ensures ok { OnOk result (
         (first_at_end pass.old.ticket.held.part region.old changes.now ≡ None)
         × (region.new ≡ region.old) × (pass.new.ticket ≡ pass.old.ticket)) }
-    ensures ends { IfErr result (λ why. EndsCount region.old region.new pass.old.ticket
-        pass.new.ticket changes.now why) }
+    ensures ends { IfErr result (λ why. EndsCount heap.now region.old region.new
+        pass.old.ticket pass.new.ticket changes.now why) }
 {
     let which = if pass.ticket.calls() > LAST {
         Some(Which::Call)
@@ -65,6 +68,18 @@ pub fn check_numbers<G: Gate>(
     let Some(which) = which else {
         return Ok(());
     };
-    heap.hear_unit(&mut pass.ticket, region.seat_mut());
+    take_note(heap, region, pass);
     Err(CallRefusal::CountEnd { which })
+}
+
+// The pass takes a note of the unit.
+fn take_note<G: Gate>(heap: &Heap, region: &mut Region, pass: &mut Pass<G>)
+    requires region { region.old.seat.table ≡ heap.now.table }
+    requires agrees { Agrees region.old }
+    requires pass { pass.old.ticket.table ≡ heap.now.table }
+    ensures gate { pass.new.gate ≡ pass.old.gate }
+    ensures receipts { pass.new.receipts ≡ pass.old.receipts }
+    ensures noted { WasNoted heap.now region.old region.new pass.old.ticket pass.new.ticket }
+{
+    heap.hear_unit(&mut pass.ticket, region.seat_mut());
 }

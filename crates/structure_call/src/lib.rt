@@ -1,9 +1,10 @@
-//! What the calls of all structures do alike: a unit in which a caller was cut is refused, and so is
-//! a call whose numbers are at their end; a planned operation is then carried out, step by step.
+//! What the calls of all structures do alike: a unit in which a caller was cut is refused, and so
+//! is a call whose numbers are at their end; a planned operation is then carried out, step by step.
 #![tactic(auto)]
 
 mod carrying;
 mod checking;
+mod refusing;
 
 pub use carrying::{Carried, carry_out};
 pub use checking::{check_numbers, check_running};

@@ -6,7 +6,7 @@ use Rattle.heap_rule.specs.Plays.{IsClock}
 use Rattle.heap_rule.specs.Views.{are_clean}
 use Rattle.announce.specs.Registering.{IsRegistered, IsOut}
 use Rattle.slots.specs.Books.{RegionShown}
-use Rattle.op_guard.proofs.Begins.{shown_is, region_with, clean_shown, runs_out, has_begun, begun_as}
+use Rattle.op_guard.proofs.Begins.{shown_is, region_with, clean_shown, runs_out, home_out, has_begun, begun_as}
 use Rattle.op_guard.proofs.beginning.begin.Goals as goal
 
 pub register-registered-requires-clause-clean : goal.register-registered-requires-clause-clean
@@ -27,6 +27,17 @@ or_halt-requires-clause-runs g c =
     c.show_unit.ensures.unit c.seat_mut-2.ensures.value in
     on_err_weaker {P = IsOut c.seat_mut-2.result.now seat} c.register-registered.result (λ out.
     runs_out c.args.heap.now r q seat c.in_ok-make_room.ensures.ready.runs (subst (λ (s : UnitShown). IsOut s seat) shown out))
+    c.register-registered.ensures.cut
+
+pub or_halt-requires-clause-home : goal.or_halt-requires-clause-home
+or_halt-requires-clause-home g c =
+    let r = c.make_room.new.region in
+    let q = c.make_room.new.pass.ticket in
+    let seat = c.register-registered.new.seat in
+    let shown = shown_is r q c.seat_mut.result.now c.show_unit.new.seat c.seat_mut-2.result.now c.seat_mut.ensures.value
+    c.show_unit.ensures.unit c.seat_mut-2.ensures.value in
+    on_err_weaker {P = IsOut c.seat_mut-2.result.now seat} c.register-registered.result (λ out.
+    home_out r q seat c.in_ok-make_room.ensures.ready.home (subst (λ (s : UnitShown). IsOut s seat) shown out))
     c.register-registered.ensures.cut
 
 pub returns-clause-begun : goal.returns-clause-begun

@@ -1,12 +1,14 @@
 use Rattle.std.proofs.Common.{◌≡◌, ◌≤◌, ℕ, length, max, refl, ap, subst, sym, ◌∙◌}
-use Rattle.std.proofs.lemmas.Result.{IfOk-at_ok}
+use Rattle.std.proofs.lemmas.Result.{IfOk-at_ok, on_err_weaker}
 use Rattle.mont_base.specs.Image.{clock_of}
 use Rattle.heap.specs.HeapShown.{UnitShown, CallerShown}
-use Rattle.heap_rule.specs.Plays.{IsDurable}
+use Rattle.heap_rule.specs.Plays.{IsDurable, HasSeenAll}
+use Rattle.heap_rule.specs.declared.views.UnitTurn.{UnitTurn}
 use Rattle.heap_rule.specs.Views.{caller_heard, note_of_unit}
 use Rattle.slots.specs.Books.{RegionShown, IsAtRest}
-use Rattle.slots.specs.Reclaiming.{HasClosed, KeepsLive, IsSound, due_at}
+use Rattle.slots.specs.Reclaiming.{HasClosed, KeepsLive, IsSound, WasCutReclaiming, due_at}
 use Rattle.op_guard.specs.Guarding.{IsFull}
+use Rattle.op_guard.proofs.Halts.{turn_reclaiming}
 use Rattle.op_guard.proofs.Room.{is_full}
 use Rattle.op_guard.proofs.beginning.make_room.Goals as goal
 
@@ -16,6 +18,13 @@ noting q seat = record {
   table = q.table;
   held = caller_heard q.held (note_of_unit (length q.held.part.fronts) seat.held);
 }
+
+pub or_halt-requires-clause-home : goal.or_halt-requires-clause-home
+or_halt-requires-clause-home g c =
+    let old = c.args.region.now in
+    let new = c.reclaim-reclaimed.new.self in
+    on_err_weaker {P = WasCutReclaiming old new} c.reclaim-reclaimed.result (λ cut.
+    ap (λ (t : UnitTurn). t.out) (turn_reclaiming old new cut ∙ c.requires.ready.home)) c.reclaim-reclaimed.ensures.cut
 
 pub returns-clause-refused : goal.returns-clause-refused
 returns-clause-refused g c =
@@ -35,6 +44,7 @@ returns-clause-refused g c =
     let sound = IfOk-at_ok (λ (x : ℕ). IsSound heap new) is given.sound in
     let seat : c.seat_mut.result.now ≡ new.seat = c.seat_mut.ensures.value ∙ ap (λ (x : RegionShown). x.seat) kept.0 in
     let noted = c.hear_unit.ensures.caller ∙ (λ i. noting (kept.1 i) (seat i)) in
+    let seen = subst (λ (s : UnitShown). HasSeenAll c.hear_unit.new.ticket.held s.held) seat c.hear_unit.ensures.all in
     let free = c.free-free.ensures ∙ ap (λ (x : RegionShown). length x.books.free) kept.0 in
     let whole : record { seat = c.hear_unit.new.seat; books = c.or_halt.new.region.books } ≡ new =
     (λ i. record { seat = (c.hear_unit.ensures.unit ∙ c.seat_mut.ensures.value) i; books = c.or_halt.new.region.books }) ∙ kept.0 in (
@@ -42,5 +52,5 @@ returns-clause-refused g c =
       subst (λ (x : RegionShown). IsFull heap old x q c.hear_unit.new.ticket c.args.need c.free-free.result clock) (sym whole)
           (is_full heap old new clock c.requires.ready closed given.agrees given.stays q c.hear_unit.new.ticket
           c.args.need c.free-free.result
-          rests live found begun sound free c.if-free-need-2.false noted),
+          rests live found begun sound free c.if-free-need-2.false noted seen),
     )

@@ -1,9 +1,10 @@
-use Rattle.std.proofs.Common.{refl, ap, ◌∙◌}
+use Rattle.std.proofs.Common.{◌≡◌, refl, ap, subst, sym, ◌∙◌, true}
 use Rattle.core_steps.specs.Announcing.{can_withdraw}
-use Rattle.heap_rule.specs.Views.{Seated}
+use Rattle.core_steps.specs.Stages.{is_within}
+use Rattle.heap_rule.specs.Views.{Seated, home_turn, the_unit}
 use Rattle.heap_rule.proofs.SeatedPlays.{withdraws_as}
 use Rattle.heap.specs.HeapShown.{UnitShown}
-use Rattle.heap.proofs.SeatTables.{unit_table, word_inside, place_announced}
+use Rattle.heap.proofs.SeatTables.{unit_table, word_inside, place_announced, withdraw_rests}
 use Rattle.heap.proofs.heap.Heap.withdraw.Goals as goal
 
 pub store-requires : goal.store-requires
@@ -15,5 +16,7 @@ store-requires g c =
       withdraws_as _ _ _ _ _ _ _ (ap (λ (x : Seated). x.0) s.whole) (place_announced _ _ _ _ _ c.seat.view_is c.self.view_is
           place.place) refl
           (ap (λ (x : UnitShown). can_withdraw x.held.part) c.seat.view_is ∙ c.requires.may)
-          (ap (λ (x : UnitShown). x.held.turn) c.seat.view_is ∙ c.requires.home),
+          (withdraw_rests (the_unit c.seat.inside.seat.me.0) s.rests
+          (subst (λ (x : UnitShown). is_within x.held.part.stage ≡ true → x.held.turn ≡ home_turn) (sym c.seat.view_is)
+          c.requires.home)),
     )

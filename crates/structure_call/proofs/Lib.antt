@@ -1,0 +1,10 @@
+pub mod KeptPlans
+pub mod SoundHistories
+pub mod Notes
+pub mod ChangeEffects
+pub mod ChangeNumbers
+pub mod ChangeRecords
+pub mod WrittenChanges
+pub mod CarriedOut
+pub mod Stands
+pub mod Refusals
