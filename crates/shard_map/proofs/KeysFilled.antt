@@ -40,7 +40,7 @@ object_of_record : (rs : List Held) (r : Held) → Contains rs r → Contains (m
 object_of_record [] r a = absurd (no_element r a)
 object_of_record (q ∷ rs) r a = elim (element_cases q rs r a) [
   | inl e ↦ subst (λ (o : Object). Contains (map object_of (q ∷ rs)) o) (ap object_of (sym e))
-    (first_element (object_of q) (map object_of rs))
+      (first_element (object_of q) (map object_of rs))
   | inr b ↦ later_element (object_of q) (map object_of rs) (object_of r) (object_of_record rs r b)
 ]
 
@@ -87,10 +87,10 @@ module _ (os : List Object) (o : Object) (places : Places) (h : HasKeysOf os pla
       each q d a f = elim (Contains-push_cases os o q a) [
         | inl b ↦ ap is_some (got d.0) ∙ some (eq_by_cmp key_cmp d.0 p.0) d.0 (h.each q d b f)
         | inr same ↦
-          let g : d ≡ p = same_Some d p (sym f ∙ ap pair_at (sym same) ∙ is) in
-          ap is_some (got d.0)
-          ∙ ap (λ (t : Bool). is_some (cond t (Some o.slot) (finite.get places d.0)))
-          ((one_text d.0 p.0).1 (ap (λ (b : Key × Value). b.0) g))
+            let g : d ≡ p = same_Some d p (sym f ∙ ap pair_at (sym same) ∙ is) in
+            ap is_some (got d.0)
+            ∙ ap (λ (t : Bool). is_some (cond t (Some o.slot) (finite.get places d.0)))
+            ((one_text d.0 p.0).1 (ap (λ (b : Key × Value). b.0) g))
       ]
 
       by : (key : Key) (slot : ℕ) (t : Bool) → eq_by_cmp key_cmp key p.0 ≡ t
@@ -178,9 +178,11 @@ module _ (s : Shape) (unit : ℕ) (rs : List Held) (apart : AreApart rs) (pairs 
   keys_filled = record {
     readable = λ i e. shown.readable i (unread_at s unit rs i e);
     found = found;
-    there = λ key slot e. let b : RecordAt key slot = record_at key slot (h.only key slot e) in
-        (b.kept.label.identity, key_kept s unit rs b.kept.label.identity b.kept (key, b.value) b.live b.holds
-        ∙ ap (λ (n : ℕ). Some (Some (key, n))) b.in_slot);
+    there = λ key slot e. let b : RecordAt key slot = record_at key slot (h.only key slot e) in (
+      b.kept.label.identity,
+      key_kept s unit rs b.kept.label.identity b.kept (key, b.value) b.live b.holds
+          ∙ ap (λ (n : ℕ). Some (Some (key, n))) b.in_slot,
+    );
     once = λ i j key v w e f.
         let k : KeptAt s unit rs i key v = kept_at s unit rs i key v e in
         let l : KeptAt s unit rs j key w = kept_at s unit rs j key w f in

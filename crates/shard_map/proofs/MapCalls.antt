@@ -1,10 +1,9 @@
 -- What a map unit is behind each answer of a call.
 use Rattle.std.proofs.Common.{◌≡◌, ℕ, ◌≤◌, List, [], ◌∷◌, ◌++◌, sym, refl, ap, ◌∙◌, subst, arith, Bool, true, false, inl, inr, ◌⊎◌}
-use Rattle.std.specs.Prelude.{Option, Some, None, All, length, is_some, option_to_list}
+use Rattle.std.specs.Prelude.{Option, Some, None, length, is_some, option_to_list, MatchOption}
 use Rattle.std.specs.FinMap as finite
 use Rattle.std.specs.List.{AllZip, list_any}
 use Rattle.std.proofs.Math.Path.{fun_ext}
-use Rattle.std.proofs.lemmas.List.Elements.{All-nil, All-cons}
 use Rattle.std.proofs.lemmas.Option.{same_Some}
 use Rattle.mont_base.specs.declared.effect.Effect.{Effect}
 use Rattle.mont_base.specs.declared.effect.Effect.TheVariants.{Inserts, Replaces, Removes}
@@ -18,7 +17,9 @@ use Rattle.mont_base.specs.declared.operation.Reply.{Reply}
 use Rattle.mont_base.specs.declared.record.Change.{Change}
 use Rattle.mont_base.specs.declared.record.Change.TheVariants.{Insert, Replace, Remove}
 use Rattle.mont_base.specs.declared.record.Held.{Held}
-use Rattle.mont_base.specs.Layout.{Shape, kind_of, is_of_kind}
+use Rattle.mont_base.specs.declared.refusal.CallRefusal.{CallRefusal}
+use Rattle.mont_base.specs.declared.refusal.CallRefusal.TheVariants.{Full, Cut}
+use Rattle.mont_base.specs.Layout.{Shape, kind_of}
 use Rattle.mont_base.specs.State.{State, MapOf, Key, Value, Pairs, set_effects, map_step, map_del, step}
 use Rattle.mont_laws.specs.Effects.{IsEffect, AreEffects, IsOpOf}
 use Rattle.mont_laws.specs.Records.{live_of}
@@ -28,36 +29,17 @@ use Rattle.mont_laws.proofs.Edits.{no_zip, one_zip}
 use Rattle.mont_laws.proofs.Maps.{pairs_once}
 use Rattle.heap.specs.HeapShown.{HeapShown, CallerShown}
 use Rattle.index_kit.specs.Index.{Places}
-use Rattle.op_guard.specs.Regions.{IsReady, IsRunning, KeepsUnit, WasHalted}
-use Rattle.slots.specs.Books.{RegionShown, IsRegionOf, Agrees}
-use Rattle.slots.specs.Changes.{NamesLive, has_serial, is_insert, record_by}
-use Rattle.structure_call.specs.Calling.{HasAnsweredCall, HasWritten}
-use Rattle.structure_call.specs.Carrying.{HasCarried, records_by, last_of}
+use Rattle.slots.specs.Books.{BooksShown, RegionShown, IsRegionOf}
+use Rattle.slots.specs.Changes.{has_serial, record_by}
+use Rattle.structure_call.specs.Calling.{HasAnsweredCall}
+use Rattle.structure_call.specs.Carrying.{HasCarried, LeavesUncarried, records_by, last_of}
 use Rattle.structure_call.specs.Planning.{IsPlan, Makes}
+use Rattle.structure_call.specs.Standing.{IsStanding}
 use Rattle.shard_map.specs.LiveKeys.{HoldsLiveKeys}
 use Rattle.shard_map.specs.MapCall.{places_behind, HasRoomFor, AddsKey}
 use Rattle.shard_map.specs.MapShard.{IsMapUnit}
 use Rattle.shard_map.proofs.KeyFacts.{map_state, no_value}
 use Rattle.shard_map.proofs.KeyEdits.{keys_of_same_live, slot_of_one, keys_follow}
-
--- ---- what is planned
-module _ (rs : List Held) (serial : ℕ) where
-  named : (e : Effect) (c : Change) → Makes rs serial e c → NamesLive rs c
-  named (Inserts t) (Insert body) m = tt
-  named (Inserts t) (Replace slot identity body) m = absurd m
-  named (Inserts t) (Remove slot identity) m = absurd m
-  named (Replaces t) (Insert body) m = absurd m
-  named (Replaces t) (Replace slot identity body) m = record { live = m.0.live; is = m.0.is; in_slot = m.0.in_slot }
-  named (Replaces t) (Remove slot identity) m = absurd m
-  named (Removes t) (Insert body) m = absurd m
-  named (Removes t) (Replace slot identity body) m = absurd m
-  named (Removes t) (Remove slot identity) m = record { live = m.live; is = m.is; in_slot = m.in_slot }
-
-  pub all_named : (es : List Effect) (cs : List Change) → AllZip (Makes rs serial) es cs → All (NamesLive rs) cs
-  all_named [] [] m = All-nil (NamesLive rs)
-  all_named [] (c ∷ cs) m = absurd m
-  all_named (e ∷ es) [] m = absurd m
-  all_named (e ∷ es) (c ∷ cs) m = All-cons (NamesLive rs) c cs (named e c m.0) (all_named es cs m.1)
 
 -- a map has no serials
 pub no_serial : (s : Shape) (unit : ℕ) (cs : List Change) → kind_of s unit ≡ Some unit_kinds.Map → list_any (has_serial s unit) cs ≡ false
@@ -91,10 +73,10 @@ end_push (r ∷ []) w = refl
 end_push (r ∷ q ∷ rs) w = end_push (q ∷ rs) w
 
 -- what was written is in the slot of the last change
-same_slot : (u next epoch serial : ℕ) (rs kept others ws : List Held) (es : List Effect) (cs : List Change) (slots : List ℕ)
+same_slot : (b : BooksShown) (u next epoch : ℕ) (rs kept others ws : List Held) (es : List Effect) (cs : List Change) (slots : List ℕ)
     → kept ++ ws ≡ others ++ records_by u next others epoch cs slots → (es ≡ []) ⊎ ((e : Effect) × (es ≡ e ∷ []))
-    → AreEffects u kept es ws → AllZip (Makes rs serial) es cs → length slots ≡ length cs → last_of slots ≡ slot_of_one ws
-same_slot u next epoch serial rs kept others ws es cs slots same few are makes long = by few
+    → AreEffects u kept es ws → AllZip (Makes b rs) es cs → length slots ≡ length cs → last_of slots ≡ slot_of_one ws
+same_slot b u next epoch rs kept others ws es cs slots same few are makes long = by few
   where
     none : (ws : List Held) (cs : List Change) (slots : List ℕ) → ws ≡ [] → cs ≡ [] → length slots ≡ length cs → last_of slots ≡ slot_of_one ws
     none [] [] [] e f l = refl
@@ -113,21 +95,21 @@ same_slot u next epoch serial rs kept others ws es cs slots same few are makes l
     by : (es ≡ []) ⊎ ((e : Effect) × (es ≡ e ∷ [])) → last_of slots ≡ slot_of_one ws
     by (inl e) = none ws cs slots
         (no_zip (IsEffect u kept) ws (subst (λ (fs : List Effect). AreEffects u kept fs ws) e are))
-        (no_zip (Makes rs serial) cs (subst (λ (fs : List Effect). AllZip (Makes rs serial) fs cs) e makes)) long
+        (no_zip (Makes b rs) cs (subst (λ (fs : List Effect). AllZip (Makes b rs) fs cs) e makes)) long
     by (inr e) =
-        let b = one_zip (IsEffect u kept) e.0 ws (subst (λ (fs : List Effect). AreEffects u kept fs ws) e.1 are) in
-        let d = one_zip (Makes rs serial) e.0 cs (subst (λ (fs : List Effect). AllZip (Makes rs serial) fs cs) e.1 makes) in
-        let f : kept ++ b.0 ∷ [] ≡ others ++ records_by u next others epoch (d.0 ∷ []) slots =
-        ap (λ (zs : List Held). kept ++ zs) (sym b.1) ∙ same ∙ ap (λ (ds : List Change). others ++ records_by u next others epoch ds slots) d.1 in
-        one b.0 d.0 slots f (long ∙ ap (λ (ds : List Change). length ds) d.1) ∙ ap slot_of_one (sym b.1)
+        let v = one_zip (IsEffect u kept) e.0 ws (subst (λ (fs : List Effect). AreEffects u kept fs ws) e.1 are) in
+        let d = one_zip (Makes b rs) e.0 cs (subst (λ (fs : List Effect). AllZip (Makes b rs) fs cs) e.1 makes) in
+        let f : kept ++ v.0 ∷ [] ≡ others ++ records_by u next others epoch (d.0 ∷ []) slots =
+        ap (λ (zs : List Held). kept ++ zs) (sym v.1) ∙ same ∙ ap (λ (ds : List Change). others ++ records_by u next others epoch ds slots) d.1 in
+        one v.0 d.0 slots f (long ∙ ap (λ (ds : List Change). length ds) d.1) ∙ ap slot_of_one (sym v.1)
 
 -- where an operation sets a key that has no place, its change adds it
 pub room_for : (r : RegionShown) (places : Places) → IsMapUnit r places → r.books.halted ≡ None → (op : Op) (reply : Reply)
     (change : Option Change) (spare : ℕ) → IsPlan r op reply (option_to_list change) → (AddsKey change → 1 ≤ spare)
     → HasRoomFor places spare op
 room_for r places unit running (ops.Put key value) reply change spare plan room = λ none.
-    room (inserts change (subst (λ (t : Bool). AllZip (Makes r.seat.held.part.records r.books.serial) (set_effects t (Pair key value)) (option_to_list change))
-    (ap is_some (absent none)) (subst (λ (st : State). AllZip (Makes r.seat.held.part.records r.books.serial) (step st (ops.Put key value)).effects
+    room (inserts change (subst (λ (t : Bool). AllZip (Makes r.books r.seat.held.part.records) (set_effects t (Pair key value)) (option_to_list change))
+    (ap is_some (absent none)) (subst (λ (st : State). AllZip (Makes r.books r.seat.held.part.records) (step st (ops.Put key value)).effects
     (option_to_list change)) b.1 plan.makes)))
   where
     b : (m : Pairs) × (plan.state ≡ MapOf m) × HasPairs r.books.layout r.books.unit r.seat.held.part.records m
@@ -136,7 +118,7 @@ room_for r places unit running (ops.Put key value) reply change spare plan room 
     absent : finite.get places key ≡ None → finite.get b.0 key ≡ None
     absent none = no_value r.books.layout r.books.unit r.seat.held.part.records places (unit.indexed running) b.0 b.2 key none
 
-    inserts : (c : Option Change) → AllZip (Makes r.seat.held.part.records r.books.serial) (Inserts (Pair key value) ∷ []) (option_to_list c) → AddsKey c
+    inserts : (c : Option Change) → AllZip (Makes r.books r.seat.held.part.records) (Inserts (Pair key value) ∷ []) (option_to_list c) → AddsKey c
     inserts None z = absurd z
     inserts (Some (Insert body)) z = tt
     inserts (Some (Replace at identity body)) z = absurd z.0
@@ -149,55 +131,79 @@ pairs_of_same_live : (s : Shape) (u : ℕ) (rs qs : List Held) (m : Pairs) → (
 pairs_of_same_live s u rs qs m same h =
     subst (λ (l : ℕ → Option (Option (Key × Value))). Shows l (finite.get m)) (fun_ext (λ i. ap (held_in (pair_for s u)) (sym (same i)))) h
 
-module _ (heap : HeapShown) (old new : RegionShown) (places : Places) (unit : IsMapUnit old places) where
-  -- ---- behind a refusal
-  -- nothing else is live
-  pub unit_kept : old.books.halted ≡ None → IsRegionOf heap old → IsReady heap new → KeepsUnit old new → IsMapUnit new places
-  unit_kept was_running stands ready keeps = record {
-    agrees = ready.runs.agrees;
-    kind = subst (λ (s : Shape). kind_of s new.books.unit ≡ Some unit_kinds.Map) layout
-        (subst (λ (u : ℕ). kind_of old.books.layout u ≡ Some unit_kinds.Map) (sym keeps.of_unit) unit.kind);
-    indexed = λ running. subst (λ (s : Shape). HoldsLiveKeys s new.books.unit new.seat.held.part.records places) layout
-        (subst (λ (u : ℕ). HoldsLiveKeys old.books.layout u new.seat.held.part.records places) (sym keeps.of_unit)
-        (keys_of_same_live old.books.layout old.books.unit old.seat.held.part.records new.seat.held.part.records places keeps.live
-        (unit.indexed was_running)));
-  }
-    where
-      layout : old.books.layout ≡ new.books.layout
-      layout = stands.layout ∙ sym ready.runs.of_heap.layout
+-- ---- a map unit whose operation is to be carried out
+pub record IsCalled (heap : HeapShown) (r : RegionShown) (places : Places) : Type 0 where
+  pub unit : IsMapUnit r places
+  pub running : r.books.halted ≡ None
+  pub of_heap : IsRegionOf heap r
 
-  -- it is halted
-  pub unit_halted : (q r : CallerShown) → IsRegionOf heap old → WasHalted heap old new q r → IsMapUnit new places
-  unit_halted q r stands h = record {
-    agrees = h.agrees;
-    kind = subst (λ (s : Shape). kind_of s new.books.unit ≡ Some unit_kinds.Map) (stands.layout ∙ sym h.of_heap.layout)
-        (subst (λ (u : ℕ). kind_of old.books.layout u ≡ Some unit_kinds.Map) (sym h.of_unit) unit.kind);
-    indexed = λ e. let f = h.by in absurd (cc);
-  }
+-- the checks before leave the region as it was, and room that is made leaves the places
+pub is_called : (heap : HeapShown) (shown began ran checked : RegionShown) (places after : Places) → IsStanding heap shown
+    → began ≡ shown → IsMapUnit began places → began.books.halted ≡ None → ran ≡ began → checked ≡ ran → after ≡ places
+    → IsCalled heap checked after
+is_called heap shown began ran checked places after stands is unit running same again room = record {
+  unit = subst (λ (r : RegionShown). IsMapUnit r after) (sym (again ∙ same)) (subst (IsMapUnit began) (sym room) unit);
+  running = ap (λ (r : RegionShown). r.books.halted) (again ∙ same) ∙ running;
+  of_heap = subst (IsRegionOf heap) (sym (again ∙ same ∙ is)) stands.of_heap;
+}
 
-  -- ---- behind an answer
-  module _ (running : old.books.halted ≡ None) (stands : IsRegionOf heap old) (q r : CallerShown) (op : Op) (receipt : Receipt)
-      (answered : HasAnsweredCall heap old new q r op receipt) (reply : Reply) (changes : List Change) (slot : Option ℕ)
-      (plan : IsPlan old op reply changes) (carried : HasCarried old new changes receipt slot) where
+-- the changes of a plan, as a list
+pub as_changes : (o : Option Change) (cs : List Change) → MatchOption o (cs ≡ []) (λ c. cs ≡ c ∷ []) → cs ≡ option_to_list o
+as_changes None cs h = h
+as_changes (Some c) cs h = h
+
+module _ (heap : HeapShown) (old new : RegionShown) (places : Places) (called : IsCalled heap old places) where
+  -- it is a map unit still
+  kind_stays : IsRegionOf heap new → new.books.unit ≡ old.books.unit → kind_of new.books.layout new.books.unit ≡ Some unit_kinds.Map
+  kind_stays of_heap unit = subst (λ (s : Shape). kind_of s new.books.unit ≡ Some unit_kinds.Map)
+      (called.of_heap.layout ∙ sym of_heap.layout)
+      (subst (λ (u : ℕ). kind_of old.books.layout u ≡ Some unit_kinds.Map) (sym unit) called.unit.kind)
+
+  keys_stay : (after : Places) → IsRegionOf heap new → new.books.unit ≡ old.books.unit
+      → HoldsLiveKeys old.books.layout old.books.unit new.seat.held.part.records after
+      → HoldsLiveKeys new.books.layout new.books.unit new.seat.held.part.records after
+  keys_stay after of_heap unit holds =
+      subst (λ (s : Shape). HoldsLiveKeys s new.books.unit new.seat.held.part.records after) (called.of_heap.layout ∙ sym of_heap.layout)
+      (subst (λ (u : ℕ). HoldsLiveKeys old.books.layout u new.seat.held.part.records after) (sym unit) holds)
+
+  -- ---- behind a refusal nothing else is live, or it is halted
+  pub unit_uncarried : (q r : CallerShown) (many : ℕ) (why : CallRefusal) → LeavesUncarried heap old new q r many why → IsMapUnit new places
+  unit_uncarried q r many (Full need free clock) h = record {
+    agrees = h.1.ready.runs.agrees;
+    kind = kind_stays h.1.ready.runs.of_heap h.1.keeps.of_unit;
+    indexed = λ _. keys_stay places h.1.ready.runs.of_heap h.1.keeps.of_unit
+        (keys_of_same_live old.books.layout old.books.unit old.seat.held.part.records new.seat.held.part.records places h.1.keeps.live
+        (called.unit.indexed called.running));
+  }
+  unit_uncarried q r many (Cut unit) h = record {
+    agrees = h.1.agrees;
+    kind = kind_stays h.1.of_heap h.1.of_unit;
+    indexed = λ e. let f = h.1.by in absurd (cc);
+  }
+  unit_uncarried q r many _ h = absurd h
+
+  -- ---- behind an answer the index has followed
+  module _ (q r : CallerShown) (op : Op) (receipt : Receipt) (answered : HasAnsweredCall heap old new q r op receipt) (reply : Reply)
+      (changes : List Change) (slot : Option ℕ) (plan : IsPlan old op reply changes) (carried : HasCarried old new changes receipt slot) where
     judged_map : (m : Pairs) × (answered.judged.state ≡ MapOf m) × HasPairs old.books.layout old.books.unit old.seat.held.part.records m
-    judged_map = map_state old.books.layout old.books.unit old.seat.held.part.records answered.judged.state unit.kind
-        (subst (λ (s : Shape). HasStructure s old.books.unit old.seat.held.part.records answered.judged.state) (sym stands.layout)
+    judged_map = map_state old.books.layout old.books.unit old.seat.held.part.records answered.judged.state called.unit.kind
+        (subst (λ (s : Shape). HasStructure s old.books.unit old.seat.held.part.records answered.judged.state) (sym called.of_heap.layout)
         answered.judged.shown)
 
     planned_map : (m : Pairs) × (plan.state ≡ MapOf m) × HasPairs old.books.layout old.books.unit old.seat.held.part.records m
-    planned_map = map_state old.books.layout old.books.unit old.seat.held.part.records plan.state unit.kind plan.shown
+    planned_map = map_state old.books.layout old.books.unit old.seat.held.part.records plan.state called.unit.kind plan.shown
 
     effects_are : AreEffects old.books.unit answered.wrote.kept (map_step judged_map.0 op).effects answered.wrote.written
     effects_are = subst (λ (st : State). AreEffects old.books.unit answered.wrote.kept (step st op).effects answered.wrote.written)
         judged_map.1 answered.wrote.are_effects
 
-    makes : AllZip (Makes old.seat.held.part.records old.books.serial) (map_step judged_map.0 op).effects changes
-    makes = subst (λ (st : State). AllZip (Makes old.seat.held.part.records old.books.serial) (step st op).effects changes)
+    makes : AllZip (Makes old.books old.seat.held.part.records) (map_step judged_map.0 op).effects changes
+    makes = subst (λ (st : State). AllZip (Makes old.books old.seat.held.part.records) (step st op).effects changes)
         (planned_map.1 ∙ ap MapOf (pairs_once old.books.layout old.books.unit old.seat.held.part.records planned_map.0 judged_map.0
         planned_map.2 judged_map.2)) plan.makes
 
     slot_is : slot_of_one answered.wrote.written ≡ slot
-    slot_is = sym (carried.last_is ∙ same_slot old.books.unit old.books.identity receipt.entry.epoch old.books.serial old.seat.held.part.records
+    slot_is = sym (carried.last_is ∙ same_slot old.books old.books.unit old.books.identity receipt.entry.epoch old.seat.held.part.records
         answered.wrote.kept carried.kept answered.wrote.written (map_step judged_map.0 op).effects changes carried.slots
         (sym answered.wrote.records_are ∙ carried.records_are) (one_effect judged_map.0 op) effects_are makes carried.each)
 
@@ -209,21 +215,15 @@ module _ (heap : HeapShown) (old new : RegionShown) (places : Places) (unit : Is
         (places_behind places op o)) slot_is
         (keys_follow old.books.layout old.books.unit answered.wrote.kept places
         (keys_of_same_live old.books.layout old.books.unit old.seat.held.part.records answered.wrote.kept places answered.wrote.live
-        (unit.indexed running))
+        (called.unit.indexed called.running))
         judged_map.0
         (pairs_of_same_live old.books.layout old.books.unit old.seat.held.part.records answered.wrote.kept judged_map.0
         answered.wrote.live judged_map.2)
         op answered.wrote.written plan.of_unit effects_are))
 
-    layout : old.books.layout ≡ new.books.layout
-    layout = stands.layout ∙ sym answered.ready.runs.of_heap.layout
-
     pub unit_behind : IsMapUnit new (places_behind places op slot)
     unit_behind = record {
       agrees = answered.ready.runs.agrees;
-      kind = subst (λ (s : Shape). kind_of s new.books.unit ≡ Some unit_kinds.Map) layout
-          (subst (λ (u : ℕ). kind_of old.books.layout u ≡ Some unit_kinds.Map) (sym answered.of_unit) unit.kind);
-      indexed = λ _. subst (λ (s : Shape). HoldsLiveKeys s new.books.unit new.seat.held.part.records (places_behind places op slot)) layout
-          (subst (λ (u : ℕ). HoldsLiveKeys old.books.layout u new.seat.held.part.records (places_behind places op slot))
-          (sym answered.of_unit) keys_behind);
+      kind = kind_stays answered.ready.runs.of_heap answered.of_unit;
+      indexed = λ _. keys_stay (places_behind places op slot) answered.ready.runs.of_heap answered.of_unit keys_behind;
     }

@@ -99,7 +99,7 @@ module _ (r : RegionShown) (places : Places) (unit : IsMapUnit r places) (runnin
 
   -- ---- what is planned
   plan_of : (op : Op) (reply : Reply) (changes : List Change) → IsOpOf r.books.layout r.books.unit op
-      → reply ≡ (map_step the_pairs op).reply → AllZip (Makes r.seat.held.part.records r.books.serial) (map_step the_pairs op).effects changes
+      → reply ≡ (map_step the_pairs op).reply → AllZip (Makes r.books r.seat.held.part.records) (map_step the_pairs op).effects changes
       → IsPlan r op reply changes
   plan_of op reply changes is replies makes = record {
     of_unit = is;
@@ -118,12 +118,12 @@ module _ (r : RegionShown) (places : Places) (unit : IsMapUnit r places) (runnin
   put_plan key value None body v n b is =
       let none = v the_pairs map_shown in
       plan_of (ops.Put key value) _ _ is (ap earlier_text (sym none))
-      (subst (λ (t : Bool). AllZip (Makes r.seat.held.part.records r.books.serial) (set_effects t (Pair key value)) (setting None body ∷ []))
+      (subst (λ (t : Bool). AllZip (Makes r.books r.seat.held.part.records) (set_effects t (Pair key value)) (setting None body ∷ []))
       (ap is_some (sym none)) (b, tt))
   put_plan key value (Some f) body v n b is =
       let some = v the_pairs map_shown in
       plan_of (ops.Put key value) _ _ is (ap earlier_text (sym some))
-      (subst (λ (t : Bool). AllZip (Makes r.seat.held.part.records r.books.serial) (set_effects t (Pair key value)) (setting (Some f) body ∷ []))
+      (subst (λ (t : Bool). AllZip (Makes r.books r.seat.held.part.records) (set_effects t (Pair key value)) (setting (Some f) body ∷ []))
       (ap is_some (sym some)) ((record { live = n.live; is = n.is; in_slot = n.in_slot; named = n.named }, b), tt))
 
   pub get_plan : (key : Key) (found : Option Found) → HasValue r key (value_found found)
@@ -140,9 +140,9 @@ module _ (r : RegionShown) (places : Places) (unit : IsMapUnit r places) (runnin
   del_plan key None v n is =
       let none = v the_pairs map_shown in
       plan_of (ops.Del key) _ _ is (ap (λ (o : Option Value). (map_del the_pairs key o).reply) (sym none))
-      (subst (λ (o : Option Value). AllZip (Makes r.seat.held.part.records r.books.serial) (map_del the_pairs key o).effects []) (sym none) tt)
+      (subst (λ (o : Option Value). AllZip (Makes r.books r.seat.held.part.records) (map_del the_pairs key o).effects []) (sym none) tt)
   del_plan key (Some f) v n is =
       let some = v the_pairs map_shown in
       plan_of (ops.Del key) _ _ is (ap (λ (o : Option Value). (map_del the_pairs key o).reply) (sym some))
-      (subst (λ (o : Option Value). AllZip (Makes r.seat.held.part.records r.books.serial) (map_del the_pairs key o).effects (changes_of (removal (Some f))))
+      (subst (λ (o : Option Value). AllZip (Makes r.books r.seat.held.part.records) (map_del the_pairs key o).effects (changes_of (removal (Some f))))
       (sym some) (n, tt))

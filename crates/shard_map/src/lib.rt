@@ -3,6 +3,7 @@
 #![tactic(auto)]
 
 mod map_beginning;
+mod map_call;
 mod map_plan;
 mod map_shard;
 

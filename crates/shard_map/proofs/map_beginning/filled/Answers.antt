@@ -13,9 +13,9 @@ loop-object-preserved g c =
     subst (HasKeysOf (take c.loop-object.object-index c.args.objects.now)) (sym (c.in_ok-reserve.ensures.kept)) c.loop-object.invariant in
     elim c.match-pair_in.branch [
       | in-Some w ↦ rw (w.index-is, w.put.ensures.set)
-        (next_with c.args.objects.now c.loop-object.object-index _ (g.I.Index.places c.reserve.new.self) c.loop-object-test.true held
-        w.in-Some.pair (sym c.pair_in.ensures.exact ∙ w.in-Some.is))
+          (next_with c.args.objects.now c.loop-object.object-index _ (g.I.Index.places c.reserve.new.self) c.loop-object-test.true held
+          w.in-Some.pair (sym c.pair_in.ensures.exact ∙ w.in-Some.is))
       | in_default w ↦ rw w.index-is
-        (next_past c.args.objects.now c.loop-object.object-index _ (g.I.Index.places c.reserve.new.self) c.loop-object-test.true held
-        (sym c.pair_in.ensures.exact ∙ w.in_default.is))
+          (next_past c.args.objects.now c.loop-object.object-index _ (g.I.Index.places c.reserve.new.self) c.loop-object-test.true held
+          (sym c.pair_in.ensures.exact ∙ w.in_default.is))
     ]
