@@ -5,8 +5,8 @@ ghost use Rattle.mont_base.specs.Layout.{units_of};
 ghost use Rattle.core_steps.specs.declared.parts.AdvPart.TheVariants.{Rest};
 ghost use Rattle.core_steps.specs.Advancing.{can_check, unit_at_hand, lets_pass, past_unit, is_clocked};
 ghost use Rattle.heap_rule.specs.Views.{are_clean, advancer_shown, caller_heard, note_of_advancer};
-ghost use Rattle.write_back.specs.Flush.{IsOfLayout};
 ghost use Rattle.heap.specs.GateAsked.{IsAskedOften};
+ghost use Rattle.heap.specs.OfLayout.{IsOfLayout};
 ghost use Rattle.advance.specs.declared.refusal.AdvanceRefusal.TheVariants.{Cut, ClockEnd};
 ghost use Rattle.advance.specs.Stage.{stage_of, IsAtRest, IsWaitingAt, has_passed, IsReady};
 ghost use Rattle.advance.specs.Advance.{IsSameSeat, HasChecked, IsAdvanced, IsUnderWay, HasReason, IsAtEnd, was_cut};
@@ -14,6 +14,7 @@ ghost use Rattle.advance.specs.Advance.{IsSameSeat, HasChecked, IsAdvanced, IsUn
 use crate::refusal::AdvanceRefusal;
 use crate::stage::AdvStage;
 use heap::{AdvSeat, Heap, Ticket};
+use heap_pass::OfHeap;
 use mont_base::{Epoch, Gate, LAST, Layout, Unit};
 use std::marker::Model;
 use write_back::Flush;
@@ -39,6 +40,15 @@ impl Model for Advancer {
     ghost view = { λ a. a.seat };
 
     ghost invariant = { λ a. FitsSeat a.units a.clock a.stage a.flush a.seat.held };
+}
+
+// It fits a heap where its seat does.
+impl OfHeap for Advancer {
+    ghost use Rattle.heap_pass.specs.OfHeap.{IsAdvancerOf, IsAdvancerOf-prop};
+
+    ghost fits = { IsAdvancerOf };
+
+    ghost fits_once = { IsAdvancerOf-prop };
 }
 
 impl Advancer {

@@ -1,2 +1,3 @@
 pub mod NoHeap
+pub mod OfHeap
 pub mod Spare

@@ -1,7 +1,5 @@
 // What stands behind a lock names its heap by its type.
-ghost use Rattle.std.specs.Prelude.{◌≡◌, true, IsTrue};
-ghost use Rattle.mont_base.specs.Layout.{units_of};
-ghost use Rattle.heap_rule.specs.Views.{are_clean};
+ghost use Rattle.std.specs.Prelude.{◌≡◌};
 
 use heap::{AdvSeat, Ticket, UnitSeat};
 use std::marker::{Brand, PhantomData};
@@ -19,49 +17,52 @@ impl HeapName for Brand {
     ghost heap = { no_heap };
 }
 
-/// What has a seat of a heap says of which table it is, and which units it knows to be clean.
+/// What may stand behind a lock says how it fits a heap: by all that who takes the lock is to know.
 pub trait OfHeap {
-    ghost use Rattle.std.specs.Prelude.{List, ℕ};
-    ghost use Rattle.atomic_table.specs.Seated.{TableId};
+    ghost use Rattle.heap.specs.HeapShown.{HeapShown};
 
-    ghost table_of: { Self → TableId };
+    ghost fits: { HeapShown → Self → Type 0 };
 
-    ghost clean_of: { Self → List ℕ };
+    /// There is one proof of it at most.
+    ghost fits_once: { (heap : HeapShown) (part : Self) → IsProp (fits heap part) };
 }
 
 impl OfHeap for UnitSeat {
-    ghost table_of = { λ s. s.table };
+    ghost use Rattle.heap_pass.specs.OfHeap.{IsOfHeap, IsOfHeap-prop};
 
-    ghost clean_of = { λ s. s.held.clean };
+    ghost fits = { λ heap s. IsOfHeap heap s.table s.held.clean };
+
+    ghost fits_once = { λ heap s. IsOfHeap-prop heap s.table s.held.clean };
 }
 
 impl OfHeap for AdvSeat {
-    ghost table_of = { λ s. s.table };
+    ghost use Rattle.heap_pass.specs.OfHeap.{IsAdvancerOf, IsAdvancerOf-prop};
 
-    ghost clean_of = { λ s. s.held.clean };
+    ghost fits = { IsAdvancerOf };
+
+    ghost fits_once = { IsAdvancerOf-prop };
 }
 
 impl OfHeap for Ticket {
-    ghost table_of = { λ s. s.table };
+    ghost use Rattle.heap_pass.specs.OfHeap.{IsOfHeap, IsOfHeap-prop};
 
-    ghost clean_of = { λ s. s.held.clean };
+    ghost fits = { λ heap s. IsOfHeap heap s.table s.held.clean };
+
+    ghost fits_once = { λ heap s. IsOfHeap-prop heap s.table s.held.clean };
 }
 
-/// A part of the heap that N names, whose seat knows every unit to be clean.
+/// A part that fits the heap that N names.
 #[derive(Drop)]
 pub struct Named<N: HeapName, T: OfHeap> {
     pub part: T,
     pub of: PhantomData<N>,
-    pub ghost of_heap: { T.table_of part ≡ N.heap.table },
-    pub ghost clean: { are_clean (units_of N.heap.opening.layout) (T.clean_of part) ≡ true },
+    pub ghost of_heap: { T.fits N.heap part } by { T.fits_once N.heap part },
 }
 
 impl<N: HeapName, T: OfHeap> Named<N, T> {
     /// The part under the heap's name.
     pub fn new(part: T) -> Named<N, T>
-        requires heap { T.table_of part ≡ N.heap.table }
-        requires clean { IsTrue
-            (are_clean (units_of N.heap.opening.layout) (T.clean_of part)) }
+        requires { T.fits N.heap part }
         ensures { result.part ≡ part }
     {
         Named {
@@ -73,9 +74,7 @@ impl<N: HeapName, T: OfHeap> Named<N, T> {
     /// Gives the part back.
     pub fn into_part(self) -> T
         ensures part { result ≡ self.part }
-        ensures heap { T.table_of result ≡ N.heap.table }
-        ensures clean { IsTrue
-            (are_clean (units_of N.heap.opening.layout) (T.clean_of result)) }
+        ensures heap { T.fits N.heap result }
     {
         let Named { part, of: _ } = self;
         part

@@ -4,6 +4,7 @@ ghost use Rattle.mont_base.specs.Layout.{units_of};
 ghost use Rattle.core_steps.specs.Advancing.{can_check};
 ghost use Rattle.core_steps.specs.Answering.{CanRead};
 ghost use Rattle.heap_rule.specs.Views.{are_clean};
+ghost use Rattle.heap_pass.specs.OfHeap.{IsAdvancerOf};
 ghost use Rattle.heap_pass.specs.Spare.{spare_of};
 
 use crate::{HeapName, Named, OfHeap, Pass};
@@ -23,9 +24,11 @@ struct Checker {
 }
 
 impl OfHeap for Checker {
-    ghost table_of = { λ c. c.seat.table };
+    ghost use Rattle.heap_pass.specs.OfHeap.{IsAdvancerOf, IsAdvancerOf-prop};
 
-    ghost clean_of = { λ c. c.seat.held.clean };
+    ghost fits = { λ heap c. IsAdvancerOf heap c.seat };
+
+    ghost fits_once = { λ heap c. IsAdvancerOf-prop heap c.seat };
 }
 
 // Shows the advancer behind its lock what the caller has seen.
@@ -107,8 +110,8 @@ fn work<N: HeapName>(
     ticket: Ticket,
 ) -> Result<u64, Fail>
     requires heap { heap.now ≡ N.heap }
-    requires of_heap { (advancer.table ≡ N.heap.table) × (ticket.table ≡ N.heap.table) }
-    requires clean { IsTrue (are_clean (units_of N.heap.opening.layout) advancer.held.clean) }
+    requires advancer { IsAdvancerOf N.heap advancer }
+    requires ticket { ticket.table ≡ N.heap.table }
     requires rests { IsTrue (can_check advancer.held.clock advancer.held.part) }
     requires unanswered { ticket.held.part.receipts ≡ [] }
 {

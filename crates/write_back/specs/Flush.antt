@@ -1,7 +1,6 @@
 -- Where a flush stands, beside what the advancer's seat shows.
 use Rattle.std.specs.Prelude.{◌≡◌, ℕ, ◌+◌, ◌*◌, ◌<◌, ◌≤◌, Bool, true, false, nat_lt, List, [], length, take, slice_get, Option, Some, None, if◌then◌else◌}
 use Rattle.mont_base.specs.declared.constants.TheConstants.{FIELDS}
-use Rattle.mont_base.specs.Layout.{Shape, units_of}
 use Rattle.mont_base.specs.SlotLists.{Roomy}
 use Rattle.core_steps.specs.declared.parts.AdvPart.{AdvPart}
 use Rattle.core_steps.specs.declared.parts.AdvPart.TheVariants.{Flushing, Holding}
@@ -11,12 +10,6 @@ use Rattle.heap_rule.specs.Views.{joined, list_at}
 use Rattle.write_back.specs.declared.flush.Flush.{Flush}
 
 -- ---- the seat
--- it is of a heap with this layout, and knows a list of each unit
-pub record IsOfLayout (l : Shape) (a : AdvHeld) : Type 0 where
-  pub units : a.units ≡ units_of l
-  pub room : a.room ≡ l.slots
-  pub lists : length a.lists ≡ a.units
-
 -- all units were passed, and the clock has not moved yet
 abbrev pub is_flushing : AdvPart → Bool
 is_flushing (Flushing done field) = true

@@ -1,9 +1,10 @@
 // A flush: where it stands, and how it goes on through the lists of all units.
 ghost use Rattle.std.specs.Prelude.{◌≡◌, ◌+◌, ◌^◌, ◌<◌, true, false, is_err, length, slice_get, OnOk, OnErr, Some};
-ghost use Rattle.write_back.specs.Flush.{IsOfLayout, StandsAt, IsFlushed, flush_start, slots_out, slot_in, words_done, behind_word, with_flush_of};
+ghost use Rattle.write_back.specs.Flush.{StandsAt, IsFlushed, flush_start, slots_out, slot_in, words_done, behind_word, with_flush_of};
 ghost use Rattle.mont_base.specs.declared.constants.TheConstants.{FIELDS};
 ghost use Rattle.mont_base.specs.Layout.{IsLayout};
 ghost use Rattle.heap.specs.GateAsked.{IsAskedOften};
+ghost use Rattle.heap.specs.OfLayout.{IsOfLayout};
 
 use heap::{AdvSeat, Heap};
 use mont_base::{Cut, FIELDS, Gate, Slot, SlotList, Unit};

@@ -1,12 +1,12 @@
-use Rattle.std.proofs.Common.{ap, ◌∙◌}
-use Rattle.mont_base.specs.Layout.{units_of}
-use Rattle.heap_rule.specs.Views.{are_clean}
+use Rattle.std.proofs.Common.{sym, subst}
 use Rattle.heap.specs.HeapShown.{AdvShown}
-use Rattle.heap_pass.proofs.Cleanness.{are_clean-append}
+use Rattle.heap_pass.specs.OfHeap.{IsAdvancerOf}
+use Rattle.heap_pass.proofs.Cleanness.{shown_advancer_of}
 use Rattle.heap_pass.proofs.tests.show.Goals as goal
 
-pub invariant_of-named-clause-clean : goal.invariant_of-named-clause-clean
-invariant_of-named-clause-clean g c =
-    ap (λ (a : AdvShown). are_clean (units_of g.N.HeapName.heap.opening.layout) a.held.clean) c.show_advancer.ensures.advancer
-    ∙ are_clean-append (units_of g.N.HeapName.heap.opening.layout) c.deref_mut-named.result.now.part.held.clean
-    c.args.pass.now.ticket.held.clean c.deref_mut-named.result.now.clean
+pub invariant_of-named : goal.invariant_of-named
+invariant_of-named g c = record {
+  of_heap = subst (λ (a : AdvShown). IsAdvancerOf g.N.HeapName.heap a) (sym c.show_advancer.ensures.advancer)
+      (shown_advancer_of g.N.HeapName.heap c.deref_mut-named.result.now.part c.args.pass.now.ticket.held
+      c.deref_mut-named.result.now.of_heap);
+}

@@ -1,0 +1,112 @@
+-- What a sync leaves of a caller, and what its refusals tell.
+use Rattle.std.specs.Prelude.{◌≡◌, ℕ, ◌+◌, ◌<◌, ◌≤◌, ◌⊎◌, Bool, true, false, length, Err, None}
+use Rattle.std.specs.declared.result.Result.{Result}
+use Rattle.core_steps.specs.declared.parts.Mark.{Mark}
+use Rattle.heap_rule.specs.declared.views.CallerHeld.{CallerHeld}
+use Rattle.heap_rule.specs.Plays.{IsDurable}
+use Rattle.heap_rule.specs.Views.{caller_heard, note_of_advancer}
+use Rattle.heap.specs.HeapShown.{HeapShown, AdvShown, CallerShown}
+use Rattle.heap_pass.specs.OfHeap.{IsAdvancerOf}
+use Rattle.advance.specs.declared.refusal.AdvanceRefusal.{AdvanceRefusal}
+use Rattle.advance.specs.declared.refusal.AdvanceRefusal.TheVariants as advances
+use Rattle.advance.specs.Advance.{IsSameSeat, IsUnderWay, HasReason}
+use Rattle.caller.specs.declared.sync_refusal.SyncRefusal.{SyncRefusal}
+use Rattle.caller.specs.declared.sync_refusal.SyncRefusal.TheVariants.{Stuck, Cut, ClockEnd}
+use Rattle.caller.specs.Telling.{has_mark}
+
+-- ---- in every case
+-- The caller is the same one, with the answers that it was given and the entries that it has seen.
+-- It knows no earlier durable clock, and has forgotten no mark.
+pub record KeepsSeen (old new : CallerShown) : Type 0 where
+  pub table : new.table ≡ old.table
+  pub caller : new.held.caller ≡ old.held.caller
+  pub calls : new.held.part.calls ≡ old.held.part.calls
+  pub receipts : new.held.part.receipts ≡ old.held.part.receipts
+  pub fronts : new.held.part.fronts ≡ old.held.part.fronts
+  pub newest : new.held.part.newest ≡ old.held.part.newest
+  pub cuts : new.held.part.cuts ≡ old.held.part.cuts
+  pub entries : new.held.entries ≡ old.held.entries
+  pub durable : old.held.part.durable ≤ new.held.part.durable
+  pub marks : (m : Mark) → has_mark old.held.part.marks m ≡ true
+      → has_mark new.held.part.marks m ≡ true
+
+-- ---- at its end
+-- The clock was loaded in this call, and is two epochs or more past all that the caller has seen.
+-- All of it is known to be durable, and nothing else of the caller changed.
+pub record HasSynced (old new : CallerShown) (clock : ℕ) : Type 0 where
+  pub loads : old.held.steps < new.held.steps
+  pub range : IsDurable old.held.part.durable clock
+  pub past : old.held.part.newest + 2 ≤ clock
+  pub only : new ≡ record {
+    table = old.table;
+    held = record old.held {
+      part = record old.held.part { synced = old.held.part.fronts; durable = clock };
+      steps = new.held.steps;
+      loaded = clock;
+    };
+  }
+
+-- ---- not yet
+-- the durable clock that was loaded last isn't two epochs past the newest that the caller has seen
+pub record IsShort (q : CallerHeld) : Type 0 where
+  pub found : q.loaded ≡ q.part.durable
+  pub below : q.part.durable < q.part.newest + 2
+
+-- Durable clocks were loaded, each of which was short. Nothing else of the caller changed.
+pub record HasWaited (old new : CallerShown) : Type 0 where
+  pub steps : old.held.steps ≤ new.held.steps
+  pub durable : old.held.part.durable ≤ new.held.part.durable
+  pub short : old.held.steps < new.held.steps → IsShort new.held
+  pub only : new ≡ record {
+    table = old.table;
+    held = record old.held {
+      part = record old.held.part { durable = new.held.part.durable };
+      steps = new.held.steps;
+      loaded = new.held.loaded;
+    };
+  }
+
+-- ---- refused by the advancer
+-- for which refusal of an advance a sync gives up
+abbrev pub refusal_of_advance : SyncRefusal → AdvanceRefusal
+refusal_of_advance (Stuck unit epoch) = advances.NotYet unit epoch true
+refusal_of_advance Cut = advances.Cut
+refusal_of_advance ClockEnd = advances.ClockEnd
+
+-- An advance of the heap's advancer was refused, with its reason in what the seat showed before and
+-- behind it, and the caller has then taken a note of the seat.
+pub record HasHeard (heap : HeapShown) (old new : CallerShown) (why : AdvanceRefusal) : Type 0 where
+  pub before : AdvShown
+  pub behind : AdvShown
+  pub of_heap : IsAdvancerOf heap before
+  pub same : IsSameSeat before behind
+  pub under_way : IsUnderWay before.held behind.held
+  pub reason : HasReason why before.held behind.held
+  pub noted : new ≡ record {
+    table = old.table;
+    held = caller_heard old.held
+        (note_of_advancer (length old.held.part.fronts) behind.held);
+  }
+
+-- the durable clock was loaded and was short, and then an advance was refused
+pub record WasHeldUp (heap : HeapShown) (old new : CallerShown) (why : AdvanceRefusal)
+    : Type 0 where
+  pub waiting : CallerShown
+  pub waited : HasWaited old waiting
+  pub loads : old.held.steps < waiting.held.steps
+  pub heard : HasHeard heap waiting new why
+
+-- A caller was cut in the unit, as the caller knows now.
+pub record IsStuck (heap : HeapShown) (old new : CallerShown) (unit epoch : ℕ) : Type 0 where
+  pub held_up : WasHeldUp heap old new (advances.NotYet unit epoch true)
+  pub marked : has_mark new.held.part.marks (record { unit = unit; by = None }) ≡ true
+
+abbrev pub LeavesUnsynced : HeapShown → CallerShown → CallerShown → SyncRefusal → Type 0
+LeavesUnsynced heap old new (Stuck unit epoch) = IsStuck heap old new unit epoch
+LeavesUnsynced heap old new Cut = HasWaited old new ⊎ WasHeldUp heap old new advances.Cut
+LeavesUnsynced heap old new ClockEnd = WasHeldUp heap old new advances.ClockEnd
+
+-- the gate cut
+abbrev pub was_cut : {T : Type 0} → Result T SyncRefusal → Bool
+was_cut (Err Cut) = true
+was_cut _ = false
