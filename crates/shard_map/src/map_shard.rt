@@ -1,6 +1,7 @@
 // A map unit: the region of its slots, and an index from each live key to its slot.
 ghost use Rattle.std.specs.Prelude.{◌≡◌};
 
+use heap_pass::OfHeap;
 use index_kit::Index;
 use slots::Region;
 use std::marker::Model;
@@ -26,6 +27,14 @@ impl<I: Index> Model for MapShard<I> {
     ghost view = { λ m. record { region = m.region; places = I.places m.index } };
 
     ghost invariant = { λ m. IsMapUnit m.region (I.places m.index) };
+}
+
+impl<I: Index> OfHeap for MapShard<I> {
+    ghost use Rattle.structure_call.specs.Standing.{IsStanding, standing_once};
+
+    ghost fits = { λ heap m. IsStanding heap m.region };
+
+    ghost fits_once = { λ heap m. standing_once heap m.region };
 }
 
 impl<I: Index> MapShard<I> {
