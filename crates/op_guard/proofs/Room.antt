@@ -156,4 +156,5 @@ module _ (heap : HeapShown) (old new : RegionShown) (clock : ℕ) (ready : IsRea
         noted = noted;
         front = ap (slice_index r.held.part.fronts) (sym unit) ∙ seen.front;
         entries = ap (slice_get r.held.entries) (sym unit) ∙ seen.entries;
+        sound = sound;
       }

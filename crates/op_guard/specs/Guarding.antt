@@ -13,7 +13,7 @@ use Rattle.heap_rule.specs.Plays.{IsDurable}
 use Rattle.heap_rule.specs.Views.{caller_heard, note_of_unit}
 use Rattle.slots.specs.Books.{RegionShown}
 use Rattle.slots.specs.Putting.{HasPut}
-use Rattle.slots.specs.Reclaiming.{due_at}
+use Rattle.slots.specs.Reclaiming.{IsSound, due_at}
 use Rattle.op_guard.specs.declared.guard.Guard.{Guard}
 use Rattle.op_guard.specs.declared.guard.GuardRefusal.{GuardRefusal}
 use Rattle.op_guard.specs.declared.guard.GuardRefusal.TheVariants.{Full, Cut}
@@ -81,6 +81,7 @@ pub record IsFull
   -- so it has seen all entries of the unit
   pub front : slice_index r.held.part.fronts old.books.unit ≡ length new.seat.held.part.history
   pub entries : slice_get r.held.entries old.books.unit ≡ Some new.seat.held.part.history
+  pub sound : IsSound heap new
 
 abbrev pub LeavesRefused :
     HeapShown → RegionShown → RegionShown → CallerShown → CallerShown → ℕ → GuardRefusal → Type 0

@@ -8,3 +8,4 @@ pub mod WrittenChanges
 pub mod CarriedOut
 pub mod Stands
 pub mod Refusals
+pub mod CarriedRecords
