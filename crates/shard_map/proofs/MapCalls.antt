@@ -4,7 +4,7 @@ use Rattle.std.specs.Prelude.{Option, Some, None, length, is_some, option_to_lis
 use Rattle.std.specs.FinMap as finite
 use Rattle.std.specs.List.{AllZip, list_any}
 use Rattle.std.proofs.Math.Path.{fun_ext}
-use Rattle.std.proofs.lemmas.Option.{same_Some}
+use Rattle.std.proofs.lemmas.Slice.Zip.{AllZip-long}
 use Rattle.mont_base.specs.declared.effect.Effect.{Effect}
 use Rattle.mont_base.specs.declared.effect.Effect.TheVariants.{Inserts, Replaces, Removes}
 use Rattle.mont_base.specs.declared.effect.Thing.TheVariants.{Pair}
@@ -35,6 +35,7 @@ use Rattle.structure_call.specs.Calling.{HasAnsweredCall}
 use Rattle.structure_call.specs.Carrying.{HasCarried, LeavesUncarried, records_by, last_of}
 use Rattle.structure_call.specs.Planning.{IsPlan, Makes}
 use Rattle.structure_call.specs.Standing.{IsStanding}
+use Rattle.structure_call.proofs.CarriedRecords.{carried_effects}
 use Rattle.shard_map.specs.LiveKeys.{HoldsLiveKeys}
 use Rattle.shard_map.specs.MapCall.{places_behind, HasRoomFor, AddsKey}
 use Rattle.shard_map.specs.MapShard.{IsMapUnit}
@@ -48,60 +49,28 @@ no_serial s unit (c ∷ cs) e = rw e (no_serial s unit cs e)
 
 -- ---- the change of a plan
 -- an operation on a map has one effect at most
-one_effect : (m : Pairs) (op : Op) → ((map_step m op).effects ≡ []) ⊎ ((e : Effect) × ((map_step m op).effects ≡ e ∷ []))
-one_effect m (ops.Put key value) = set (finite.contains_key m key)
+few_effects : (m : Pairs) (op : Op) → length (map_step m op).effects ≤ 1
+few_effects m (ops.Put key value) = set (finite.contains_key m key)
   where
-    set : (t : Bool) → (set_effects t (Pair key value) ≡ []) ⊎ ((e : Effect) × (set_effects t (Pair key value) ≡ e ∷ []))
-    set true = inr (Replaces (Pair key value), refl)
-    set false = inr (Inserts (Pair key value), refl)
-one_effect m (ops.Del key) = del (finite.get m key)
+    set : (t : Bool) → length (set_effects t (Pair key value)) ≤ 1
+    set true = omega arith
+    set false = omega arith
+few_effects m (ops.Del key) = del (finite.get m key)
   where
-    del : (o : Option Value) → ((map_del m key o).effects ≡ []) ⊎ ((e : Effect) × ((map_del m key o).effects ≡ e ∷ []))
-    del None = inl refl
-    del (Some value) = inr (Removes (Pair key value), refl)
-one_effect m _ = inl refl
+    del : (o : Option Value) → length (map_del m key o).effects ≤ 1
+    del None = omega arith
+    del (Some value) = omega arith
+few_effects m _ = omega arith
 
--- ---- the record of an operation
-abbrev end_of : List Held → Option Held
-end_of [] = None
-end_of (r ∷ []) = Some r
-end_of (r ∷ q ∷ rs) = end_of (q ∷ rs)
-
-end_push : (rs : List Held) (w : Held) → end_of (rs ++ w ∷ []) ≡ Some w
-end_push [] w = refl
-end_push (r ∷ []) w = refl
-end_push (r ∷ q ∷ rs) w = end_push (q ∷ rs) w
-
--- what was written is in the slot of the last change
-same_slot : (b : BooksShown) (u next epoch : ℕ) (rs kept others ws : List Held) (es : List Effect) (cs : List Change) (slots : List ℕ)
-    → kept ++ ws ≡ others ++ records_by u next others epoch cs slots → (es ≡ []) ⊎ ((e : Effect) × (es ≡ e ∷ []))
-    → AreEffects u kept es ws → AllZip (Makes b rs) es cs → length slots ≡ length cs → last_of slots ≡ slot_of_one ws
-same_slot b u next epoch rs kept others ws es cs slots same few are makes long = by few
-  where
-    none : (ws : List Held) (cs : List Change) (slots : List ℕ) → ws ≡ [] → cs ≡ [] → length slots ≡ length cs → last_of slots ≡ slot_of_one ws
-    none [] [] [] e f l = refl
-    none [] [] (n ∷ slots) e f l = absurd (omega arith)
-    none [] (c ∷ cs) slots e f l = absurd (cc)
-    none (w ∷ ws) cs slots e f l = absurd (cc)
-
-    one : (w : Held) (c : Change) (slots : List ℕ) → kept ++ w ∷ [] ≡ others ++ records_by u next others epoch (c ∷ []) slots
-        → length slots ≡ 1 → last_of slots ≡ Some w.slot
-    one w c [] e l = absurd (omega arith)
-    one w c (n ∷ []) e l =
-        let f : Some w ≡ Some (record_by u next others c epoch n) = sym (end_push kept w) ∙ ap end_of e ∙ end_push others _ in
-        ap (λ (h : Held). Some h.slot) (sym (same_Some w (record_by u next others c epoch n) f))
-    one w c (n ∷ m ∷ slots) e l = absurd (omega arith)
-
-    by : (es ≡ []) ⊎ ((e : Effect) × (es ≡ e ∷ [])) → last_of slots ≡ slot_of_one ws
-    by (inl e) = none ws cs slots
-        (no_zip (IsEffect u kept) ws (subst (λ (fs : List Effect). AreEffects u kept fs ws) e are))
-        (no_zip (Makes b rs) cs (subst (λ (fs : List Effect). AllZip (Makes b rs) fs cs) e makes)) long
-    by (inr e) =
-        let v = one_zip (IsEffect u kept) e.0 ws (subst (λ (fs : List Effect). AreEffects u kept fs ws) e.1 are) in
-        let d = one_zip (Makes b rs) e.0 cs (subst (λ (fs : List Effect). AllZip (Makes b rs) fs cs) e.1 makes) in
-        let f : kept ++ v.0 ∷ [] ≡ others ++ records_by u next others epoch (d.0 ∷ []) slots =
-        ap (λ (zs : List Held). kept ++ zs) (sym v.1) ∙ same ∙ ap (λ (ds : List Change). others ++ records_by u next others epoch ds slots) d.1 in
-        one v.0 d.0 slots f (long ∙ ap (λ (ds : List Change). length ds) d.1) ∙ ap slot_of_one (sym v.1)
+-- so what was written is in the slot of the last change
+slot_of_last : (u next epoch : ℕ) (kept : List Held) (cs : List Change) (slots : List ℕ) → length cs ≤ 1 → length slots ≡ length cs
+    → slot_of_one (records_by u next kept epoch cs slots) ≡ last_of slots
+slot_of_last u next epoch kept [] [] few each = refl
+slot_of_last u next epoch kept [] (n ∷ slots) few each = absurd (omega arith)
+slot_of_last u next epoch kept (c ∷ []) [] few each = absurd (omega arith)
+slot_of_last u next epoch kept (c ∷ []) (n ∷ []) few each = refl
+slot_of_last u next epoch kept (c ∷ []) (n ∷ m ∷ slots) few each = absurd (omega arith)
+slot_of_last u next epoch kept (c ∷ d ∷ cs) slots few each = absurd (omega arith)
 
 -- where an operation sets a key that has no place, its change adds it
 pub room_for : (r : RegionShown) (places : Places) → IsMapUnit r places → r.books.halted ≡ None → (op : Op) (reply : Reply)
@@ -185,41 +154,38 @@ module _ (heap : HeapShown) (old new : RegionShown) (places : Places) (called : 
   -- ---- behind an answer the index has followed
   module _ (q r : CallerShown) (op : Op) (receipt : Receipt) (answered : HasAnsweredCall heap old new q r op receipt) (reply : Reply)
       (changes : List Change) (slot : Option ℕ) (plan : IsPlan old op reply changes) (carried : HasCarried old new changes receipt slot) where
-    judged_map : (m : Pairs) × (answered.judged.state ≡ MapOf m) × HasPairs old.books.layout old.books.unit old.seat.held.part.records m
-    judged_map = map_state old.books.layout old.books.unit old.seat.held.part.records answered.judged.state called.unit.kind
-        (subst (λ (s : Shape). HasStructure s old.books.unit old.seat.held.part.records answered.judged.state) (sym called.of_heap.layout)
-        answered.judged.shown)
-
     planned_map : (m : Pairs) × (plan.state ≡ MapOf m) × HasPairs old.books.layout old.books.unit old.seat.held.part.records m
     planned_map = map_state old.books.layout old.books.unit old.seat.held.part.records plan.state called.unit.kind plan.shown
 
-    effects_are : AreEffects old.books.unit answered.wrote.kept (map_step judged_map.0 op).effects answered.wrote.written
-    effects_are = subst (λ (st : State). AreEffects old.books.unit answered.wrote.kept (step st op).effects answered.wrote.written)
-        judged_map.1 answered.wrote.are_effects
+    abbrev written : List Held
+    written = records_by old.books.unit old.books.identity carried.kept receipt.entry.epoch changes carried.slots
 
-    makes : AllZip (Makes old.books old.seat.held.part.records) (map_step judged_map.0 op).effects changes
-    makes = subst (λ (st : State). AllZip (Makes old.books old.seat.held.part.records) (step st op).effects changes)
-        (planned_map.1 ∙ ap MapOf (pairs_once old.books.layout old.books.unit old.seat.held.part.records planned_map.0 judged_map.0
-        planned_map.2 judged_map.2)) plan.makes
+    effects_are : AreEffects old.books.unit carried.kept (map_step planned_map.0 op).effects written
+    effects_are = subst (λ (st : State). AreEffects old.books.unit carried.kept (step st op).effects written) planned_map.1
+        (carried_effects heap old new q r op reply changes receipt slot called.of_heap.layout plan answered carried)
 
-    slot_is : slot_of_one answered.wrote.written ≡ slot
-    slot_is = sym (carried.last_is ∙ same_slot old.books old.books.unit old.books.identity receipt.entry.epoch old.seat.held.part.records
-        answered.wrote.kept carried.kept answered.wrote.written (map_step judged_map.0 op).effects changes carried.slots
-        (sym answered.wrote.records_are ∙ carried.records_are) (one_effect judged_map.0 op) effects_are makes carried.each)
+    few : length changes ≤ 1
+    few =
+        let made = AllZip-long (Makes old.books old.seat.held.part.records) (step plan.state op).effects changes plan.makes in
+        let effects : length (step plan.state op).effects ≡ length (map_step planned_map.0 op).effects =
+        ap (λ (st : State). length (step st op).effects) planned_map.1 in
+        let most = few_effects planned_map.0 op in
+        omega arith
 
     keys_behind : HoldsLiveKeys old.books.layout old.books.unit new.seat.held.part.records (places_behind places op slot)
     keys_behind =
         subst (λ (rs : List Held). HoldsLiveKeys old.books.layout old.books.unit rs (places_behind places op slot))
-        (sym answered.wrote.records_are)
-        (subst (λ (o : Option ℕ). HoldsLiveKeys old.books.layout old.books.unit (answered.wrote.kept ++ answered.wrote.written)
-        (places_behind places op o)) slot_is
-        (keys_follow old.books.layout old.books.unit answered.wrote.kept places
-        (keys_of_same_live old.books.layout old.books.unit old.seat.held.part.records answered.wrote.kept places answered.wrote.live
+        (sym carried.records_are)
+        (subst (λ (o : Option ℕ). HoldsLiveKeys old.books.layout old.books.unit (carried.kept ++ written) (places_behind places op o))
+        (slot_of_last old.books.unit old.books.identity receipt.entry.epoch carried.kept changes carried.slots few carried.each
+        ∙ sym carried.last_is)
+        (keys_follow old.books.layout old.books.unit carried.kept places
+        (keys_of_same_live old.books.layout old.books.unit old.seat.held.part.records carried.kept places carried.live
         (called.unit.indexed called.running))
-        judged_map.0
-        (pairs_of_same_live old.books.layout old.books.unit old.seat.held.part.records answered.wrote.kept judged_map.0
-        answered.wrote.live judged_map.2)
-        op answered.wrote.written plan.of_unit effects_are))
+        planned_map.0
+        (pairs_of_same_live old.books.layout old.books.unit old.seat.held.part.records carried.kept planned_map.0 carried.live
+        planned_map.2)
+        op written plan.of_unit effects_are))
 
     pub unit_behind : IsMapUnit new (places_behind places op slot)
     unit_behind = record {
