@@ -12,7 +12,7 @@ use Rattle.heap_rule.specs.declared.views.AdvHeld.{AdvHeld}
 use Rattle.heap_rule.specs.Plays.{IsAhead}
 use Rattle.heap_rule.specs.Views.{are_clean, full_rest, advancer_rested}
 use Rattle.heap.specs.HeapShown.{HeapShown, AdvShown}
-use Rattle.heap.specs.OfLayout.{IsOfLayout}
+use Rattle.heap_pass.specs.OfLayout.{IsOfLayout}
 use Rattle.heap_pass.specs.OfHeap.{IsAdvancerOf}
 use Rattle.advance.specs.declared.refusal.AdvanceRefusal.{AdvanceRefusal}
 use Rattle.advance.specs.declared.refusal.AdvanceRefusal.TheVariants.{NotYet, Cut, ClockEnd}

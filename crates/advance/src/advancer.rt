@@ -6,7 +6,7 @@ ghost use Rattle.core_steps.specs.declared.parts.AdvPart.TheVariants.{Rest};
 ghost use Rattle.core_steps.specs.Advancing.{can_check, unit_at_hand, lets_pass, past_unit, is_clocked};
 ghost use Rattle.heap_rule.specs.Views.{are_clean, advancer_shown, caller_heard, note_of_advancer};
 ghost use Rattle.heap.specs.GateAsked.{IsAskedOften};
-ghost use Rattle.heap.specs.OfLayout.{IsOfLayout};
+ghost use Rattle.heap_pass.specs.OfLayout.{IsOfLayout};
 ghost use Rattle.advance.specs.declared.refusal.AdvanceRefusal.TheVariants.{Cut, ClockEnd};
 ghost use Rattle.advance.specs.Stage.{stage_of, IsAtRest, IsWaitingAt, has_passed, IsReady};
 ghost use Rattle.advance.specs.Advance.{IsSameSeat, HasChecked, IsAdvanced, IsUnderWay, HasReason, IsAtEnd, was_cut};

@@ -1,6 +1,5 @@
 pub mod GateAsked
 pub mod HeapShown
-pub mod OfLayout
 pub mod NewsShown
 pub mod SeatFields
 pub mod Receipts

@@ -1,3 +1,4 @@
 pub mod NoHeap
+pub mod OfLayout
 pub mod OfHeap
 pub mod Spare

@@ -5,7 +5,7 @@ use Rattle.atomic_table.specs.Seated.{TableId, table_id_coded}
 use Rattle.mont_base.specs.Layout.{units_of}
 use Rattle.heap_rule.specs.Views.{are_clean}
 use Rattle.heap.specs.HeapShown.{HeapShown, AdvShown}
-use Rattle.heap.specs.OfLayout.{IsOfLayout}
+use Rattle.heap_pass.specs.OfLayout.{IsOfLayout}
 
 -- It is of the heap's table, and its seat knows every unit to be clean.
 pub record IsOfHeap (heap : HeapShown) (table : TableId) (clean : List ℕ) : Type 0 where

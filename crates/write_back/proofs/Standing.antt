@@ -11,7 +11,7 @@ use Rattle.core_steps.specs.Flushing.{can_load_word}
 use Rattle.heap_rule.specs.declared.views.AdvHeld.{AdvHeld}
 use Rattle.heap_rule.specs.Views.{joined, list_at, holding, place_at_hand, slot_at_hand, advancer_loaded, advancer_gave}
 use Rattle.write_back.specs.declared.flush.Flush.{Flush}
-use Rattle.heap.specs.OfLayout.{IsOfLayout}
+use Rattle.heap_pass.specs.OfLayout.{IsOfLayout}
 use Rattle.write_back.specs.Flush.{StandsAt, slots_out, lists_taken, slots_given}
 use Rattle.write_back.proofs.JoinedLists.{joined_at, joined_next}
 

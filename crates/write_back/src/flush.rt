@@ -4,7 +4,7 @@ ghost use Rattle.write_back.specs.Flush.{StandsAt, IsFlushed, flush_start, slots
 ghost use Rattle.mont_base.specs.declared.constants.TheConstants.{FIELDS};
 ghost use Rattle.mont_base.specs.Layout.{IsLayout};
 ghost use Rattle.heap.specs.GateAsked.{IsAskedOften};
-ghost use Rattle.heap.specs.OfLayout.{IsOfLayout};
+ghost use Rattle.heap_pass.specs.OfLayout.{IsOfLayout};
 
 use heap::{AdvSeat, Heap};
 use mont_base::{Cut, FIELDS, Gate, Slot, SlotList, Unit};
