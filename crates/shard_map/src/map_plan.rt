@@ -38,10 +38,10 @@ pub(crate) fn plan<I: Index>(region: &Region, index: &I, op: &Op) -> MapPlan
 {
     match op {
         Op::Put { key, value } => {
-            let found = find(region, index, key);
+            let earlier = find(region, index, key);
             MapPlan {
-                reply: reply_of(&found),
-                change: Some(setting(&found, pair_body(key, value))),
+                reply: reply_of(&earlier),
+                change: Some(setting(&earlier, pair_body(key, value))),
             }
         }
         Op::Get { key } => MapPlan {

@@ -12,7 +12,7 @@ use std::marker::Model;
 /// Contracts see the region and the index's places. The index of a unit in which a caller was cut
 /// is of no use any more.
 #[derive(Drop)]
-pub struct MapShard<I: Index = Box<dyn Index + Send>> {
+pub struct MapShard<I: Index> {
     pub(crate) region: Region,
     pub(crate) index: I,
 }

@@ -5,7 +5,7 @@ use Rattle.shard_map.proofs.map_plan.plan.Goals as goal
 pub returns-in-Put : goal.returns-in-Put
 returns-in-Put g c = rw (c.in-Put.is, c.reply_of.ensures, c.setting.ensures)
     (put_plan c.args.region.now (g.I.Index.places c.args.index.now) c.requires.unit c.requires.running c.in-Put.key c.in-Put.value
-    c.find-found.result c.pair_body.result c.find-found.ensures.value c.find-found.ensures.named c.pair_body.ensures.words
+    c.find-earlier.result c.pair_body.result c.find-earlier.ensures.value c.find-earlier.ensures.named c.pair_body.ensures.words
     (rw c.in-Put.is at c.requires.op))
 
 pub returns-in-Get : goal.returns-in-Get
