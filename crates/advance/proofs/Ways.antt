@@ -4,16 +4,15 @@ use Rattle.std.specs.Prelude.{nat_lt}
 use Rattle.std.proofs.lemmas.Bool.{lt-ltb}
 use Rattle.core_steps.proofs.Decisions.{lt_true}
 use Rattle.advance.specs.Stage.{has_passed}
-use Rattle.mont_base.specs.Layout.{Shape, units_of}
+use Rattle.mont_base.specs.Layout.{Shape}
 use Rattle.core_steps.specs.declared.parts.AdvPart.{AdvPart}
 use Rattle.core_steps.specs.declared.parts.AdvPart.TheVariants as parts
 use Rattle.core_steps.specs.Advancing.{can_check, unit_at_hand, past_unit, is_clocked}
 use Rattle.heap_rule.specs.declared.views.AdvHeld.{AdvHeld}
 use Rattle.heap_rule.specs.Plays.{IsAhead}
-use Rattle.heap_rule.specs.Views.{are_clean, full_rest, advancer_rested}
-use Rattle.heap.specs.HeapShown.{HeapShown, AdvShown}
+use Rattle.heap_rule.specs.Views.{full_rest, advancer_rested}
+use Rattle.heap.specs.HeapShown.{AdvShown}
 use Rattle.heap_pass.specs.OfLayout.{IsOfLayout}
-use Rattle.heap_pass.specs.OfHeap.{IsAdvancerOf}
 use Rattle.advance.specs.declared.refusal.AdvanceRefusal.{AdvanceRefusal}
 use Rattle.advance.specs.declared.refusal.AdvanceRefusal.TheVariants.{NotYet, Cut, ClockEnd}
 use Rattle.advance.specs.Advance.{IsSameSeat, HasChecked, clock_ahead, IsAdvanced, IsUnderWay, HasReason}
@@ -35,15 +34,6 @@ same_layout l x y h o = record {
   units = h.units ∙ o.units;
   room = h.room ∙ o.room;
   lists = h.list_count ∙ (o.lists ∙ sym h.units);
-}
-
-pub same_advancer : (heap : HeapShown) (x y : AdvShown) → IsSameSeat x y → IsAdvancerOf heap x → IsAdvancerOf heap y
-same_advancer heap x y h o = record {
-  of_heap = record {
-    of_table = h.table ∙ o.of_heap.of_table;
-    all_clean = ap (are_clean (units_of heap.opening.layout)) h.clean ∙ o.of_heap.all_clean;
-  };
-  of_layout = same_layout heap.opening.layout x y h o.of_layout;
 }
 
 -- ---- the same advance

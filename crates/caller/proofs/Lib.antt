@@ -1,0 +1,3 @@
+pub mod FreshSeats
+pub mod TakenNotes
+pub mod Waits

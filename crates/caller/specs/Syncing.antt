@@ -75,7 +75,8 @@ refusal_of_advance ClockEnd = advances.ClockEnd
 
 -- An advance of the heap's advancer was refused, with its reason in what the seat showed before and
 -- behind it, and the caller has then taken a note of the seat.
-pub record HasHeard (heap : HeapShown) (old new : CallerShown) (why : AdvanceRefusal) : Type 0 where
+pub record HasHeard (heap : HeapShown) (old new : CallerShown) (why : AdvanceRefusal)
+    : Type 0 where
   pub before : AdvShown
   pub behind : AdvShown
   pub of_heap : IsAdvancerOf heap before
@@ -97,12 +98,12 @@ pub record WasHeldUp (heap : HeapShown) (old new : CallerShown) (why : AdvanceRe
   pub heard : HasHeard heap waiting new why
 
 -- A caller was cut in the unit, as the caller knows now.
-pub record IsStuck (heap : HeapShown) (old new : CallerShown) (unit epoch : ℕ) : Type 0 where
+pub record IsStuckBehind (heap : HeapShown) (old new : CallerShown) (unit epoch : ℕ) : Type 0 where
   pub held_up : WasHeldUp heap old new (advances.NotYet unit epoch true)
   pub marked : has_mark new.held.part.marks (record { unit = unit; by = None }) ≡ true
 
 abbrev pub LeavesUnsynced : HeapShown → CallerShown → CallerShown → SyncRefusal → Type 0
-LeavesUnsynced heap old new (Stuck unit epoch) = IsStuck heap old new unit epoch
+LeavesUnsynced heap old new (Stuck unit epoch) = IsStuckBehind heap old new unit epoch
 LeavesUnsynced heap old new Cut = HasWaited old new ⊎ WasHeldUp heap old new advances.Cut
 LeavesUnsynced heap old new ClockEnd = WasHeldUp heap old new advances.ClockEnd
 

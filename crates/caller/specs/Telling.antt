@@ -12,7 +12,8 @@ has_mark marks m = list_any (same_mark m) marks
 -- Each number is the greater of the caller's own and the news's, and no mark of either is lost.
 pub record TakesGreater (old : CallerPart) (news : Note) (new : CallerPart) : Type 0 where
   pub units : length new.fronts ≡ length old.fronts
-  pub fronts : (u n m : ℕ) → slice_get old.fronts u ≡ Some n → slice_get news.fronts u ≡ Some m
+  pub fronts : (u n m : ℕ)
+      → slice_get old.fronts u ≡ Some n → slice_get news.fronts u ≡ Some m
       → slice_get new.fronts u ≡ Some (max n m)
   pub newest : new.newest ≡ max old.newest news.newest
   pub durable : new.durable ≡ max old.durable news.durable

@@ -5,6 +5,8 @@
 mod sync_refusal;
 mod syncing;
 mod telling;
+#[cfg(test)]
+mod tests;
 
 pub use sync_refusal::SyncRefusal;
 pub use syncing::sync;

@@ -15,7 +15,9 @@ pub fn tell<G: Gate>(alloc: Global, heap: &Heap, pass: &mut Pass<G>) -> Result<N
       table = heap.now.table;
       held = note_of_caller pass.old.ticket.held;
     }) }
-    ensures same { pass.new ≡ pass.old }
+    ensures ticket { pass.new.ticket ≡ pass.old.ticket }
+    ensures gate { pass.new.gate ≡ pass.old.gate }
+    ensures receipts { pass.new.receipts ≡ pass.old.receipts }
 {
     heap.copy_ticket(alloc, &mut pass.ticket)
 }

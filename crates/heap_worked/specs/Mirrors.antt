@@ -8,8 +8,8 @@ use Rattle.heap.specs.HeapShown.{UnitShown, CallerShown}
 use Rattle.heap_worked.specs.declared.bench.Bench.{Bench}
 use Rattle.heap_worked.specs.Advances.{IsAtRest}
 
--- The bench has all seats of its heap, and the unit's list is at home. The other caller has a front of
--- the one unit.
+-- The bench has all seats of its heap, and the unit's list is at home. The other caller has a
+-- front of the one unit.
 pub record AreHome (b : Bench) : Type 0 where
   pub one : units_of b.heap.opening.layout ≡ 1
   pub two : b.heap.opening.callers ≡ 2

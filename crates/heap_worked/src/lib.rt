@@ -6,11 +6,11 @@
 
 #[cfg(test)]
 mod advances;
-#[cfg(test)]
-mod answers;
 mod bench;
 #[cfg(test)]
 mod expected_words;
+#[cfg(test)]
+mod heap_runs;
 #[cfg(test)]
 mod images;
 #[cfg(test)]
@@ -18,12 +18,12 @@ mod openings;
 #[cfg(test)]
 mod run_lines;
 #[cfg(test)]
+mod seat_answers;
+#[cfg(test)]
 mod side_by_side;
 #[cfg(test)]
 mod tests;
 #[cfg(test)]
 mod unit_steps;
-#[cfg(test)]
-mod worked_runs;
 
 pub use bench::Bench;

@@ -4,8 +4,8 @@ ghost use Rattle.std.specs.Prelude.{◌≡◌, true, IfOk};
 ghost use Rattle.heap_worked.specs.Mirrors.{AreHome, Mirrors};
 
 use crate::advances::advance;
-use crate::answers::{freeze, leave, read, see_durable};
 use crate::bench::Bench;
+use crate::seat_answers::{freeze, leave, read, see_durable};
 use crate::unit_steps::{
     close_label, confirm, load_durable, look, persist_close, store, tell, withdraw,
 };

@@ -16,4 +16,3 @@ mod VersionSorts
 mod Findings
 mod Recoverings
 mod Seen
-pub mod FoundImages

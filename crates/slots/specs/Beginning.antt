@@ -1,17 +1,17 @@
 -- With what a region begins.
-use Rattle.std.specs.Prelude.{◌≡◌, ◌≢◌, ◌==◌, ℕ, ◌+◌, ◌<◌, ◌≤◌, Bool, false, ◌||◌, not, List, [], filter, map, replicate, max, All, AllPairs, None, slice_index, IsTrue, if◌then◌else◌}
+use Rattle.std.specs.Prelude.{◌≡◌, ◌≢◌, ◌==◌, ℕ, ◌+◌, ◌≤◌, Bool, false, ◌||◌, not, List, [], filter, map, replicate, max, All, AllPairs, None, slice_index, IsTrue, if◌then◌else◌}
 use Rattle.std.specs.List.{fold, list_any}
 use Rattle.mont_base.specs.declared.constants.TheConstants.{LAST}
 use Rattle.mont_base.specs.declared.record.Held.{Held}
 use Rattle.mont_base.specs.declared.record.Object.{Object}
-use Rattle.mont_base.specs.Image.{slots_of, records_of, IsWellFormed}
-use Rattle.mont_base.specs.Layout.{Shape, units_of, unit_of_slot}
+use Rattle.mont_base.specs.Image.{slots_of}
+use Rattle.mont_base.specs.Layout.{Shape, unit_of_slot}
 use Rattle.mont_base.specs.Versions.{live_objects}
 use Rattle.mont_laws.specs.Records.{AreApart}
 use Rattle.mont_laws.specs.Retiring.{retired_among}
 use Rattle.mont_laws.specs.SlotReadings.{IsRecordOf}
 use Rattle.core_steps.specs.declared.parts.UnitPart.{UnitPart}
-use Rattle.core_steps.specs.Opened.{by_version, slots_beyond}
+use Rattle.core_steps.specs.Opened.{by_version}
 use Rattle.slots.specs.Books.{BooksShown, IsAtRest, rows_of, slots_in}
 use Rattle.slots.specs.Serials.{is_queue}
 
@@ -97,10 +97,3 @@ fresh_books s unit = record {
   sweeping = false;
   halted = None;
 }
-
--- ---- What recovery finds of a unit in an image that it accepts are records and lost slots with
--- which the unit's region can begin.
-abbrev pub ImagesAreFound : Type 0
-ImagesAreFound =
-    (s : Shape) (image : List ℕ) (unit : ℕ) → IsWellFormed s image → unit < units_of s
-    → AreFound s unit (records_of s image unit) (slots_beyond s image unit)

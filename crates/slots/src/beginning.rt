@@ -1,7 +1,7 @@
 // With what a region begins: with nothing, or with what recovery found.
 ghost use Rattle.std.specs.Prelude.{◌≡◌, ◌<◌, [], IfOk};
 ghost use Rattle.mont_base.specs.Layout.{units_of};
-ghost use Rattle.slots.specs.Beginning.{BeginsWith, AreFound, ImagesAreFound, fresh_books, first_books};
+ghost use Rattle.slots.specs.Beginning.{BeginsWith, AreFound, fresh_books, first_books};
 ghost use Rattle.slots.specs.Books.{Agrees};
 
 use crate::books::Books;
@@ -51,8 +51,3 @@ impl Region {
         Ok(Region { seat, books })
     }
 }
-
-/// What recovery finds in an image that it accepts is what regions can begin with.
-pub fn images_are_found()
-    ensures { ImagesAreFound }
-{}

@@ -13,6 +13,5 @@ mod reclaiming;
 mod region;
 mod sweeping;
 
-pub use beginning::images_are_found;
 pub use books::Written;
 pub use region::Region;

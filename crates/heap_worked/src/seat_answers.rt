@@ -1,11 +1,14 @@
 // The steps of the unit with its caller, and the caller's own. Each tells whether its gate let it
 // be made.
-ghost use Rattle.std.specs.Prelude.{◌≡◌, ◌+◌, ◌≤◌, true, [], ◌∷◌, ◌++◌, length, map, IfOk, IsTrue};
+ghost use Rattle.std.specs.Prelude.{◌≡◌, ◌+◌, ◌≤◌, true, false, [], ◌∷◌, ◌++◌, length, map, IfOk, OnErr, IsTrue};
 ghost use Rattle.mont_base.specs.declared.record.Held as held;
 ghost use Rattle.core_steps.specs.declared.parts.UnitPart.{UnitPart};
-ghost use Rattle.core_steps.specs.Stages.{is_within};
+ghost use Rattle.core_steps.specs.Answering.{CanLeave};
+ghost use Rattle.core_steps.specs.Stages.{is_within, epoch_of};
 ghost use Rattle.heap.specs.HeapShown.{UnitShown};
-ghost use Rattle.heap_rule.specs.Views.{home_turn, slots_written};
+ghost use Rattle.heap.specs.Receipts.{receipt_of};
+ghost use Rattle.heap_rule.specs.Plays.{answer_of};
+ghost use Rattle.heap_rule.specs.Views.{home_turn, slots_written, unit_left, caller_answered};
 ghost use Rattle.heap_worked.specs.Mirrors.{AreHome, Mirrors, IsListed};
 
 use crate::bench::Bench;
@@ -13,8 +16,8 @@ use crate::openings::{agree, permit};
 use core_answer::core_words::{clock, durable_clock};
 use core_run::step;
 use core_steps::{Core, Event, Part};
-use heap::{Heap, UnitSeat};
-use mont_base::{Held, Op, Reply, SlotList};
+use heap::{Heap, Ticket, UnitSeat};
+use mont_base::{Cut, Fuel, Held, Op, Receipt, Reply, SlotList};
 use std::alloc::Global;
 use std::test::Fail;
 
@@ -32,7 +35,8 @@ pub(crate) fn leave(alloc: Global, bench: &mut Bench, op: &Op, reply: &Reply) ->
     };
     permit(alloc, &bench.core, &event)?;
     list_written(&bench.heap, &mut bench.unit, &bench.core);
-    let left = bench.heap.leave(
+    let left = left_by(
+        &bench.heap,
         &mut bench.unit,
         &mut bench.caller,
         op,
@@ -44,6 +48,34 @@ pub(crate) fn leave(alloc: Global, bench: &mut Bench, op: &Op, reply: &Reply) ->
     }
     step(alloc, &mut bench.core, &event)?;
     Ok(true)
+}
+
+// The heap's own call. Of what it tells, a run needs what becomes of the two seats.
+fn left_by(
+    heap: &Heap,
+    seat: &mut UnitSeat,
+    ticket: &mut Ticket,
+    op: &Op,
+    reply: &Reply,
+    gate: &mut Fuel,
+) -> Result<Receipt, Cut>
+    requires heap { seat.old.table ≡ heap.now.table }
+    requires ticket { ticket.old.table ≡ heap.now.table }
+    requires may { CanLeave heap.now.opening.layout seat.old.held.unit seat.old.held.part
+        ticket.old.held.part op.now reply.now (epoch_of seat.old.held.part.stage) }
+    requires home { seat.old.held.turn.out ≡ false }
+    requires given { seat.old.held.turn.pushed ≡ slots_written seat.old.held.part }
+    ensures unit { IfOk result (λ r. seat.new
+        ≡ record { table = seat.old.table; held = unit_left seat.old.held r.entry }) }
+    ensures caller { IfOk result (λ r. ticket.new ≡ record {
+      table = ticket.old.table;
+      held = caller_answered ticket.old.held seat.old.held r.entry;
+    }) }
+    ensures receipt { IfOk result (λ r. r ≡ receipt_of seat.old.held
+        (answer_of ticket.old.held op.now reply.now (epoch_of seat.old.held.part.stage))) }
+    ensures cut { OnErr result ((seat.new ≡ seat.old) × (ticket.new ≡ ticket.old)) }
+{
+    heap.leave(seat, ticket, op, reply, gate)
 }
 
 // Takes the unit's list, pushes what was written, and gives it back.

@@ -1,7 +1,7 @@
 use Rattle.std.proofs.Common.{◌≡◌, ◌++◌, take}
 use Rattle.std.specs.Prelude.{map}
 use Rattle.mont_base.specs.declared.record.Held.{Held}
-use Rattle.heap_worked.proofs.answers.push_all.Given as goal
+use Rattle.heap_worked.proofs.seat_answers.push_all.Given as goal
 
 abbrev pub invariant-loop-held : goal.invariant-loop-held
 invariant-loop-held l = l.list ≡ record {

@@ -3,13 +3,14 @@ use Rattle.std.proofs.Common.{◌≡◌, ℕ, ◌*◌, ◌<◌, ◌≤◌, List,
 use Rattle.std.specs.Prelude.{◌≢◌, ◌&&◌, IsTrue, All, AllPairs, nat_le, nat_lt, Option, Some, None, slice_index, if◌then◌else◌}
 use Rattle.std.specs.FinMap as finite
 use Rattle.std.specs.List.{Contains}
+use Rattle.std.proofs.lemmas.Option.{same_Some}
 use Rattle.std.proofs.lemmas.Bool.Decides.{nat_tests}
 use Rattle.std.proofs.lemmas.List.Elements.{All-cons, All-nil}
 use Rattle.std.proofs.lemmas.List.Kept.{AllPairs-filter}
 use Rattle.mont_base.specs.declared.constants.TheConstants.{LAST}
 use Rattle.mont_base.specs.declared.kinds.UnitKind.TheVariants as unit_kinds
 use Rattle.mont_base.specs.declared.record.Held.{Held}
-use Rattle.mont_base.specs.Bodies.{item_in}
+use Rattle.mont_base.specs.Bodies.{item_in, is_clean}
 use Rattle.mont_base.specs.Image.{slots_of, records_of, record_at, record_read, words_at, cut_of, epoch_at, IsWellFormed}
 use Rattle.mont_base.specs.Layout.{Shape, units_of, total_of, unit_of_slot, is_of_kind}
 use Rattle.mont_base.specs.Record.{reading}
@@ -30,9 +31,21 @@ use Rattle.mont_laws.proofs.UnitRecords.{read_of_listed}
 use Rattle.mont_laws.proofs.UnitSlots.{unit_of_member, slots_have_units}
 use Rattle.core_steps.specs.Opened.{slots_beyond}
 use Rattle.core_steps.proofs.UnitCuts.{listed_apart}
-use Rattle.slots.specs.Beginning.{AreFound, serial_of, live_serials, ImagesAreFound}
+use Rattle.slots.specs.Beginning.{AreFound, serial_of, live_serials}
 use Rattle.slots.specs.Serials.{is_queue}
-use Rattle.slots.proofs.NextSerials.{first_word}
+use Rattle.region_laws.specs.FoundImages.{ImagesAreFound}
+
+-- the serial of a body is its first word
+first_word : (body : List ℕ) (serial item : ℕ) → item_in body ≡ Some (serial, item) → slice_index body 0 ≡ serial
+first_word body serial item e = by (is_clean 2 body) e
+  where
+    by : (b : Bool) → (let e : ℕ × ℕ = (slice_index body 0, slice_index body 1) in (if b then Some e else None) ≡ Some (serial, item))
+        → slice_index body 0 ≡ serial
+    by true f =
+        let e : ℕ × ℕ = (slice_index body 0, slice_index body 1) in
+        let d : ℕ × ℕ = (serial, item) in
+        ap (λ (x : ℕ × ℕ). x.0) (same_Some e d f)
+    by false f = absurd (cc)
 
 -- a slot whose record is read is within the cut
 read_within : (s : Shape) (image : List ℕ) (slot : ℕ) (r : Held) → record_at s image slot ≡ Some r → epoch_at image slot ≤ cut_of image

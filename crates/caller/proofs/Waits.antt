@@ -1,0 +1,123 @@
+-- How a caller is while it waits, and what stays.
+use Rattle.std.proofs.Common.{◌≡◌, ℕ, ◌+◌, ◌-◌, ◌<◌, Bool, true, List, length, cond, max, refl, sym, ap, ◌∙◌, subst, inr, arith}
+use Rattle.std.specs.Prelude.{None}
+use Rattle.std.proofs.lemmas.Bool.{lt-leb}
+use Rattle.core_steps.specs.declared.parts.Mark.{Mark}
+use Rattle.heap_rule.specs.Plays.{IsDurable}
+use Rattle.heap_rule.specs.Views.{caller_saw}
+use Rattle.heap.specs.HeapShown.{HeapShown, CallerShown}
+use Rattle.advance.specs.declared.refusal.AdvanceRefusal.{AdvanceRefusal}
+use Rattle.advance.specs.declared.refusal.AdvanceRefusal.TheVariants as advances
+use Rattle.caller.specs.declared.sync_refusal.SyncRefusal.{SyncRefusal}
+use Rattle.caller.specs.declared.sync_refusal.SyncRefusal.TheVariants.{Stuck, Cut, ClockEnd}
+use Rattle.caller.specs.Telling.{has_mark}
+use Rattle.caller.specs.Syncing.{KeepsSeen, HasWaited, HasHeard, LeavesUnsynced, refusal_of_advance}
+use Rattle.caller.proofs.TakenNotes.{or_left, or_right, joined_has, odd_has, greater_none, longer_none}
+
+-- ---- waiting
+-- the caller behind a load of the durable clock, with these synced fronts
+abbrev loaded_by : CallerShown → ℕ → ℕ → List ℕ → CallerShown
+loaded_by q steps clock synced = record {
+  table = q.table;
+  held = record q.held { part = record q.held.part { durable = clock; synced = synced }; steps = steps; loaded = clock };
+}
+
+abbrev saw : CallerShown → ℕ → CallerShown
+saw q clock = record { table = q.table; held = caller_saw q.held clock }
+
+-- one load more that was short
+waits_more : (x y z : CallerShown) (clock : ℕ) → HasWaited x y → z ≡ saw y clock → IsDurable y.held.part.durable clock
+    → clock < y.held.part.newest + 2 → HasWaited x z
+waits_more x y z clock w made d short =
+    let steps = w.steps in
+    let durable = w.durable in
+    let behind = d.not_behind in
+    subst (λ (v : CallerShown). HasWaited x v) (sym made) (record {
+      steps = omega arith;
+      durable = omega arith;
+      short = λ more. record { found = refl; below = short };
+      only =
+          ap (λ (b : Bool). loaded_by y (y.held.steps + 1) clock (cond b y.held.part.fronts y.held.part.synced))
+          (lt-leb (y.held.part.newest + 2) clock short)
+          ∙ ap (λ (v : CallerShown). loaded_by v (y.held.steps + 1) clock v.held.part.synced) w.only;
+    })
+
+-- one by which the newest epoch is seen to be too new, and it was made
+pub waits_on : (x y z : CallerShown) (clock newest : ℕ) → HasWaited x y → z ≡ saw y clock → IsDurable y.held.part.durable clock
+    → newest ≡ z.held.part.newest → clock - 2 < newest → HasWaited x z × (x.held.steps < z.held.steps)
+waits_on x y z clock newest w made d is new =
+    let low = d.low in
+    let before = w.steps in
+    let same = ap (λ (v : CallerShown). v.held.part.newest) {x = z} {y = saw y clock} made in
+    let steps = ap (λ (v : CallerShown). v.held.steps) {x = z} {y = saw y clock} made in
+    (waits_more x y z clock w made d (omega arith), omega arith)
+
+-- ---- what stays
+pub keeps_waited : (x y : CallerShown) → HasWaited x y → KeepsSeen x y
+keeps_waited x y w = record {
+  table = ap (λ (v : CallerShown). v.table) w.only;
+  caller = ap (λ (v : CallerShown). v.held.caller) w.only;
+  calls = ap (λ (v : CallerShown). v.held.part.calls) w.only;
+  receipts = ap (λ (v : CallerShown). v.held.part.receipts) w.only;
+  fronts = ap (λ (v : CallerShown). v.held.part.fronts) w.only;
+  newest = ap (λ (v : CallerShown). v.held.part.newest) w.only;
+  cuts = ap (λ (v : CallerShown). v.held.part.cuts) w.only;
+  entries = ap (λ (v : CallerShown). v.held.entries) w.only;
+  durable = w.durable;
+  marks = λ m has. ap (λ (v : CallerShown). has_mark v.held.part.marks m) w.only ∙ has;
+}
+
+-- ---- a note of the advancer
+same_newest : (n : ℕ) → max n 0 ≡ n
+same_newest n = omega arith
+
+module _ (heap : HeapShown) (x y : CallerShown) (why : AdvanceRefusal) (h : HasHeard heap x y why) where
+  pub keeps_heard : KeepsSeen x y
+  keeps_heard =
+      let durable = ap (λ (v : CallerShown). v.held.part.durable) h.noted in record {
+        table = ap (λ (v : CallerShown). v.table) h.noted;
+        caller = ap (λ (v : CallerShown). v.held.caller) h.noted;
+        calls = ap (λ (v : CallerShown). v.held.part.calls) h.noted;
+        receipts = ap (λ (v : CallerShown). v.held.part.receipts) h.noted;
+        fronts = ap (λ (v : CallerShown). v.held.part.fronts) h.noted ∙ greater_none x.held.part.fronts;
+        newest = ap (λ (v : CallerShown). v.held.part.newest) h.noted ∙ same_newest x.held.part.newest;
+        cuts = ap (λ (v : CallerShown). v.held.part.cuts) h.noted;
+        entries = ap (λ (v : CallerShown). v.held.entries) h.noted ∙ longer_none x.held.entries (length x.held.part.fronts);
+        durable = omega arith;
+        marks = λ m has. ap (λ (v : CallerShown). has_mark v.held.part.marks m) h.noted
+            ∙ joined_has x.held.part.marks _ m (or_left (has_mark x.held.part.marks m) _ has);
+      }
+
+pub marked_heard : (heap : HeapShown) (x y : CallerShown) (unit epoch : ℕ) → HasHeard heap x y (advances.NotYet unit epoch true)
+    → has_mark y.held.part.marks (record { unit = unit; by = None }) ≡ true
+marked_heard heap x y unit epoch h =
+    let m : Mark = record { unit = unit; by = None } in
+    ap (λ (v : CallerShown). has_mark v.held.part.marks m) h.noted
+    ∙ joined_has x.held.part.marks _ m
+    (or_right (has_mark x.held.part.marks m) _ (odd_has h.behind.held.odd unit (h.reason.marked refl)))
+
+pub keeps_more : (x y z : CallerShown) → KeepsSeen x y → KeepsSeen y z → KeepsSeen x z
+keeps_more x y z h j =
+    let first = h.durable in
+    let then = j.durable in record {
+      table = j.table ∙ h.table;
+      caller = j.caller ∙ h.caller;
+      calls = j.calls ∙ h.calls;
+      receipts = j.receipts ∙ h.receipts;
+      fronts = j.fronts ∙ h.fronts;
+      newest = j.newest ∙ h.newest;
+      cuts = j.cuts ∙ h.cuts;
+      entries = j.entries ∙ h.entries;
+      durable = omega arith;
+      marks = λ m has. j.marks m (h.marks m has);
+    }
+
+-- ---- refusals
+pub leaves_held_up : (heap : HeapShown) (x y z : CallerShown) (why : SyncRefusal) → HasWaited x y → x.held.steps < y.held.steps
+    → HasHeard heap y z (refusal_of_advance why) → LeavesUnsynced heap x z why
+leaves_held_up heap x y z (Stuck unit epoch) w more h = record {
+  held_up = record { waiting = y; waited = w; loads = more; heard = h };
+  marked = marked_heard heap y z unit epoch h;
+}
+leaves_held_up heap x y z Cut w more h = inr (record { waiting = y; waited = w; loads = more; heard = h })
+leaves_held_up heap x y z ClockEnd w more h = record { waiting = y; waited = w; loads = more; heard = h }

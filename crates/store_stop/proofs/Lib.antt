@@ -1,0 +1,6 @@
+pub mod Items
+pub mod Placing
+pub mod CutStates
+pub mod StoppedStores
+pub mod Outliving
+pub mod ReadStores

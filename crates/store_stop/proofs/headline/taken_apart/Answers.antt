@@ -1,0 +1,28 @@
+use Rattle.std.proofs.Common.{◌≡◌, List, map, ◌∷◌, [], ◌++◌, ap, sym, ◌∙◌}
+use Rattle.std.proofs.lemmas.List.{map-append}
+use Rattle.mont_base.specs.declared.operation.Receipt.{Receipt}
+use Rattle.core_steps.specs.CallerClauses.{receipts_of}
+use Rattle.heap.specs.HeapShown.{CallerShown}
+use Rattle.store_stop.specs.Headline.{parts_shown}
+use Rattle.store_stop.proofs.headline.taken_apart.Goals as goal
+
+-- one ticket more, and its receipts
+one_more : (tickets more : List CallerShown) (t : CallerShown) (rows all : List (List Receipt)) (rs : List Receipt)
+    → more ≡ tickets ++ t ∷ [] → all ≡ rows ++ rs ∷ [] → rs ≡ t.held.part.receipts → rows ≡ map receipts_of (parts_shown tickets)
+    → all ≡ map receipts_of (parts_shown more)
+one_more tickets more t rows all rs is add kept so_far =
+    let parts : parts_shown more ≡ parts_shown tickets ++ t.held.part ∷ [] =
+    ap parts_shown is ∙ map-append (λ (s : CallerShown). s.held.part) tickets (t ∷ []) in
+    add ∙ ((λ i. so_far i ++ kept i ∷ [])
+    ∙ sym (ap (map receipts_of) parts ∙ map-append receipts_of (parts_shown tickets) (t.held.part ∷ [])))
+
+pub loop-pass-preserved : goal.loop-pass-preserved
+loop-pass-preserved g c =
+    let pass = c.in-Some.pass in
+    let tickets : c.push.new.self.items ≡ c.loop-pass.tickets.items ++ pass.ticket ∷ [] = c.in_ok-push.ensures.items in (
+      tickets ∙ (ap (λ (ts : List CallerShown). ts ++ pass.ticket ∷ []) c.loop-pass.invariant.0
+          ∙ sym (map-append (λ p. p.ticket) c.loop-pass.yielded (pass ∷ []))),
+      one_more c.loop-pass.tickets.items c.push.new.self.items pass.ticket c.loop-pass.receipts.items
+          c.push-in-loop-pass.new.self.items c.from_vec.result tickets c.in_ok-push-2.ensures.items
+          (c.from_vec.ensures ∙ pass.kept) c.loop-pass.invariant.1,
+    )
