@@ -1,6 +1,7 @@
 //! Indexes of map units: finite maps from texts to places, as a boxed trait, and two kinds of them.
 #![tactic(auto)]
 
+mod boxed_index;
 mod cells;
 mod home;
 mod index;

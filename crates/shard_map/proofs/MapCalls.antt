@@ -1,0 +1,195 @@
+-- What a map unit is behind each answer of a call.
+use Rattle.std.proofs.Common.{◌≡◌, ℕ, ◌≤◌, List, [], ◌∷◌, ◌++◌, sym, refl, ap, ◌∙◌, subst, arith, Bool, true, false, inl, inr, ◌⊎◌}
+use Rattle.std.specs.Prelude.{Option, Some, None, length, is_some, option_to_list, MatchOption}
+use Rattle.std.specs.FinMap as finite
+use Rattle.std.specs.List.{AllZip, list_any}
+use Rattle.std.proofs.Math.Path.{fun_ext}
+use Rattle.std.proofs.lemmas.Slice.Zip.{AllZip-long}
+use Rattle.mont_base.specs.declared.effect.Effect.{Effect}
+use Rattle.mont_base.specs.declared.effect.Effect.TheVariants.{Inserts, Replaces, Removes}
+use Rattle.mont_base.specs.declared.effect.Thing.TheVariants.{Pair}
+use Rattle.mont_base.specs.declared.kinds.UnitKind.{UnitKind}
+use Rattle.mont_base.specs.declared.kinds.UnitKind.TheVariants as unit_kinds
+use Rattle.mont_base.specs.declared.operation.Op.{Op}
+use Rattle.mont_base.specs.declared.operation.Op.TheVariants as ops
+use Rattle.mont_base.specs.declared.operation.Receipt.{Receipt}
+use Rattle.mont_base.specs.declared.operation.Reply.{Reply}
+use Rattle.mont_base.specs.declared.record.Change.{Change}
+use Rattle.mont_base.specs.declared.record.Change.TheVariants.{Insert, Replace, Remove}
+use Rattle.mont_base.specs.declared.record.Held.{Held}
+use Rattle.mont_base.specs.declared.refusal.CallRefusal.{CallRefusal}
+use Rattle.mont_base.specs.declared.refusal.CallRefusal.TheVariants.{Full, Cut}
+use Rattle.mont_base.specs.Layout.{Shape, kind_of}
+use Rattle.mont_base.specs.State.{State, MapOf, Key, Value, Pairs, set_effects, map_step, map_del, step}
+use Rattle.mont_laws.specs.Effects.{IsEffect, AreEffects, IsOpOf}
+use Rattle.mont_laws.specs.Records.{live_of}
+use Rattle.mont_laws.specs.Shows.{held_in, Shows}
+use Rattle.mont_laws.specs.Structures.{pair_for, HasPairs, HasStructure}
+use Rattle.mont_laws.proofs.Edits.{no_zip, one_zip}
+use Rattle.mont_laws.proofs.Maps.{pairs_once}
+use Rattle.heap.specs.HeapShown.{HeapShown, CallerShown}
+use Rattle.index_kit.specs.Index.{Places}
+use Rattle.slots.specs.Books.{BooksShown, RegionShown, IsRegionOf}
+use Rattle.slots.specs.Changes.{has_serial, record_by}
+use Rattle.structure_call.specs.Calling.{HasAnsweredCall}
+use Rattle.structure_call.specs.Carrying.{HasCarried, LeavesUncarried, records_by, last_of}
+use Rattle.structure_call.specs.Planning.{IsPlan, Makes}
+use Rattle.structure_call.specs.Standing.{IsStanding}
+use Rattle.structure_call.proofs.CarriedRecords.{carried_effects}
+use Rattle.shard_map.specs.LiveKeys.{HoldsLiveKeys}
+use Rattle.shard_map.specs.MapCall.{places_behind, HasRoomFor, AddsKey}
+use Rattle.shard_map.specs.MapShard.{IsMapUnit}
+use Rattle.shard_map.proofs.KeyFacts.{map_state, no_value}
+use Rattle.shard_map.proofs.KeyEdits.{keys_of_same_live, slot_of_one, keys_follow}
+
+-- a map has no serials
+pub no_serial : (s : Shape) (unit : ℕ) (cs : List Change) → kind_of s unit ≡ Some unit_kinds.Map → list_any (has_serial s unit) cs ≡ false
+no_serial s unit [] e = refl
+no_serial s unit (c ∷ cs) e = rw e (no_serial s unit cs e)
+
+-- ---- the change of a plan
+-- an operation on a map has one effect at most
+few_effects : (m : Pairs) (op : Op) → length (map_step m op).effects ≤ 1
+few_effects m (ops.Put key value) = set (finite.contains_key m key)
+  where
+    set : (t : Bool) → length (set_effects t (Pair key value)) ≤ 1
+    set true = omega arith
+    set false = omega arith
+few_effects m (ops.Del key) = del (finite.get m key)
+  where
+    del : (o : Option Value) → length (map_del m key o).effects ≤ 1
+    del None = omega arith
+    del (Some value) = omega arith
+few_effects m _ = omega arith
+
+-- so what was written is in the slot of the last change
+slot_of_last : (u next epoch : ℕ) (kept : List Held) (cs : List Change) (slots : List ℕ) → length cs ≤ 1 → length slots ≡ length cs
+    → slot_of_one (records_by u next kept epoch cs slots) ≡ last_of slots
+slot_of_last u next epoch kept [] [] few each = refl
+slot_of_last u next epoch kept [] (n ∷ slots) few each = absurd (omega arith)
+slot_of_last u next epoch kept (c ∷ []) [] few each = absurd (omega arith)
+slot_of_last u next epoch kept (c ∷ []) (n ∷ []) few each = refl
+slot_of_last u next epoch kept (c ∷ []) (n ∷ m ∷ slots) few each = absurd (omega arith)
+slot_of_last u next epoch kept (c ∷ d ∷ cs) slots few each = absurd (omega arith)
+
+-- where an operation sets a key that has no place, its change adds it
+pub room_for : (r : RegionShown) (places : Places) → IsMapUnit r places → r.books.halted ≡ None → (op : Op) (reply : Reply)
+    (change : Option Change) (spare : ℕ) → IsPlan r op reply (option_to_list change) → (AddsKey change → 1 ≤ spare)
+    → HasRoomFor places spare op
+room_for r places unit running (ops.Put key value) reply change spare plan room = λ none.
+    room (inserts change (subst (λ (t : Bool). AllZip (Makes r.books r.seat.held.part.records) (set_effects t (Pair key value)) (option_to_list change))
+    (ap is_some (absent none)) (subst (λ (st : State). AllZip (Makes r.books r.seat.held.part.records) (step st (ops.Put key value)).effects
+    (option_to_list change)) b.1 plan.makes)))
+  where
+    b : (m : Pairs) × (plan.state ≡ MapOf m) × HasPairs r.books.layout r.books.unit r.seat.held.part.records m
+    b = map_state r.books.layout r.books.unit r.seat.held.part.records plan.state unit.kind plan.shown
+
+    absent : finite.get places key ≡ None → finite.get b.0 key ≡ None
+    absent none = no_value r.books.layout r.books.unit r.seat.held.part.records places (unit.indexed running) b.0 b.2 key none
+
+    inserts : (c : Option Change) → AllZip (Makes r.books r.seat.held.part.records) (Inserts (Pair key value) ∷ []) (option_to_list c) → AddsKey c
+    inserts None z = absurd z
+    inserts (Some (Insert body)) z = tt
+    inserts (Some (Replace at identity body)) z = absurd z.0
+    inserts (Some (Remove at identity)) z = absurd z.0
+room_for r places unit running _ reply change spare plan room = tt
+
+-- pairs that records show, shown by others of which the same are live
+pairs_of_same_live : (s : Shape) (u : ℕ) (rs qs : List Held) (m : Pairs) → ((i : ℕ) → live_of i qs ≡ live_of i rs)
+    → HasPairs s u rs m → HasPairs s u qs m
+pairs_of_same_live s u rs qs m same h =
+    subst (λ (l : ℕ → Option (Option (Key × Value))). Shows l (finite.get m)) (fun_ext (λ i. ap (held_in (pair_for s u)) (sym (same i)))) h
+
+-- ---- a map unit whose operation is to be carried out
+pub record IsCalled (heap : HeapShown) (r : RegionShown) (places : Places) : Type 0 where
+  pub unit : IsMapUnit r places
+  pub running : r.books.halted ≡ None
+  pub of_heap : IsRegionOf heap r
+
+-- the checks before leave the region as it was, and room that is made leaves the places
+pub is_called : (heap : HeapShown) (shown began ran checked : RegionShown) (places after : Places) → IsStanding heap shown
+    → began ≡ shown → IsMapUnit began places → began.books.halted ≡ None → ran ≡ began → checked ≡ ran → after ≡ places
+    → IsCalled heap checked after
+is_called heap shown began ran checked places after stands is unit running same again room = record {
+  unit = subst (λ (r : RegionShown). IsMapUnit r after) (sym (again ∙ same)) (subst (IsMapUnit began) (sym room) unit);
+  running = ap (λ (r : RegionShown). r.books.halted) (again ∙ same) ∙ running;
+  of_heap = subst (IsRegionOf heap) (sym (again ∙ same ∙ is)) stands.of_heap;
+}
+
+-- the changes of a plan, as a list
+pub as_changes : (o : Option Change) (cs : List Change) → MatchOption o (cs ≡ []) (λ c. cs ≡ c ∷ []) → cs ≡ option_to_list o
+as_changes None cs h = h
+as_changes (Some c) cs h = h
+
+module _ (heap : HeapShown) (old new : RegionShown) (places : Places) (called : IsCalled heap old places) where
+  -- it is a map unit still
+  kind_stays : IsRegionOf heap new → new.books.unit ≡ old.books.unit → kind_of new.books.layout new.books.unit ≡ Some unit_kinds.Map
+  kind_stays of_heap unit = subst (λ (s : Shape). kind_of s new.books.unit ≡ Some unit_kinds.Map)
+      (called.of_heap.layout ∙ sym of_heap.layout)
+      (subst (λ (u : ℕ). kind_of old.books.layout u ≡ Some unit_kinds.Map) (sym unit) called.unit.kind)
+
+  keys_stay : (after : Places) → IsRegionOf heap new → new.books.unit ≡ old.books.unit
+      → HoldsLiveKeys old.books.layout old.books.unit new.seat.held.part.records after
+      → HoldsLiveKeys new.books.layout new.books.unit new.seat.held.part.records after
+  keys_stay after of_heap unit holds =
+      subst (λ (s : Shape). HoldsLiveKeys s new.books.unit new.seat.held.part.records after) (called.of_heap.layout ∙ sym of_heap.layout)
+      (subst (λ (u : ℕ). HoldsLiveKeys old.books.layout u new.seat.held.part.records after) (sym unit) holds)
+
+  -- ---- behind a refusal nothing else is live, or it is halted
+  pub unit_uncarried : (q r : CallerShown) (many : ℕ) (why : CallRefusal) → LeavesUncarried heap old new q r many why → IsMapUnit new places
+  unit_uncarried q r many (Full need free clock) h = record {
+    agrees = h.1.ready.runs.agrees;
+    kind = kind_stays h.1.ready.runs.of_heap h.1.keeps.of_unit;
+    indexed = λ _. keys_stay places h.1.ready.runs.of_heap h.1.keeps.of_unit
+        (keys_of_same_live old.books.layout old.books.unit old.seat.held.part.records new.seat.held.part.records places h.1.keeps.live
+        (called.unit.indexed called.running));
+  }
+  unit_uncarried q r many (Cut unit) h = record {
+    agrees = h.1.agrees;
+    kind = kind_stays h.1.of_heap h.1.of_unit;
+    indexed = λ e. let f = h.1.by in absurd (cc);
+  }
+  unit_uncarried q r many _ h = absurd h
+
+  -- ---- behind an answer the index has followed
+  module _ (q r : CallerShown) (op : Op) (receipt : Receipt) (answered : HasAnsweredCall heap old new q r op receipt) (reply : Reply)
+      (changes : List Change) (slot : Option ℕ) (plan : IsPlan old op reply changes) (carried : HasCarried old new changes receipt slot) where
+    planned_map : (m : Pairs) × (plan.state ≡ MapOf m) × HasPairs old.books.layout old.books.unit old.seat.held.part.records m
+    planned_map = map_state old.books.layout old.books.unit old.seat.held.part.records plan.state called.unit.kind plan.shown
+
+    abbrev written : List Held
+    written = records_by old.books.unit old.books.identity carried.kept receipt.entry.epoch changes carried.slots
+
+    effects_are : AreEffects old.books.unit carried.kept (map_step planned_map.0 op).effects written
+    effects_are = subst (λ (st : State). AreEffects old.books.unit carried.kept (step st op).effects written) planned_map.1
+        (carried_effects heap old new q r op reply changes receipt slot called.of_heap.layout plan answered carried)
+
+    few : length changes ≤ 1
+    few =
+        let made = AllZip-long (Makes old.books old.seat.held.part.records) (step plan.state op).effects changes plan.makes in
+        let effects : length (step plan.state op).effects ≡ length (map_step planned_map.0 op).effects =
+        ap (λ (st : State). length (step st op).effects) planned_map.1 in
+        let most = few_effects planned_map.0 op in
+        omega arith
+
+    keys_behind : HoldsLiveKeys old.books.layout old.books.unit new.seat.held.part.records (places_behind places op slot)
+    keys_behind =
+        subst (λ (rs : List Held). HoldsLiveKeys old.books.layout old.books.unit rs (places_behind places op slot))
+        (sym carried.records_are)
+        (subst (λ (o : Option ℕ). HoldsLiveKeys old.books.layout old.books.unit (carried.kept ++ written) (places_behind places op o))
+        (slot_of_last old.books.unit old.books.identity receipt.entry.epoch carried.kept changes carried.slots few carried.each
+        ∙ sym carried.last_is)
+        (keys_follow old.books.layout old.books.unit carried.kept places
+        (keys_of_same_live old.books.layout old.books.unit old.seat.held.part.records carried.kept places carried.live
+        (called.unit.indexed called.running))
+        planned_map.0
+        (pairs_of_same_live old.books.layout old.books.unit old.seat.held.part.records carried.kept planned_map.0 carried.live
+        planned_map.2)
+        op written plan.of_unit effects_are))
+
+    pub unit_behind : IsMapUnit new (places_behind places op slot)
+    unit_behind = record {
+      agrees = answered.ready.runs.agrees;
+      kind = kind_stays answered.ready.runs.of_heap answered.of_unit;
+      indexed = λ _. keys_stay (places_behind places op slot) answered.ready.runs.of_heap answered.of_unit keys_behind;
+    }

@@ -1,0 +1,148 @@
+-- The plan of a map operation is one: the reply is the plain step's, and the change makes its effect.
+use Rattle.std.proofs.Common.{◌≡◌, ℕ, List, [], ◌∷◌, sym, refl, ap, ◌∙◌, subst, Bool, true, false}
+use Rattle.std.specs.Prelude.{Option, Some, None, is_some, IfSome}
+use Rattle.std.specs.FinMap as finite
+use Rattle.std.specs.List.{AllZip}
+use Rattle.std.proofs.lemmas.Option.{same_Some}
+use Rattle.mont_base.specs.declared.effect.Effect.{Effect}
+use Rattle.mont_base.specs.declared.effect.Thing.TheVariants.{Pair}
+use Rattle.mont_base.specs.declared.operation.Op.{Op}
+use Rattle.mont_base.specs.declared.operation.Op.TheVariants as ops
+use Rattle.mont_base.specs.declared.operation.Reply.{Reply}
+use Rattle.mont_base.specs.declared.record.Change.{Change}
+use Rattle.mont_base.specs.declared.record.Held.{Held}
+use Rattle.mont_base.specs.Bodies.{pair_body, pair_in}
+use Rattle.mont_base.specs.State.{MapOf, Key, Value, Pairs, earlier_text, map_step, map_del, set_effects}
+use Rattle.mont_base.specs.Structure.{pairs_of, is_in_unit}
+use Rattle.mont_base.specs.Versions.{live_objects}
+use Rattle.mont_laws.specs.Effects.{IsOpOf}
+use Rattle.mont_laws.specs.Records.{live_of}
+use Rattle.mont_laws.specs.Structures.{HasPairs, HasStructure}
+use Rattle.mont_laws.proofs.Holders.{fitted}
+use Rattle.index_kit.specs.Index.{Places}
+use Rattle.slots.specs.Books.{RegionShown, record_in}
+use Rattle.structure_call.specs.Planning.{IsPlan, Makes, NamesThing}
+use Rattle.shard_map.specs.declared.map_plan.Found.{Found}
+use Rattle.shard_map.specs.MapPlan.{HasValue, value_found, setting, removal}
+use Rattle.shard_map.specs.MapShard.{IsMapUnit}
+use Rattle.shard_map.proofs.KeyFacts.{has_pairs, no_value, value_kept, at_place, KeptAt, live_record_of, record_there}
+
+module _ (r : RegionShown) (places : Places) (unit : IsMapUnit r places) (running : r.books.halted ≡ None) where
+  abbrev the_pairs : Pairs
+  the_pairs = pairs_of (live_objects r.seat.held.part.records)
+
+  pub map_shown : HasPairs r.books.layout r.books.unit r.seat.held.part.records the_pairs
+  map_shown = has_pairs r.books.layout r.books.unit r.seat.held.part.records places (unit.indexed running) unit.agrees.1.apart
+
+  -- ---- what is found of a key
+  pub nothing_found : (key : Key) → finite.get places key ≡ None → HasValue r key None
+  nothing_found key e pairs shown =
+      no_value r.books.layout r.books.unit r.seat.held.part.records places (unit.indexed running) pairs shown key e
+
+  -- the live record at a place
+  pub record Standing (key : Key) (slot : ℕ) : Type 0 where
+    pub identity : ℕ
+    pub at : KeptAt r.books.layout r.books.unit r.seat.held.part.records identity key slot
+    pub stands : record_in r.seat.held.part.records slot ≡ Some at.kept
+    pub same : at.kept.label.identity ≡ identity
+    pub read : pair_in at.kept.body ≡ Some (key, at.value)
+
+  pub standing : (key : Key) (slot : ℕ) → finite.get places key ≡ Some slot → Standing key slot
+  standing key slot e =
+      let b = at_place r.books.layout r.books.unit r.seat.held.part.records places (unit.indexed running) key slot e in
+      let k : KeptAt r.books.layout r.books.unit r.seat.held.part.records b.0 key slot = b.1 in
+      let live = live_record_of r.seat.held.part.records b.0 k.kept k.live in
+      record {
+        identity = b.0;
+        at = k;
+        stands = ap (record_in r.seat.held.part.records) (sym k.in_slot)
+            ∙ record_there r.seat.held.part.records k.kept unit.agrees.1.apart live.there;
+        same = live.identity;
+        read = (fitted (λ (p : Key × Value). is_in_unit r.books.layout r.books.unit p.0) (pair_in k.kept.body) (key, k.value) k.holds).0;
+      }
+
+  pub no_record : (key : Key) (slot : ℕ) → finite.get places key ≡ Some slot → record_in r.seat.held.part.records slot ≡ None → ⊥
+  no_record key slot e none = let b : Standing key slot = standing key slot e in let f = b.stands in absurd (cc)
+
+  pub no_pair : (key : Key) (slot : ℕ) (held : Held) → finite.get places key ≡ Some slot
+      → record_in r.seat.held.part.records slot ≡ Some held → pair_in held.body ≡ None → ⊥
+  no_pair key slot held e is none =
+      let b : Standing key slot = standing key slot e in
+      let same : held ≡ b.at.kept = same_Some held b.at.kept (sym is ∙ b.stands) in
+      let f = b.read in
+      let g : pair_in b.at.kept.body ≡ None = ap (λ (h : Held). pair_in h.body) (sym same) ∙ none in
+      absurd (cc)
+
+  module _ (key : Key) (slot : ℕ) (held : Held) (p : Key × Value) (e : finite.get places key ≡ Some slot)
+      (is : record_in r.seat.held.part.records slot ≡ Some held) (read : pair_in held.body ≡ Some p) where
+    same_record : (b : Standing key slot) → held ≡ b.at.kept
+    same_record b = same_Some held b.at.kept (sym is ∙ b.stands)
+
+    same_value : (b : Standing key slot) → p.1 ≡ b.at.value
+    same_value b = ap (λ (q : Key × Value). q.1)
+        (same_Some p (key, b.at.value) (sym read ∙ ap (λ (h : Held). pair_in h.body) (same_record b) ∙ b.read))
+
+    pub found_value : HasValue r key (Some p.1)
+    found_value pairs shown =
+        let b : Standing key slot = standing key slot e in
+        value_kept r.books.layout r.books.unit r.seat.held.part.records places (unit.indexed running) pairs shown b.identity key slot b.at
+        ∙ ap Some (sym (same_value b))
+
+    pub found_named : NamesThing r.seat.held.part.records (Pair key p.1) slot held.label.identity
+    found_named =
+        let b : Standing key slot = standing key slot e in record {
+          live = b.at.kept;
+          is = ap (λ (i : ℕ). live_of i r.seat.held.part.records) (ap (λ (h : Held). h.label.identity) (same_record b) ∙ b.same) ∙ b.at.live;
+          in_slot = b.at.in_slot;
+          named = (b.at.value, b.read);
+        }
+
+  -- ---- what is planned
+  plan_of : (op : Op) (reply : Reply) (changes : List Change) → IsOpOf r.books.layout r.books.unit op
+      → reply ≡ (map_step the_pairs op).reply → AllZip (Makes r.books r.seat.held.part.records) (map_step the_pairs op).effects changes
+      → IsPlan r op reply changes
+  plan_of op reply changes is replies makes = record {
+    of_unit = is;
+    state = MapOf the_pairs;
+    shown = record { of_unit = unit.kind; things = map_shown };
+    replies = replies;
+    makes = makes;
+  }
+
+  abbrev pub IsNamed : Key → Option Found → Type 0
+  IsNamed key found = IfSome found (λ f. NamesThing r.seat.held.part.records (Pair key f.value) f.slot f.identity)
+
+  pub put_plan : (key : Key) (value : Value) (found : Option Found) (body : List ℕ) → HasValue r key (value_found found)
+      → IsNamed key found → body ≡ pair_body key value → IsOpOf r.books.layout r.books.unit (ops.Put key value)
+      → IsPlan r (ops.Put key value) (earlier_text (value_found found)) (setting found body ∷ [])
+  put_plan key value None body v n b is =
+      let none = v the_pairs map_shown in
+      plan_of (ops.Put key value) _ _ is (ap earlier_text (sym none))
+      (subst (λ (t : Bool). AllZip (Makes r.books r.seat.held.part.records) (set_effects t (Pair key value)) (setting None body ∷ []))
+      (ap is_some (sym none)) (b, tt))
+  put_plan key value (Some f) body v n b is =
+      let some = v the_pairs map_shown in
+      plan_of (ops.Put key value) _ _ is (ap earlier_text (sym some))
+      (subst (λ (t : Bool). AllZip (Makes r.books r.seat.held.part.records) (set_effects t (Pair key value)) (setting (Some f) body ∷ []))
+      (ap is_some (sym some)) ((record { live = n.live; is = n.is; in_slot = n.in_slot; named = n.named }, b), tt))
+
+  pub get_plan : (key : Key) (found : Option Found) → HasValue r key (value_found found)
+      → IsOpOf r.books.layout r.books.unit (ops.Get key) → IsPlan r (ops.Get key) (earlier_text (value_found found)) []
+  get_plan key found v is = plan_of (ops.Get key) _ _ is (ap earlier_text (sym (v the_pairs map_shown))) tt
+
+  abbrev changes_of : Option Change → List Change
+  changes_of None = []
+  changes_of (Some change) = change ∷ []
+
+  pub del_plan : (key : Key) (found : Option Found) → HasValue r key (value_found found) → IsNamed key found
+      → IsOpOf r.books.layout r.books.unit (ops.Del key)
+      → IsPlan r (ops.Del key) (earlier_text (value_found found)) (changes_of (removal found))
+  del_plan key None v n is =
+      let none = v the_pairs map_shown in
+      plan_of (ops.Del key) _ _ is (ap (λ (o : Option Value). (map_del the_pairs key o).reply) (sym none))
+      (subst (λ (o : Option Value). AllZip (Makes r.books r.seat.held.part.records) (map_del the_pairs key o).effects []) (sym none) tt)
+  del_plan key (Some f) v n is =
+      let some = v the_pairs map_shown in
+      plan_of (ops.Del key) _ _ is (ap (λ (o : Option Value). (map_del the_pairs key o).reply) (sym some))
+      (subst (λ (o : Option Value). AllZip (Makes r.books r.seat.held.part.records) (map_del the_pairs key o).effects (changes_of (removal (Some f))))
+      (sym some) (n, tt))

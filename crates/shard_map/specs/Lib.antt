@@ -1,0 +1,5 @@
+pub mod LiveKeys
+pub mod MapShard
+pub mod MapBeginning
+pub mod MapPlan
+pub mod MapCall

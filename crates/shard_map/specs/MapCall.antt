@@ -1,0 +1,24 @@
+-- How the index of a map unit follows an operation that was carried out.
+use Rattle.std.specs.Prelude.{ℕ, Option, Some, None}
+use Rattle.mont_base.specs.declared.record.Change.{Change}
+use Rattle.mont_base.specs.declared.record.Change.TheVariants.{Insert}
+use Rattle.std.specs.FinMap as finite
+use Rattle.mont_base.specs.declared.operation.Op.{Op}
+use Rattle.mont_base.specs.declared.operation.Op.TheVariants as ops
+use Rattle.index_kit.specs.Index.{Places, CanPut}
+
+-- the places once the last record of an operation stands in a slot; with no record they stay
+abbrev pub places_behind : Places → Op → Option ℕ → Places
+places_behind places (ops.Put key value) (Some slot) = finite.insert places key slot
+places_behind places (ops.Del key) (Some slot) = finite.remove places key
+places_behind places _ _ = places
+
+-- an operation that sets a key finds room for it
+abbrev pub HasRoomFor : Places → ℕ → Op → Type 0
+HasRoomFor places spare (ops.Put key value) = CanPut places spare key
+HasRoomFor places spare _ = Unit {0}
+
+-- a key that wasn't there comes in
+abbrev pub AddsKey : Option Change → Type 0
+AddsKey (Some (Insert body)) = Unit {0}
+AddsKey _ = ⊥

@@ -1,0 +1,29 @@
+-- What is planned of a map operation.
+use Rattle.std.specs.Prelude.{◌≡◌, ℕ, List, Option, Some, None}
+use Rattle.std.specs.FinMap as finite
+use Rattle.mont_base.specs.declared.record.Change.{Change}
+use Rattle.mont_base.specs.declared.record.Change.TheVariants.{Insert, Replace, Remove}
+use Rattle.mont_base.specs.State.{Key, Value, Pairs}
+use Rattle.mont_laws.specs.Structures.{HasPairs}
+use Rattle.slots.specs.Books.{RegionShown}
+use Rattle.shard_map.specs.declared.map_plan.Found.{Found}
+
+-- the value of a key in the map that the records show
+abbrev pub HasValue : RegionShown → Key → Option Value → Type 0
+HasValue r key value = (pairs : Pairs)
+    → HasPairs r.books.layout r.books.unit r.seat.held.part.records pairs
+    → finite.get pairs key ≡ value
+
+abbrev pub value_found : Option Found → Option Value
+value_found None = None
+value_found (Some found) = Some found.value
+
+-- a new key is inserted, and another one's pair replaced
+abbrev pub setting : Option Found → List ℕ → Change
+setting None body = Insert body
+setting (Some found) body = Replace found.slot found.identity body
+
+-- a key that isn't there isn't removed
+abbrev pub removal : Option Found → Option Change
+removal None = None
+removal (Some found) = Some (Remove found.slot found.identity)

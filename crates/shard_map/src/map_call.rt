@@ -1,0 +1,108 @@
+// A call of a map unit.
+ghost use Rattle.std.specs.Prelude.{◌≡◌, ◌≤◌, true, [], ◌∷◌, ◌++◌, None, IsTrue, IfOk, OnOk, IfErr, OnErr};
+ghost use Rattle.heap.specs.GateAsked.{IsAskedOften};
+ghost use Rattle.mont_laws.specs.Effects.{IsOpOf};
+ghost use Rattle.heap_pass.specs.Spare.{spare_of};
+ghost use Rattle.structure_call.specs.Calling.{HasAnsweredCall, LeavesCall, was_cut, was_checked};
+ghost use Rattle.structure_call.specs.Checking.{MayBeCalled};
+ghost use Rattle.structure_call.specs.Standing.{IsStanding};
+ghost use Rattle.shard_map.specs.MapCall.{places_behind, HasRoomFor, AddsKey};
+ghost use Rattle.shard_map.specs.MapShard.{IsMapUnit};
+
+use crate::map_plan::plan;
+use crate::map_shard::MapShard;
+use heap::Heap;
+use heap_pass::Pass;
+use index_kit::Index;
+use mont_base::{CallRefusal, Change, Gate, Op, Receipt, Slot};
+use std::alloc::AllocError;
+use std::sync::Wait;
+use structure_call::{carry_out, check_numbers, check_running};
+
+impl<I: Index> MapShard<I> {
+    /// Carries an operation of the unit out, answers it with one entry, and keeps the receipt in
+    /// the pass. It may wait for the clock to stand still.
+    ///
+    /// Memory is taken before the first step; a refusal for want of it leaves all as it was but for
+    /// spare room.
+    pub fn apply<R: Wait, G: Gate>(
+        &mut self,
+        rt: &R,
+        heap: &Heap,
+        pass: &mut Pass<G>,
+        op: &Op,
+    ) -> Result<Receipt, CallRefusal>
+        requires stands { IsStanding heap.now self.old.region }
+        requires pass { pass.old.ticket.table ≡ heap.now.table }
+        requires op { IsOpOf heap.now.opening.layout self.old.region.books.unit op.now }
+        ensures gate { IsAskedOften G.cuts G.endless pass.old.gate pass.new.gate (was_cut result) }
+        ensures answered { IfOk result (λ receipt. HasAnsweredCall heap.now self.old.region
+            self.new.region pass.old.ticket pass.new.ticket op.now receipt) }
+        ensures receipts { IfOk result (λ receipt. pass.new.receipts.items
+            ≡ pass.old.receipts.items ++ receipt ∷ []) }
+        ensures kept { OnErr result (pass.new.receipts.items ≡ pass.old.receipts.items) }
+        ensures refused { IfErr result (λ why. LeavesCall heap.now self.old.region self.new.region
+            pass.old.ticket pass.new.ticket op.now why) }
+        ensures checked { was_checked result ≡ true
+            → MayBeCalled pass.old.ticket self.old.region op.now }
+        ensures stands { IsStanding heap.now self.new.region }
+        ensures unit { IsMapUnit self.new.region self.new.places }
+    {
+        check_running(heap, &mut self.region, pass)?;
+        let planned = plan(&self.region, &self.index, op);
+        let changes = planned.change.as_slice();
+        check_numbers(heap, &mut self.region, pass, changes, false)?;
+        let Ok(()) = make_room(&mut self.index, pass, &planned.change) else {
+            return Err(CallRefusal::Memory);
+        };
+        let carried = carry_out(
+            rt,
+            heap,
+            &mut self.region,
+            pass,
+            op,
+            &planned.reply,
+            changes,
+        )?;
+        follow(&mut self.index, op, carried.slot);
+        Ok(carried.receipt)
+    }
+}
+
+// Makes room for the receipt, and in the index for a key that is new.
+fn make_room<I: Index, G: Gate>(
+    index: &mut I,
+    pass: &mut Pass<G>,
+    change: &Option<Change>,
+) -> Result<(), AllocError>
+    ensures places { I.places index.new ≡ I.places index.old }
+    ensures ticket { pass.new.ticket ≡ pass.old.ticket }
+    ensures gate { pass.new.gate ≡ pass.old.gate }
+    ensures receipt { OnOk result (1 ≤ spare_of pass.new.receipts) }
+    ensures key { OnOk result (AddsKey change.now → 1 ≤ I.spare index.new) }
+{
+    pass.reserve()?;
+    if let Some(Change::Insert { .. }) = change {
+        index.reserve()?;
+    }
+    Ok(())
+}
+
+// The index follows an operation whose last record stands in this slot; with no record it stays.
+fn follow<I: Index>(index: &mut I, op: &Op, slot: Option<Slot>)
+    requires { HasRoomFor (I.places index.old) (I.spare index.old) op.now }
+    ensures { I.places index.new ≡ places_behind (I.places index.old) op.now slot }
+{
+    let Some(slot) = slot else {
+        return;
+    };
+    match op {
+        Op::Put { key, .. } => {
+            index.put(*key, slot);
+        }
+        Op::Del { key } => {
+            index.remove(*key);
+        }
+        _ => {}
+    }
+}

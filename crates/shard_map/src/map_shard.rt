@@ -1,0 +1,55 @@
+// A map unit: the region of its slots, and an index from each live key to its slot.
+ghost use Rattle.std.specs.Prelude.{◌≡◌};
+
+use heap_pass::OfHeap;
+use index_kit::Index;
+use slots::Region;
+use std::marker::Model;
+
+/// A map unit. The pairs stand in the region's records alone; the index, which the unit's maker
+/// hands in, says in which slot each live key's record is.
+///
+/// Contracts see the region and the index's places. The index of a unit in which a caller was cut
+/// is of no use any more.
+#[derive(Drop)]
+pub struct MapShard<I: Index> {
+    pub(crate) region: Region,
+    pub(crate) index: I,
+}
+
+impl<I: Index> Model for MapShard<I> {
+    ghost use Rattle.shard_map.specs.MapShard.{MapShown, map_shown_code, IsMapUnit};
+
+    ghost Value = { MapShown };
+
+    ghost coded = { map_shown_code };
+
+    ghost view = { λ m. record { region = m.region; places = I.places m.index } };
+
+    ghost invariant = { λ m. IsMapUnit m.region (I.places m.index) };
+}
+
+impl<I: Index> OfHeap for MapShard<I> {
+    ghost use Rattle.structure_call.specs.Standing.{IsStanding, standing_once};
+
+    ghost fits = { λ heap m. IsStanding heap m.region };
+
+    ghost fits_once = { λ heap m. standing_once heap m.region };
+}
+
+impl<I: Index> MapShard<I> {
+    /// The unit's region.
+    pub fn region(&self) -> &Region
+        ensures { result.now ≡ self.now.region }
+    {
+        &self.region
+    }
+
+    /// Gives the region back, and drops the index.
+    pub fn into_region(self) -> Region
+        ensures { result ≡ self.region }
+    {
+        let MapShard { region, index: _ } = self;
+        region
+    }
+}
