@@ -1,0 +1,6 @@
+mod LiveItems
+mod SortedItems
+mod Rebuilds
+mod QueuePlans
+mod Follows
+mod Applies

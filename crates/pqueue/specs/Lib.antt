@@ -1,0 +1,3 @@
+pub mod Queued
+pub mod PQueue
+pub mod QueuePlan
