@@ -7,7 +7,7 @@ use slots::Region;
 use std::marker::Model;
 
 /// A map unit. The pairs stand in the region's records alone; the index, which the unit's maker
-/// hands in, says in which slot each live key's record is.
+/// hands in, says in which slot each live key's record is. It may be of any kind: a box is one too.
 ///
 /// Contracts see the region and the index's places. The index of a unit in which a caller was cut
 /// is of no use any more.
