@@ -48,7 +48,8 @@ module _ (s : Shape) (unit : ℕ) (rs : List Held) (places : Places) (holds : Ho
   keys_push : (w : Held) → IsAbove (newest_of w.label.identity rs) w
       → IsUpdate (live_keys s unit rs) w.label.identity (key_of_live s unit (live_if (Some w))) (live_keys s unit (rs ++ w ∷ []))
   keys_push w above = record {
-    here = ap (λ o. key_of_live s unit (live_if o)) (newest_push w.label.identity rs w above ∙ at (w.label.identity == w.label.identity) refl);
+    here = ap (λ o. key_of_live s unit (live_if o))
+        (newest_push w.label.identity rs w above ∙ at (w.label.identity == w.label.identity) refl);
     other = λ j ne. ap (λ o. key_of_live s unit (live_if o))
         (newest_push j rs w above ∙ else_at j ne (w.label.identity == j) refl);
   }

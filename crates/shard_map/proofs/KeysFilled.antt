@@ -50,7 +50,8 @@ pub no_keys : (places : Places) → finite.len places ≡ 0 → HasKeysOf [] pla
 no_keys places e = record {
   each = λ o p a f. absurd (no_element o a);
   only = λ key slot f.
-      let none : finite.get places key ≡ None = ap (λ (m : Places). finite.get m key) (finite.empty_of_len places e) ∙ finite.get-empty key_cmp key in
+      let none : finite.get places key ≡ None =
+      ap (λ (m : Places). finite.get m key) (finite.empty_of_len places e) ∙ finite.get-empty key_cmp key in
       absurd (cc);
 }
 
@@ -186,5 +187,6 @@ module _ (s : Shape) (unit : ℕ) (rs : List Held) (apart : AreApart rs) (pairs 
     once = λ i j key v w e f.
         let k : KeptAt s unit rs i key v = kept_at s unit rs i key v e in
         let l : KeptAt s unit rs j key w = kept_at s unit rs j key w f in
-        shown.once i j key k.value l.value (thing_of i k.kept (key, k.value) k.live k.holds) (thing_of j l.kept (key, l.value) l.live l.holds);
+        shown.once i j key k.value l.value (thing_of i k.kept (key, k.value) k.live k.holds)
+        (thing_of j l.kept (key, l.value) l.live l.holds);
   }

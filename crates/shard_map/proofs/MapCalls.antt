@@ -77,7 +77,8 @@ pub room_for : (r : RegionShown) (places : Places) → IsMapUnit r places → r.
     (change : Option Change) (spare : ℕ) → IsPlan r op reply (option_to_list change) → (AddsKey change → 1 ≤ spare)
     → HasRoomFor places spare op
 room_for r places unit running (ops.Put key value) reply change spare plan room = λ none.
-    room (inserts change (subst (λ (t : Bool). AllZip (Makes r.books r.seat.held.part.records) (set_effects t (Pair key value)) (option_to_list change))
+    room (inserts change (subst (λ (t : Bool). AllZip (Makes r.books r.seat.held.part.records) (set_effects t (Pair key value))
+    (option_to_list change))
     (ap is_some (absent none)) (subst (λ (st : State). AllZip (Makes r.books r.seat.held.part.records) (step st (ops.Put key value)).effects
     (option_to_list change)) b.1 plan.makes)))
   where
@@ -87,7 +88,8 @@ room_for r places unit running (ops.Put key value) reply change spare plan room 
     absent : finite.get places key ≡ None → finite.get b.0 key ≡ None
     absent none = no_value r.books.layout r.books.unit r.seat.held.part.records places (unit.indexed running) b.0 b.2 key none
 
-    inserts : (c : Option Change) → AllZip (Makes r.books r.seat.held.part.records) (Inserts (Pair key value) ∷ []) (option_to_list c) → AddsKey c
+    inserts : (c : Option Change) → AllZip (Makes r.books r.seat.held.part.records) (Inserts (Pair key value) ∷ []) (option_to_list c)
+        → AddsKey c
     inserts None z = absurd z
     inserts (Some (Insert body)) z = tt
     inserts (Some (Replace at identity body)) z = absurd z.0
@@ -153,7 +155,8 @@ module _ (heap : HeapShown) (old new : RegionShown) (places : Places) (called : 
 
   -- ---- behind an answer the index has followed
   module _ (q r : CallerShown) (op : Op) (receipt : Receipt) (answered : HasAnsweredCall heap old new q r op receipt) (reply : Reply)
-      (changes : List Change) (slot : Option ℕ) (plan : IsPlan old op reply changes) (carried : HasCarried old new changes receipt slot) where
+      (changes : List Change) (slot : Option ℕ) (plan : IsPlan old op reply changes)
+      (carried : HasCarried old new changes receipt slot) where
     planned_map : (m : Pairs) × (plan.state ≡ MapOf m) × HasPairs old.books.layout old.books.unit old.seat.held.part.records m
     planned_map = map_state old.books.layout old.books.unit old.seat.held.part.records plan.state called.unit.kind plan.shown
 

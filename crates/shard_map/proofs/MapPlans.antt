@@ -92,7 +92,8 @@ module _ (r : RegionShown) (places : Places) (unit : IsMapUnit r places) (runnin
     found_named =
         let b : Standing key slot = standing key slot e in record {
           live = b.at.kept;
-          is = ap (λ (i : ℕ). live_of i r.seat.held.part.records) (ap (λ (h : Held). h.label.identity) (same_record b) ∙ b.same) ∙ b.at.live;
+          is = ap (λ (i : ℕ). live_of i r.seat.held.part.records)
+              (ap (λ (h : Held). h.label.identity) (same_record b) ∙ b.same) ∙ b.at.live;
           in_slot = b.at.in_slot;
           named = (b.at.value, b.read);
         }
@@ -144,5 +145,6 @@ module _ (r : RegionShown) (places : Places) (unit : IsMapUnit r places) (runnin
   del_plan key (Some f) v n is =
       let some = v the_pairs map_shown in
       plan_of (ops.Del key) _ _ is (ap (λ (o : Option Value). (map_del the_pairs key o).reply) (sym some))
-      (subst (λ (o : Option Value). AllZip (Makes r.books r.seat.held.part.records) (map_del the_pairs key o).effects (changes_of (removal (Some f))))
+      (subst (λ (o : Option Value). AllZip (Makes r.books r.seat.held.part.records) (map_del the_pairs key o).effects
+      (changes_of (removal (Some f))))
       (sym some) (n, tt))

@@ -16,4 +16,4 @@ returns-in-Get g c = rw (c.in-Get.is, c.reply_of-in-Get.ensures)
 pub returns-in-Del : goal.returns-in-Del
 returns-in-Del g c = rw (c.in-Del.is, c.reply_of-in-Del.ensures, c.removal.ensures)
     (del_plan c.args.region.now (g.I.Index.places c.args.index.now) c.requires.unit c.requires.running c.in-Del.key
-    c.find-found-in-Del.result c.find-found-in-Del.ensures.value c.find-found-in-Del.ensures.named (rw c.in-Del.is at c.requires.op))
+    c.find-found.result c.find-found.ensures.value c.find-found.ensures.named (rw c.in-Del.is at c.requires.op))
