@@ -14,7 +14,7 @@ ghost use Rattle.pqueue.specs.PQueue.{IsOfQueue, HasNoneLive, HoldsItems, serial
 use crate::queue_plan::{QueuePlan, adds_item, follow, plan};
 use crate::queued::Queued;
 use heap::Heap;
-use heap_pass::Pass;
+use heap_pass::{OfHeap, Pass};
 use mont_base::{CallRefusal, Gate, Op, Receipt};
 use slots::Region;
 use std::alloc::{AllocError, Global};
@@ -41,6 +41,14 @@ impl Model for PQueue {
     ghost view = { λ q. record { region = q.region; items = q.items.items } };
 
     ghost invariant = { λ q. IsQueueUnit q.region q.items.items };
+}
+
+impl OfHeap for PQueue {
+    ghost use Rattle.structure_call.specs.Standing.{IsStanding, standing_once};
+
+    ghost fits = { λ heap q. IsStanding heap q.region };
+
+    ghost fits_once = { λ heap q. standing_once heap q.region };
 }
 
 impl PQueue {
@@ -91,7 +99,7 @@ impl PQueue {
         let QueuePlan { reply, change } = plan(&self.region, &self.items, op);
         let adds = adds_item(&change);
         check_numbers(heap, &mut self.region, pass, change.as_slice(), adds)?;
-        reserve(&mut self.items, pass)?;
+        reserve(adds, &mut self.items, pass)?;
         let carried = carry_out(
             rt,
             heap,
@@ -107,30 +115,40 @@ impl PQueue {
 
     /// The region of the unit.
     pub fn region(&self) -> &Region
-        ensures { result.now ≡ self.now.region }
+        ensures region { result.now ≡ self.now.region }
+        ensures agrees { Agrees result.now }
     {
         &self.region
     }
 
     /// Gives the region back, and drops the rest.
     pub fn into_region(self) -> Region
-        ensures { result ≡ self.region }
+        ensures region { result ≡ self.region }
+        ensures agrees { Agrees result }
     {
         let PQueue { region, items: _ } = self;
         region
     }
 }
 
-// Takes the memory of a call: room for one more item, and for a receipt.
-fn reserve<G: Gate>(items: &mut VecDeque<Queued>, pass: &mut Pass<G>) -> Result<(), CallRefusal>
+// Takes the memory of a call: room for one more item where one comes in, and for a receipt.
+fn reserve<G: Gate>(
+    adds: bool,
+    items: &mut VecDeque<Queued>,
+    pass: &mut Pass<G>,
+) -> Result<(), CallRefusal>
     ensures items { items.new.items ≡ items.old.items }
     ensures ticket { pass.new.ticket ≡ pass.old.ticket }
     ensures gate { pass.new.gate ≡ pass.old.gate }
-    ensures room { OnOk result (deque_len items.new < deque_capacity items.new) }
+    ensures room { IsTrue adds
+        → OnOk result (deque_len items.new < deque_capacity items.new) }
     ensures spare { OnOk result (1 ≤ spare_of pass.new.receipts) }
     ensures memory { IfErr result (λ why. why ≡ Memory) }
 {
-    if items.reserve(1).is_err() || pass.reserve().is_err() {
+    if adds && items.reserve(1).is_err() {
+        return Err(CallRefusal::Memory);
+    }
+    if pass.reserve().is_err() {
         return Err(CallRefusal::Memory);
     }
     Ok(())
