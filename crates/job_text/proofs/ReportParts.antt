@@ -43,62 +43,62 @@ CallersOf p oss = AllOf (λ caller os. AreOutcomes (length p.0.0.0.kinds) p.0.0.
 abbrev pub ImageOf : (((Shape × ℕ) × (ℕ × List State)) × List (List Entry)) × List (List Outcome) → ℕ × List State → Type 0
 ImageOf p i = IsStart p.0.0.0.0.kinds i
 
-abbrev pub R1 : Shape × ℕ → List Row
-R1 = line_of_row title_words
+abbrev pub to_title : Shape × ℕ → List Row
+to_title = line_of_row title_words
 
-abbrev pub G2 : (Shape × ℕ) × (ℕ × List State) → Type 0
-G2 = BothAre IsTitle BaseOf
+abbrev pub UpToBase : (Shape × ℕ) × (ℕ × List State) → Type 0
+UpToBase = BothAre IsTitle BaseOf
 
-abbrev pub R2 : (Shape × ℕ) × (ℕ × List State) → List Row
-R2 = both_rows R1 (λ (p : Shape × ℕ). start_rows (codes "base"))
+abbrev pub to_base : (Shape × ℕ) × (ℕ × List State) → List Row
+to_base = both_rows to_title (λ (p : Shape × ℕ). start_rows (codes "base"))
 
-abbrev pub G3 : ((Shape × ℕ) × (ℕ × List State)) × List (List Entry) → Type 0
-G3 = BothAre G2 HistoriesOf
+abbrev pub UpToHistories : ((Shape × ℕ) × (ℕ × List State)) × List (List Entry) → Type 0
+UpToHistories = BothAre UpToBase HistoriesOf
 
-abbrev pub R3 : ((Shape × ℕ) × (ℕ × List State)) × List (List Entry) → List Row
-R3 = both_rows R2 (λ (p : (Shape × ℕ) × (ℕ × List State)). histories_lines)
+abbrev pub to_histories : ((Shape × ℕ) × (ℕ × List State)) × List (List Entry) → List Row
+to_histories = both_rows to_base (λ (p : (Shape × ℕ) × (ℕ × List State)). histories_lines)
 
-abbrev pub Four : Type 0
-Four = (((Shape × ℕ) × (ℕ × List State)) × List (List Entry)) × List (List Outcome)
+abbrev pub FrontParts : Type 0
+FrontParts = (((Shape × ℕ) × (ℕ × List State)) × List (List Entry)) × List (List Outcome)
 
-abbrev pub G4 : Four → Type 0
-G4 = BothAre G3 CallersOf
+abbrev pub UpToCallers : FrontParts → Type 0
+UpToCallers = BothAre UpToHistories CallersOf
 
-abbrev pub R4 : Four → List Row
-R4 = both_rows R3 (λ (p : ((Shape × ℕ) × (ℕ × List State)) × List (List Entry)). outcomes_lines)
+abbrev pub to_callers : FrontParts → List Row
+to_callers = both_rows to_histories (λ (p : ((Shape × ℕ) × (ℕ × List State)) × List (List Entry)). outcomes_lines)
 
-abbrev pub G5 : Four × (ℕ × List State) → Type 0
-G5 = BothAre G4 ImageOf
+abbrev pub UpToImage : FrontParts × (ℕ × List State) → Type 0
+UpToImage = BothAre UpToCallers ImageOf
 
-abbrev pub R5 : Four × (ℕ × List State) → List Row
-R5 = both_rows R4 (λ (p : Four). start_rows (codes "image"))
+abbrev pub to_image : FrontParts × (ℕ × List State) → List Row
+to_image = both_rows to_callers (λ (p : FrontParts). start_rows (codes "image"))
 
-abbrev pub EndOf : Four × (ℕ × List State) → Unit {0} → Type 0
+abbrev pub EndOf : FrontParts × (ℕ × List State) → Unit {0} → Type 0
 EndOf p e = Unit {0}
 
-abbrev pub G6 : (Four × (ℕ × List State)) × Unit {0} → Type 0
-G6 = BothAre G5 EndOf
+abbrev pub UpToEnd : (FrontParts × (ℕ × List State)) × Unit {0} → Type 0
+UpToEnd = BothAre UpToImage EndOf
 
-abbrev pub R6 : (Four × (ℕ × List State)) × Unit {0} → List Row
-R6 = both_rows R5 (λ (p : Four × (ℕ × List State)). line_of_row end_words)
+abbrev pub to_end : (FrontParts × (ℕ × List State)) × Unit {0} → List Row
+to_end = both_rows to_image (λ (p : FrontParts × (ℕ × List State)). line_of_row end_words)
 
-once1 : IsOnce IsTitle R1
-once1 = line_once IsTitle title_words title_part
+once_to_title : IsOnce IsTitle to_title
+once_to_title = line_once IsTitle title_words title_part
 
-once2 : IsOnce G2 R2
-once2 = both_once IsTitle R1 BaseOf (λ p. start_rows (codes "base")) once1 (λ p is. start_once p.0.kinds (codes "base"))
+once_to_base : IsOnce UpToBase to_base
+once_to_base = both_once IsTitle to_title BaseOf (λ p. start_rows (codes "base")) once_to_title (λ p is. start_once p.0.kinds (codes "base"))
 
-once3 : IsOnce G3 R3
-once3 = both_once G2 R2 HistoriesOf (λ p. histories_lines) once2 (λ p is. histories_once p.0.1 (few_of p.0 is.0) (length p.0.0.kinds))
+once_to_histories : IsOnce UpToHistories to_histories
+once_to_histories = both_once UpToBase to_base HistoriesOf (λ p. histories_lines) once_to_base (λ p is. histories_once p.0.1 (few_of p.0 is.0) (length p.0.0.kinds))
 
-once4 : IsOnce G4 R4
-once4 = both_once G3 R3 CallersOf (λ p. outcomes_lines) once3 (λ p is. callers_once (length p.0.0.0.kinds) p.0.0.1 p.0.0.1)
+once_to_callers : IsOnce UpToCallers to_callers
+once_to_callers = both_once UpToHistories to_histories CallersOf (λ p. outcomes_lines) once_to_histories (λ p is. callers_once (length p.0.0.0.kinds) p.0.0.1 p.0.0.1)
 
-once5 : IsOnce G5 R5
-once5 = both_once G4 R4 ImageOf (λ p. start_rows (codes "image")) once4 (λ p is. start_once p.0.0.0.0.kinds (codes "image"))
+once_to_image : IsOnce UpToImage to_image
+once_to_image = both_once UpToCallers to_callers ImageOf (λ p. start_rows (codes "image")) once_to_callers (λ p is. start_once p.0.0.0.0.kinds (codes "image"))
 
 -- ---- the whole
-report_of_parts : (p : (Four × (ℕ × List State)) × Unit {0}) → G6 p → (r : Report) × IsReport r × (report_lines r ≡ R6 p)
+report_of_parts : (p : (FrontParts × (ℕ × List State)) × Unit {0}) → UpToEnd p → (r : Report) × IsReport r × (report_lines r ≡ to_end p)
 report_of_parts p is =
     let t = p.0.0.0.0.0 in
     let b = p.0.0.0.0.1 in
@@ -130,7 +130,7 @@ report_of_parts p is =
       refl,
     )
 
-parts_of_report : (r : Report) → IsReport r → (p : (Four × (ℕ × List State)) × Unit {0}) × G6 p × (R6 p ≡ report_lines r)
+parts_of_report : (r : Report) → IsReport r → (p : (FrontParts × (ℕ × List State)) × Unit {0}) × UpToEnd p × (to_end p ≡ report_lines r)
 parts_of_report r is = (
   ((((((r.layout, r.callers), (r.base_clock, r.base)), r.histories), r.outcomes), (r.image_clock, r.contents)), tt),
   ((
@@ -144,63 +144,63 @@ parts_of_report r is = (
 )
 
 module _ (old : Unread) where
-  up6 : (e : ReportRefusal) → Refuses G6 R6 old e → Refuses IsReport report_lines old e
-  up6 e r = refuses_other G6 R6 IsReport report_lines report_of_parts parts_of_report old e r
+  up6 : (e : ReportRefusal) → Refuses UpToEnd to_end old e → Refuses IsReport report_lines old e
+  up6 e r = refuses_other UpToEnd to_end IsReport report_lines report_of_parts parts_of_report old e r
 
-  up5 : (e : ReportRefusal) → Refuses G5 R5 old e → Refuses IsReport report_lines old e
-  up5 e r = up6 e (refuses_first G5 R5 EndOf (λ p. line_of_row end_words) (λ p is. (tt, tt)) old e r)
+  up5 : (e : ReportRefusal) → Refuses UpToImage to_image old e → Refuses IsReport report_lines old e
+  up5 e r = up6 e (refuses_first UpToImage to_image EndOf (λ p. line_of_row end_words) (λ p is. (tt, tt)) old e r)
 
-  up4 : (e : ReportRefusal) → Refuses G4 R4 old e → Refuses IsReport report_lines old e
-  up4 e r = up5 e (refuses_first G4 R4 ImageOf (λ p. start_rows (codes "image")) (λ p is. some_start p.0.0.0.0.kinds) old e r)
+  up4 : (e : ReportRefusal) → Refuses UpToCallers to_callers old e → Refuses IsReport report_lines old e
+  up4 e r = up5 e (refuses_first UpToCallers to_callers ImageOf (λ p. start_rows (codes "image")) (λ p is. some_start p.0.0.0.0.kinds) old e r)
 
-  up3 : (e : ReportRefusal) → Refuses G3 R3 old e → Refuses IsReport report_lines old e
-  up3 e r = up4 e (refuses_first G3 R3 CallersOf (λ p. outcomes_lines) (λ p is. some_callers
+  up3 : (e : ReportRefusal) → Refuses UpToHistories to_histories old e → Refuses IsReport report_lines old e
+  up3 e r = up4 e (refuses_first UpToHistories to_histories CallersOf (λ p. outcomes_lines) (λ p is. some_callers
       (length p.0.0.0.kinds) p.0.0.1 p.0.0.1) old e r)
 
-  up2 : (e : ReportRefusal) → Refuses G2 R2 old e → Refuses IsReport report_lines old e
-  up2 e r = up3 e (refuses_first G2 R2 HistoriesOf (λ p. histories_lines)
+  up2 : (e : ReportRefusal) → Refuses UpToBase to_base old e → Refuses IsReport report_lines old e
+  up2 e r = up3 e (refuses_first UpToBase to_base HistoriesOf (λ p. histories_lines)
       (λ p is. some_histories p.0.1 (few_of p.0 is.0) (length p.0.0.kinds)) old e r)
 
-  pub refuses_title : (e : ReportRefusal) → Refuses IsTitle R1 old e → Refuses IsReport report_lines old e
-  refuses_title e r = up2 e (refuses_first IsTitle R1 BaseOf (λ p. start_rows (codes "base")) (λ p is. some_start p.0.kinds) old e r)
+  pub refuses_title : (e : ReportRefusal) → Refuses IsTitle to_title old e → Refuses IsReport report_lines old e
+  refuses_title e r = up2 e (refuses_first IsTitle to_title BaseOf (λ p. start_rows (codes "base")) (λ p is. some_start p.0.kinds) old e r)
 
-  module _ (a : Unread) (t : Shape × ℕ) (first : Reads IsTitle R1 old a t) where
+  module _ (a : Unread) (t : Shape × ℕ) (first : Reads IsTitle to_title old a t) where
     pub refuses_base : (e : ReportRefusal) → Refuses (BaseOf t) (start_rows (codes "base")) a e → Refuses IsReport report_lines old e
-    refuses_base e r = up2 e (refuses_second IsTitle R1 BaseOf (λ p. start_rows (codes "base")) once1 old a t e first r)
+    refuses_base e r = up2 e (refuses_second IsTitle to_title BaseOf (λ p. start_rows (codes "base")) once_to_title old a t e first r)
 
     module _ (b : Unread) (base : ℕ × List State) (second : Reads (BaseOf t) (start_rows (codes "base")) a b base) where
-      two : Reads G2 R2 old b (t, base)
-      two = reads_both IsTitle R1 BaseOf (λ p. start_rows (codes "base")) old a b t base first second
+      two : Reads UpToBase to_base old b (t, base)
+      two = reads_both IsTitle to_title BaseOf (λ p. start_rows (codes "base")) old a b t base first second
 
       pub refuses_histories : (e : ReportRefusal) → Refuses (HistoriesOf (t, base)) histories_lines b e
           → Refuses IsReport report_lines old e
-      refuses_histories e r = up3 e (refuses_second G2 R2 HistoriesOf (λ p. histories_lines) once2 old b (t, base) e two r)
+      refuses_histories e r = up3 e (refuses_second UpToBase to_base HistoriesOf (λ p. histories_lines) once_to_base old b (t, base) e two r)
 
       module _ (d : Unread) (hs : List (List Entry)) (third : Reads (HistoriesOf (t, base)) histories_lines b d hs) where
-        three : Reads G3 R3 old d ((t, base), hs)
-        three = reads_both G2 R2 HistoriesOf (λ p. histories_lines) old b d (t, base) hs two third
+        three : Reads UpToHistories to_histories old d ((t, base), hs)
+        three = reads_both UpToBase to_base HistoriesOf (λ p. histories_lines) old b d (t, base) hs two third
 
         pub refuses_callers : (e : ReportRefusal) → Refuses (CallersOf ((t, base), hs)) outcomes_lines d e
             → Refuses IsReport report_lines old e
-        refuses_callers e r = up4 e (refuses_second G3 R3 CallersOf (λ p. outcomes_lines) once3 old d ((t, base), hs) e three r)
+        refuses_callers e r = up4 e (refuses_second UpToHistories to_histories CallersOf (λ p. outcomes_lines) once_to_histories old d ((t, base), hs) e three r)
 
         module _ (f : Unread) (oss : List (List Outcome)) (fourth : Reads (CallersOf ((t, base), hs)) outcomes_lines d f oss) where
-          four : Reads G4 R4 old f (((t, base), hs), oss)
-          four = reads_both G3 R3 CallersOf (λ p. outcomes_lines) old d f ((t, base), hs) oss three fourth
+          four : Reads UpToCallers to_callers old f (((t, base), hs), oss)
+          four = reads_both UpToHistories to_histories CallersOf (λ p. outcomes_lines) old d f ((t, base), hs) oss three fourth
 
           pub refuses_image : (e : ReportRefusal) → Refuses (ImageOf (((t, base), hs), oss)) (start_rows (codes "image")) f e
               → Refuses IsReport report_lines old e
-          refuses_image e r = up5 e (refuses_second G4 R4 ImageOf (λ p. start_rows (codes "image")) once4 old f
+          refuses_image e r = up5 e (refuses_second UpToCallers to_callers ImageOf (λ p. start_rows (codes "image")) once_to_callers old f
               (((t, base), hs), oss) e four r)
 
           module _ (g : Unread) (image : ℕ × List State) (fifth : Reads (ImageOf (((t, base), hs), oss)) (start_rows
               (codes "image")) f g image) where
-            five : Reads G5 R5 old g ((((t, base), hs), oss), image)
-            five = reads_both G4 R4 ImageOf (λ p. start_rows (codes "image")) old f g (((t, base), hs), oss) image four fifth
+            five : Reads UpToImage to_image old g ((((t, base), hs), oss), image)
+            five = reads_both UpToCallers to_callers ImageOf (λ p. start_rows (codes "image")) old f g (((t, base), hs), oss) image four fifth
 
             pub refuses_end : (e : ReportRefusal) → Refuses (λ _. Unit {0}) (line_of_row end_words) g e
                 → Refuses IsReport report_lines old e
-            refuses_end e r = up6 e (refuses_second G5 R5 EndOf (λ p. line_of_row end_words) once5 old g
+            refuses_end e r = up6 e (refuses_second UpToImage to_image EndOf (λ p. line_of_row end_words) once_to_image old g
                 ((((t, base), hs), oss), image) e five r)
 
             pub reads_report : (new : Unread) → Reads (λ _. Unit {0}) (line_of_row end_words) g new tt
@@ -216,10 +216,10 @@ module _ (old : Unread) where
                   contents = image.1;
                 })
             reads_report new last =
-                let parts = reads_both G5 R5 EndOf (λ p. line_of_row end_words) old g new
+                let parts = reads_both UpToImage to_image EndOf (λ p. line_of_row end_words) old g new
                 ((((t, base), hs), oss), image) tt five last in
                 let whole = report_of_parts (((((t, base), hs), oss), image), tt) parts.is in
-                reads_other G6 R6 IsReport report_lines old new (((((t, base), hs), oss), image), tt) _ parts
+                reads_other UpToEnd to_end IsReport report_lines old new (((((t, base), hs), oss), image), tt) _ parts
                 (record {
                   layout = first.is.0;
                   some_callers = first.is.1;
@@ -238,7 +238,7 @@ unfolding parts_of_report
 report_once x y a b is are e =
     let p = parts_of_report x is in
     let q = parts_of_report y are in
-    let same = both_once G5 R5 EndOf (λ p. line_of_row end_words) once5 (λ p is. line_once
+    let same = both_once UpToImage to_image EndOf (λ p. line_of_row end_words) once_to_image (λ p is. line_once
     (λ _. Unit {0}) end_words end_part) p.0 q.0 a b p.1 q.1
     (ap (λ (rs : List Row). rs ++ a) p.2 ∙ e ∙ ap (λ (rs : List Row). rs ++ b) (sym q.2)) in
     joined_same same

@@ -75,7 +75,8 @@ uncarried_unit heap held old new q r many why items others unit same was running
 counts_serials : (r : RegionShown) → IsOfQueue r → IsTrue (is_queue r.books.layout r.books.unit)
 counts_serials r queue = ap (λ (o : Option UnitKind). is_of_kind o unit_kinds.Queue) queue
 
-next_above : (r : RegionShown) → IsOfQueue r → Agrees r → r.seat.held.part.written ≡ [] → IsNextSerial r.seat.held.part.records [] r.books.serial
+next_above : (r : RegionShown) → IsOfQueue r → Agrees r → r.seat.held.part.written ≡ []
+    → IsNextSerial r.seat.held.part.records [] r.books.serial
 next_above r queue agrees rests =
     subst (λ (ws : List Held). IsNextSerial r.seat.held.part.records ws r.books.serial) rests (agrees.1.serials (counts_serials r queue))
 
@@ -94,7 +95,8 @@ serial_last r q change queue none adds = (numbers_left q r (option_to_list chang
 -- where the region was as the unit held it, when it was planned and when it was carried out
 module _ (heap : HeapShown) (held new : RegionShown) (items : List Queued) (change : Option Change) (unit : IsQueueUnit held items)
     (running : held.books.halted ≡ None) (stood : IsStanding heap held) (stands : IsStanding heap new) (agrees : Agrees new) where
-  answered_at : (q r : CallerShown) (k : CallerPart) (op : Op) (receipt : Receipt) (slot : Option ℕ) → ChangesQueue held.books.serial items change
+  answered_at : (q r : CallerShown) (k : CallerPart) (op : Op) (receipt : Receipt) (slot : Option ℕ)
+      → ChangesQueue held.books.serial items change
       → first_at_end k held (option_to_list change) ≡ None → HasAnsweredCall heap held new q r op receipt
       → HasCarried held new (option_to_list change) receipt slot
       → IsQueueUnit new (items_behind items change (option_and_then (queued_at new.seat.held.part.records) slot))

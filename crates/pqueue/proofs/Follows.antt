@@ -28,7 +28,8 @@ use Rattle.pqueue.specs.QueuePlan.{ChangesQueue, adds_item, items_behind}
 use Rattle.pqueue.proofs.LiveItems.{live_items_move, item_comes_in, first_goes, serial_lives}
 
 -- ---- the record in a slot
-pub record_there : (rs : List Held) (r : Held) → AllPairs (λ (p q : Held). p.slot ≢ q.slot) rs → Contains rs r → record_in rs r.slot ≡ Some r
+pub record_there : (rs : List Held) (r : Held) → AllPairs (λ (p q : Held). p.slot ≢ q.slot) rs → Contains rs r
+    → record_in rs r.slot ≡ Some r
 record_there [] r apart c = absurd (no_element r c)
 record_there (p ∷ rs) r apart c = by (element_cases p rs r c)
     (λ d. record_there rs r (pairs_tail (λ (p q : Held). p.slot ≢ q.slot) p rs apart) d)
@@ -68,7 +69,8 @@ module _ (kept : List Held) (items : List Queued) (live : AreLiveItems kept item
       → AreLiveItems (kept ++ record_by unit next kept (Insert body) epoch slot ∷ [])
       (items ++ (let q : Queued = record { serial = serial; identity = next; slot = slot; item = item } in q) ∷ [])
   comes_in serial item body is some last low unused =
-      item_comes_in kept items (record_by unit next kept (Insert body) epoch slot) live (above_newest unit next kept (Insert body) epoch slot)
+      item_comes_in kept items (record_by unit next kept (Insert body) epoch slot) live
+      (above_newest unit next kept (Insert body) epoch slot)
       (record { serial = serial; identity = next; slot = slot; item = item }) refl refl refl
       (item_fits serial item body some last (ap item_in is ∙ item_back serial item)) unused low
 
@@ -89,7 +91,8 @@ module _ (old new : RegionShown) (items : List Queued) (live : AreLiveItems old.
       by None e = refl
       by (Some r) e =
           let newest = (live_facts (newest_of old.books.identity old.seat.held.part.records) r e).0 in
-          let is : IsNewest old.books.identity old.seat.held.part.records r = newest_is old.books.identity old.seat.held.part.records r newest in
+          let is : IsNewest old.books.identity old.seat.held.part.records r =
+          newest_is old.books.identity old.seat.held.part.records r newest in
           let low : r.label.identity < old.books.identity = All-contains (HasLowerIdentity old.books.identity)
           (old.seat.held.part.records ++ old.seat.held.part.written) r agrees.1.numbered
           (Contains-append_left old.seat.held.part.records old.seat.held.part.written r is.there) in
@@ -109,7 +112,8 @@ module _ (old new : RegionShown) (items : List Queued) (live : AreLiveItems old.
           one.0,
           c.last_is ∙ ap last_of one.1,
           c.records_are
-              ∙ ap (λ (l : List ℕ). c.kept ++ records_by old.books.unit old.books.identity c.kept receipt.entry.epoch (change ∷ []) l) one.1,
+              ∙ ap (λ (l : List ℕ). c.kept ++ records_by old.books.unit old.books.identity c.kept receipt.entry.epoch (change ∷ []) l)
+              one.1,
         )
 
     pub still_live : AreLiveItems c.kept items

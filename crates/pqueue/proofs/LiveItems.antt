@@ -86,7 +86,8 @@ stands_at (p ∷ items) serial item e = by (eq_by_cmp nat_cmp serial p.serial) r
     by true f g rest = (p, first_element p items, sym ((one_number serial p.serial).0 f), same_Some p.item item g)
     by false f g rest = let b = rest g in (b.0, later_element p items b.0 b.1, b.2, b.3)
 
-once_at : (items : List Queued) → AllPairs StandsBefore items → (p q : Queued) → Contains items p → Contains items q → p.serial ≡ q.serial → p ≡ q
+once_at : (items : List Queued) → AllPairs StandsBefore items → (p q : Queued) → Contains items p → Contains items q → p.serial ≡ q.serial
+    → p ≡ q
 once_at items rising p q c d e = elim (pair_cases StandsBefore items p q rising c d) [
   | inl same ↦ same
   | inr (inl low) ↦ let l : p.serial < q.serial = low in absurd (omega arith)
@@ -165,7 +166,8 @@ first_least rs q items k other h =
     ]
 
 -- ---- where the same records are live
-pub live_items_move : (rs qs : List Held) (items : List Queued) → ((i : ℕ) → live_of i qs ≡ live_of i rs) → AreLiveItems rs items → AreLiveItems qs items
+pub live_items_move : (rs qs : List Held) (items : List Queued) → ((i : ℕ) → live_of i qs ≡ live_of i rs) → AreLiveItems rs items
+    → AreLiveItems qs items
 live_items_move rs qs items same k = record {
   each = all_elements (IsLiveItem qs) items (λ q c.
       let l : IsLiveItem rs q = All-contains (IsLiveItem rs) items q k.each c in
@@ -191,7 +193,8 @@ live_else rs w i above other = live_push rs w i above ∙ by (w.label.identity =
     by true e = absurd (other (grind (arith, nat_tests)))
     by false e = refl
 
-live_here : (rs : List Held) (w : Held) → IsAbove (newest_of w.label.identity rs) w → live_of w.label.identity (rs ++ w ∷ []) ≡ live_if (Some w)
+live_here : (rs : List Held) (w : Held) → IsAbove (newest_of w.label.identity rs) w
+    → live_of w.label.identity (rs ++ w ∷ []) ≡ live_if (Some w)
 live_here rs w above = live_push rs w w.label.identity above ∙ by (w.label.identity == w.label.identity) refl
   where
     by : (b : Bool) → (w.label.identity == w.label.identity) ≡ b
@@ -220,7 +223,8 @@ pairs_push (p ∷ items) q rising low = AllPairs-cons StandsBefore p (items ++ q
     at x (inl c) = All-contains (StandsBefore p) items x (pairs_head StandsBefore p items rising) c
     at x (inr e) = subst (StandsBefore p) (sym e) (low p (first_element p items))
 
-module _ (rs : List Held) (items : List Queued) (w : Held) (k : AreLiveItems rs items) (above : IsAbove (newest_of w.label.identity rs) w) where
+module _ (rs : List Held) (items : List Queued) (w : Held) (k : AreLiveItems rs items)
+    (above : IsAbove (newest_of w.label.identity rs) w) where
   -- an item of another identity stays live
   still_live : (q : Queued) → Contains items q → q.identity ≢ w.label.identity → IsLiveItem (rs ++ w ∷ []) q
   still_live q c other =

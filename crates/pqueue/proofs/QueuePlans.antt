@@ -71,7 +71,8 @@ module _ (r : RegionShown) (items : List Queued) (unit : IsQueueUnit r items) (r
   none_stands u none of_unit = record {
     of_unit = of_unit;
     state = QueueOf [];
-    shown = subst (λ (l : List Queued). HasStructure r.books.layout r.books.unit r.seat.held.part.records (QueueOf (items_in l))) none shown;
+    shown = subst (λ (l : List Queued). HasStructure r.books.layout r.books.unit r.seat.held.part.records (QueueOf (items_in l))) none
+        shown;
     replies = refl;
     makes = tt;
   }
@@ -95,7 +96,8 @@ module _ (r : RegionShown) (items : List Queued) (unit : IsQueueUnit r items) (r
       record {
         of_unit = of_unit;
         state = QueueOf (q.item ∷ items_in rest);
-        shown = subst (λ (l : List Queued). HasStructure r.books.layout r.books.unit r.seat.held.part.records (QueueOf (items_in l))) is shown;
+        shown = subst (λ (l : List Queued). HasStructure r.books.layout r.books.unit r.seat.held.part.records (QueueOf (items_in l))) is
+            shown;
         replies = refl;
         makes = (named, tt);
       }

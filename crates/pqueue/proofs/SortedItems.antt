@@ -101,11 +101,13 @@ rising_items : (items : List Queued) → IsNonDecreasingBy (λ (q : Queued). q.s
 rising_items [] sorted once = λ i j d lt within. absurd (omega arith)
 rising_items (q ∷ items) sorted once = AllPairs-cons StandsBefore q items
     (all_elements (StandsBefore q) items (λ p c.
-    let low : q.serial ≤ p.serial = subst (λ (x : Queued). q.serial ≤ x.serial) c.2 (sorted 0 (suc c.0) p (omega arith) (omega (arith, c.1))) in
+    let low : q.serial ≤ p.serial =
+    subst (λ (x : Queued). q.serial ≤ x.serial) c.2 (sorted 0 (suc c.0) p (omega arith) (omega (arith, c.1))) in
     let other : p.serial ≢ q.serial = λ e.
     let most = once q.serial in
     let some = count_some q.serial items p c e in
-    let more = count_more q.serial q items ∙ ap (λ (b : Bool). (if b then 1 else 0) + count_at q.serial items) (eq-eqb q.serial q.serial refl) in
+    let more = count_more q.serial q items
+    ∙ ap (λ (b : Bool). (if b then 1 else 0) + count_at q.serial items) (eq-eqb q.serial q.serial refl) in
     absurd (omega arith) in
     let below : q.serial < p.serial = grind arith in below))
     (rising_items items (λ i j d le lt. sorted (suc i) (suc j) d (omega arith) (omega arith)) (λ n.
@@ -194,7 +196,8 @@ queue_shown : (s : Shape) (u : ℕ) (rs : List Held) (state : State) → kind_of
     → (items : List ℕ) × HasItems rs items
 queue_shown s u rs (MapOf m) queue h = let e = same_Some (kind_of_state (MapOf m)) unit_kinds.Queue (sym h.of_unit ∙ queue) in absurd (cc e)
 queue_shown s u rs (QueueOf items) queue h = (items, h.things)
-queue_shown s u rs (GraphOf g) queue h = let e = same_Some (kind_of_state (GraphOf g)) unit_kinds.Queue (sym h.of_unit ∙ queue) in absurd (cc e)
+queue_shown s u rs (GraphOf g) queue h = let e = same_Some (kind_of_state (GraphOf g)) unit_kinds.Queue (sym h.of_unit ∙ queue) in
+    absurd (cc e)
 
 pub items_sorted : (s : Shape) (u : ℕ) (rs : List Held) (state : State) (items : List Queued) → AreApart rs
     → kind_of s u ≡ Some unit_kinds.Queue → IsStructure s u (live_objects rs) state

@@ -1,5 +1,5 @@
-//! A queue as a unit of a store: its items stand in the records of a region, and in memory by rising
-//! serial.
+//! A queue as a unit of a store: its items stand in the records of a region, and in memory by
+//! rising serial.
 #![tactic(auto)]
 
 mod pqueue;

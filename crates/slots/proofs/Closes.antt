@@ -61,7 +61,8 @@ queue_short (t ∷ ts) rs h =
 module _ (recs : List Held) (t : Retired) (ts : List Retired) (lost : List ℕ) (h : List Entry) (frozen : Option ℕ) (b : BooksShown)
     (k : AreBooks recs (t ∷ ts) lost [] h frozen b) where
   in_records : 1 ≤ times t.slot (slots_in recs)
-  in_records = let due = k.retires.0 in subst (λ (n : ℕ). 1 ≤ times n (slots_in recs)) due.in_slot (record_times recs due.due_record due.there)
+  in_records = let due = k.retires.0 in
+      subst (λ (n : ℕ). 1 ≤ times n (slots_in recs)) due.in_slot (record_times recs due.due_record due.there)
 
   once : times t.slot b.free + times t.slot (slots_in recs) + times t.slot (slots_in []) + times t.slot lost ≤ 1
   once = slot_once recs (t ∷ ts) lost [] h frozen b k t.slot

@@ -219,7 +219,8 @@ module _ (s : Shape) (u : ℕ) (layout : IsLayout s) (inside : u < units_of s) (
           let none = among_none x lost f in
           let gone = dropped_times (is_closed recs lost) x (slots_of s u) (closed_is true false e f) in
           let own = own_of (rec_own x one) in
-          let sum : times x (free_at_first s u recs lost) + times x (slots_in recs) + times x (slots_in []) + times x lost ≡ 1 = omega arith in
+          let sum : times x (free_at_first s u recs lost) + times x (slots_in recs) + times x (slots_in []) + times x lost ≡ 1 =
+          omega arith in
           sum ∙ sym own
       by false true e f range =
           let one = among_there x lost f in
@@ -227,7 +228,8 @@ module _ (s : Shape) (u : ℕ) (layout : IsLayout s) (inside : u < units_of s) (
           let none = among_none x (slots_in recs) e in
           let gone = dropped_times (is_closed recs lost) x (slots_of s u) (closed_is false true e f) in
           let own = own_of (lost_own_slot x one) in
-          let sum : times x (free_at_first s u recs lost) + times x (slots_in recs) + times x (slots_in []) + times x lost ≡ 1 = omega arith in
+          let sum : times x (free_at_first s u recs lost) + times x (slots_in recs) + times x (slots_in []) + times x lost ≡ 1 =
+          omega arith in
           sum ∙ sym own
       by false false e f range =
           let none = among_none x (slots_in recs) e in
@@ -255,7 +257,8 @@ module _ (s : Shape) (u : ℕ) (layout : IsLayout s) (inside : u < units_of s) (
       let m : times y z ≤ 1 = once_of_range y in omega arith) in
       let b : sum_by (λ x. times x (slots_in recs)) z ≡ length (slots_in recs) =
       sum_times (slots_in recs) z (λ y c. one_of_range y (rec_own y (times_there y (slots_in recs) c))) in
-      let c : sum_by (λ x. times x lost) z ≡ length lost = sum_times lost z (λ y c. one_of_range y (lost_own_slot y (times_there y lost c))) in
+      let c : sum_by (λ x. times x lost) z ≡ length lost =
+      sum_times lost z (λ y c. one_of_range y (lost_own_slot y (times_there y lost c))) in
       let sums : sum_by (λ x. times x free + times x (slots_in recs) + times x lost) z ≡ sum_by (λ x. 1) z =
       sum_same (λ x. times x free + times x (slots_in recs) + times x lost) (λ x. 1) z (λ x c.
       let each = each_once x in

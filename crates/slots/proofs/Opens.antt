@@ -99,7 +99,9 @@ module _ (s : Shape) (u : ℕ) (layout : IsLayout s) (inside : u < units_of s) w
         fresh_are,
   )
 
-  pub fresh_region : (seat : UnitShown) (books : BooksShown) → seat.held.unit ≡ u → BeginsWith seat.held.part [] [] → books ≡ fresh_books s u
+  pub fresh_region : (seat : UnitShown) (books : BooksShown) → seat.held.unit ≡ u → BeginsWith seat.held.part [] []
+      → books ≡ fresh_books s u
       → (let r : RegionShown = record { seat = seat; books = books } in Agrees r)
   fresh_region seat books of_unit starts is =
-      subst (λ (b : BooksShown). let r : RegionShown = record { seat = seat; books = b } in Agrees r) (sym is) (fresh_agrees seat of_unit starts)
+      subst (λ (b : BooksShown). let r : RegionShown = record { seat = seat; books = b } in
+      Agrees r) (sym is) (fresh_agrees seat of_unit starts)

@@ -254,11 +254,13 @@ module _ (r : RegionShown) (change : Change) (epoch slot : ℕ) (agrees : Agrees
         serial = serial_after r.books change;
       })
 
-      follows : (let x : RegionShown = record { seat = seat_put r change epoch slot; books = books_put r change epoch slot (drop 1 r.books.free) } in
+      follows : (let x : RegionShown =
+          record { seat = seat_put r change epoch slot; books = books_put r change epoch slot (drop 1 r.books.free) } in
           Agrees x)
       follows = let p = r.seat.held.part in (
         agrees.0,
-        put_books p.records p.retired p.lost p.written p.history p.frozen r.books agrees.1 (put_by r change epoch slot) (drop 1 r.books.free)
+        put_books p.records p.retired p.lost p.written p.history p.frozen r.books agrees.1 (put_by r change epoch slot)
+            (drop 1 r.books.free)
             (identity_after r.books.identity change) (serial_after r.books change) free_shape (subst (IsRecordOf r.books.unit) is valid)
             (grows p.records p.retired p.lost p.written p.history p.frozen r.books agrees.1 change)
             (low_identity p.records p.retired p.lost p.written p.history p.frozen r.books agrees.1 change may.names)

@@ -66,8 +66,10 @@ module _ (recs : List Held) (lost : List ℕ) (h : List Entry) (frozen : Option 
   books_follow [] wr k none due = absurd due
   books_follow (t ∷ ts) wr k none due =
       let j = subst (λ (ws : List Held). AreBooks recs (t ∷ ts) lost ws h frozen b) none k in
-      subst (λ (n : ℕ). AreBooks (without_slot n recs) (without_retired n (t ∷ ts)) (without_lost n lost) wr h frozen (books_closed b n)) due.0
-      (subst (λ (x : (List Held) × (List Retired) × (List ℕ)). AreBooks (without_slot t.slot recs) x.1 x.2 x.0 h frozen (books_closed b t.slot))
+      subst (λ (n : ℕ). AreBooks (without_slot n recs) (without_retired n (t ∷ ts)) (without_lost n lost) wr h frozen (books_closed b n))
+      due.0
+      (subst (λ (x : (List Held) × (List Retired) × (List ℕ)).
+      AreBooks (without_slot t.slot recs) x.1 x.2 x.0 h frozen (books_closed b t.slot))
       (λ i. (sym none i, sym (queue_rest recs t ts lost h frozen b j) i, sym (lost_same recs t ts lost h frozen b j) i))
       (closed_books recs t ts lost h frozen b j))
 
@@ -145,26 +147,27 @@ pub begins : (heap : HeapShown) (old now : RegionShown) (clock : ℕ) → IsRegi
     → IsAtRest old.seat.held.part
     → now ≡ record { seat = record old.seat { held = unit_loaded_durable old.seat.held clock }; books = old.books }
     → clock_of heap.opening.words ≤ clock → IsSound heap now → IsReclaiming heap old now clock
-begins heap old now clock region agrees running rests is begun sound = subst (λ (x : RegionShown). IsReclaiming heap old x clock) (sym is) (record {
-  closed = [];
-  due = refl;
-  has = record {
-    seat_is = refl;
-    books_are = λ i. record (books_shown old.seat.held.part old.books agrees.1 i) { free = sym (append-nil old.books.free) i };
-    queue_is = refl;
-    others_are = refl;
-    part_is = refl;
-  };
-  agrees = agrees;
-  rests = record { stage = rests.stage; written = rests.written; writing = rests.writing };
-  running = running;
-  region = record { table = region.table; layout = region.layout };
-  known = refl;
-  clean = λ units c. c;
-  live = λ i. refl;
-  begun = begun;
-  sound = subst (IsSound heap) is sound;
-})
+begins heap old now clock region agrees running rests is begun sound =
+    subst (λ (x : RegionShown). IsReclaiming heap old x clock) (sym is) (record {
+      closed = [];
+      due = refl;
+      has = record {
+        seat_is = refl;
+        books_are = λ i. record (books_shown old.seat.held.part old.books agrees.1 i) { free = sym (append-nil old.books.free) i };
+        queue_is = refl;
+        others_are = refl;
+        part_is = refl;
+      };
+      agrees = agrees;
+      rests = record { stage = rests.stage; written = rests.written; writing = rests.writing };
+      running = running;
+      region = record { table = region.table; layout = region.layout };
+      known = refl;
+      clean = λ units c. c;
+      live = λ i. refl;
+      begun = begun;
+      sound = subst (IsSound heap) is sound;
+    })
 
 -- one more unit that is known to have none
 clean_more : (u v : ℕ) (clean : List ℕ) → is_among clean v ≡ true → is_among (u ∷ clean) v ≡ true
@@ -178,7 +181,8 @@ both : (a b : Bool) → (a && b) ≡ true → (a ≡ true) × (b ≡ true)
 both true b e = (refl, e)
 both false b e = absurd (cc)
 
-still_clean : (units u : ℕ) (clean : List ℕ) (p : UnitPart) → IsTrue (are_clean units clean) → IsTrue (are_clean units (with_clean clean u p))
+still_clean : (units u : ℕ) (clean : List ℕ) (p : UnitPart) → IsTrue (are_clean units clean)
+    → IsTrue (are_clean units (with_clean clean u p))
 still_clean units u clean p c = by (is_empty p.lost)
   where
     more : (n : ℕ) → IsTrue (are_clean n clean) → IsTrue (are_clean n (u ∷ clean))
@@ -276,7 +280,8 @@ module _ (heap : HeapShown) (old now : RegionShown) (clock : ℕ) (k : IsReclaim
         books_are = (λ i. record (books_showing (k.has.books_are i) (first_closed now t.slot).seat.held.part) {
           free = free_now i ++ t.slot ∷ [];
         })
-            ∙ ap (λ (l : List ℕ). let b : BooksShown = record (books_showing old.books (first_closed now t.slot).seat.held.part) { free = l } in b)
+            ∙ ap (λ (l : List ℕ). let b : BooksShown =
+            record (books_showing old.books (first_closed now t.slot).seat.held.part) { free = l } in b)
             (append_assoc old.books.free (map (λ (v : Retired). v.slot) k.closed) (t.slot ∷ [])
             ∙ ap (λ (l : List ℕ). old.books.free ++ l) (sym (map-append (λ (v : Retired). v.slot) k.closed (t ∷ []))));
         queue_is = k.has.queue_is ∙ ap (λ (l : List Retired). k.closed ++ l) (shape ∙ ap (λ (l : List Retired). t ∷ l) (sym behind))
@@ -298,7 +303,8 @@ module _ (heap : HeapShown) (old now : RegionShown) (clock : ℕ) (k : IsReclaim
       running = sym k.agrees.1.halted_is ∙ k.running;
       region = record { table = k.region.table; layout = k.region.layout };
       known = k.known;
-      clean = λ units c. still_clean units now.seat.held.unit now.seat.held.clean (first_closed now t.slot).seat.held.part (k.clean units c);
+      clean = λ units c. still_clean units now.seat.held.unit now.seat.held.clean (first_closed now t.slot).seat.held.part
+          (k.clean units c);
       live = λ i. live_left i ∙ k.live i;
       begun = k.begun;
       sound = sound;

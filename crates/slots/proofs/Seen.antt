@@ -111,7 +111,8 @@ lost_in_heap heap v slot region agrees first =
 -- ---- answers
 module _ (r v : RegionShown) (receipt : Receipt) (is : r ≡ v) (j : HasJustAnswered v receipt) where
   pub own_answered : All (IsOwnSlot r.books.layout r.books.unit) r.books.written
-  own_answered = subst (λ (x : RegionShown). All (IsOwnSlot x.books.layout x.books.unit) x.books.written) (sym is) (own_of_answer v receipt j)
+  own_answered = subst (λ (x : RegionShown). All (IsOwnSlot x.books.layout x.books.unit) x.books.written) (sym is)
+      (own_of_answer v receipt j)
 
   pub room_answered : length (r.books.retired ++ flat_map retired_with r.books.written) ≤ r.books.layout.slots
   room_answered = subst (λ (x : RegionShown). length (x.books.retired ++ flat_map retired_with x.books.written) ≤ x.books.layout.slots)
@@ -166,7 +167,8 @@ module _ (heap : HeapShown) (r v : RegionShown) (is : r ≡ v) (change : Change)
         identity = identity_after r.books.identity change;
         serial = serial_after r.books change;
       }
-      → (let new : RegionShown = record { seat = seat; books = books } in HasPut v new change epoch slot × Agrees new × StaysOpen heap v new)
+      → (let new : RegionShown = record { seat = seat; books = books } in
+      HasPut v new change epoch slot × Agrees new × StaysOpen heap v new)
   put_at before seat books named s b =
       let seat_is : seat ≡ record v.seat { held = unit_put v.seat.held w } =
       s ∙ (λ i. record (is i).seat { held = unit_put (is i).seat.held w }) in
@@ -184,7 +186,8 @@ module _ (heap : HeapShown) (r v : RegionShown) (is : r ≡ v) (change : Change)
       )
 
   pub cut_at : (seat : UnitShown) → IsUnfinishedAt r.seat seat w
-      → (let new : RegionShown = record { seat = seat; books = r.books } in WasCutPutting v new change epoch × Agrees new × StaysOpen heap v new)
+      → (let new : RegionShown = record { seat = seat; books = r.books } in
+      WasCutPutting v new change epoch × Agrees new × StaysOpen heap v new)
   cut_at seat cut =
       let c : IsUnfinishedAt v.seat seat w = subst (λ (x : RegionShown). IsUnfinishedAt x.seat seat w) is cut in
       let has = put_cut v change epoch slot agrees first_seen w seat writes c in
@@ -198,7 +201,8 @@ pub begins_at : (heap : HeapShown) (r v : RegionShown) (clock : ℕ) (seat : Uni
     → v.books.halted ≡ None → IsAtRest v.seat.held.part → seat ≡ record r.seat { held = unit_loaded_durable r.seat.held clock }
     → (now : ℕ) × IsSoundUnit heap.opening now clock seat.held
     → (let now : RegionShown = record { seat = seat; books = r.books } in IsReclaiming heap v now clock)
-begins_at heap r v clock seat is region agrees running rests s sound = begins heap v (record { seat = seat; books = r.books }) clock region agrees
+begins_at heap r v clock seat is region agrees running rests s sound =
+    begins heap v (record { seat = seat; books = r.books }) clock region agrees
     running rests (λ i. record {
       seat = (s ∙ (λ j. record (is j).seat { held = unit_loaded_durable (is j).seat.held clock })) i;
       books = (is i).books;

@@ -94,7 +94,8 @@ module _ (recs : List Held) (ret : List Retired) (lost : List ℕ) (wr : List He
       (λ x. let most = slot_once recs ret lost wr h frozen b k x in omega arith)
 
   queue_placed : b.retired ++ flat_map retired_with b.written ≡ ret ++ retired_by_all recs wr
-  queue_placed = (λ i. k.retired_are i ++ flat_map retired_with (k.written_are i)) ∙ ap (λ (l : List Retired). ret ++ l) (retired_each recs wr)
+  queue_placed = (λ i. k.retired_are i ++ flat_map retired_with (k.written_are i))
+      ∙ ap (λ (l : List Retired). ret ++ l) (retired_each recs wr)
 
   pub written_in_unit : All (IsOwnSlot b.layout b.unit) b.written
   written_in_unit = subst (All (IsOwnSlot b.layout b.unit)) (sym k.written_are) (each wr written_own)
@@ -196,10 +197,12 @@ answered_books r receipt j =
     let k : AreBooksOf p r.books = j.books_are in
     subst (λ (n : ℕ). AreBooksOf r.seat.held.part (record (settled r.books) { places = n + 1; newest = receipt.entry.epoch })) (sym j.place)
     (elim j.answered [
-      | inl l ↦ subst (λ (q : UnitPart). AreBooksOf q (record (settled r.books) { places = length p.history + 1; newest = receipt.entry.epoch }))
+      | inl l ↦ subst (λ (q : UnitPart).
+          AreBooksOf q (record (settled r.books) { places = length p.history + 1; newest = receipt.entry.epoch }))
           (sym l.leaves)
           (left_books p.records p.retired p.lost p.written p.history p.frozen r.books k l.state receipt.entry l.shown l.changes)
-      | inr l ↦ subst (λ (q : UnitPart). AreBooksOf q (record (settled r.books) { places = length p.history + 1; newest = receipt.entry.epoch }))
+      | inr l ↦ subst (λ (q : UnitPart).
+          AreBooksOf q (record (settled r.books) { places = length p.history + 1; newest = receipt.entry.epoch }))
           (sym l.reads)
           (read_books p.records p.retired p.lost p.written p.history p.frozen r.books k receipt.entry l.rests.written)
     ])

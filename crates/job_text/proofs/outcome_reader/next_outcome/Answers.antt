@@ -8,13 +8,20 @@ use Rattle.job_text.proofs.outcome_reader.next_outcome.Goals as goal
 
 pub returns-in_err-words : goal.returns-in_err-words
 returns-in_err-words c =
-    at_exit c.from_residual.result c.in_err-words.field-0.0 _ (Refuses (IsOutcomeAt c.args.units c.args.callers c.args.count c.args.place) (line_of_row outcome_words) c.args.lines.now) c.from_residual.ensures.1
-    (refuses_none (IsOutcomeAt c.args.units c.args.callers c.args.count c.args.place) outcome_words (outcome_part c.args.units c.args.callers c.args.count c.args.place) c.args.lines.now _ c.in_err-words.ensures)
+    at_exit c.from_residual.result c.in_err-words.field-0.0 _
+    (Refuses (IsOutcomeAt c.args.units c.args.callers c.args.count c.args.place) (line_of_row outcome_words) c.args.lines.now)
+    c.from_residual.ensures.1
+    (refuses_none (IsOutcomeAt c.args.units c.args.callers c.args.count c.args.place) outcome_words
+    (outcome_part c.args.units c.args.callers c.args.count c.args.place) c.args.lines.now _ c.in_err-words.ensures)
 
 pub returns-in-Some : goal.returns-in-Some
 returns-in-Some c =
-    reads_words (IsOutcomeAt c.args.units c.args.callers c.args.count c.args.place) outcome_words (outcome_part c.args.units c.args.callers c.args.count c.args.place) _ _ _ _ c.in_ok-words.ensures c.as_slice.ensures.value c.in-Some.outcome c.in-Some.ensures
+    reads_words (IsOutcomeAt c.args.units c.args.callers c.args.count c.args.place) outcome_words
+    (outcome_part c.args.units c.args.callers c.args.count c.args.place) _ _ _ _ c.in_ok-words.ensures c.as_slice.ensures.value
+    c.in-Some.outcome c.in-Some.ensures
 
 pub returns-in-None : goal.returns-in-None
 returns-in-None c =
-    refuses_words (IsOutcomeAt c.args.units c.args.callers c.args.count c.args.place) outcome_words (outcome_part c.args.units c.args.callers c.args.count c.args.place) _ _ _ _ c.in_ok-words.ensures c.as_slice.ensures.value _ c.refused.ensures c.in-None.ensures
+    refuses_words (IsOutcomeAt c.args.units c.args.callers c.args.count c.args.place) outcome_words
+    (outcome_part c.args.units c.args.callers c.args.count c.args.place) _ _ _ _ c.in_ok-words.ensures c.as_slice.ensures.value _
+    c.refused.ensures c.in-None.ensures

@@ -19,7 +19,8 @@ returns-in_err-outcome c =
     (Refuses (AllOf (IsOutcomeAt u n m) m) (rows_from (outcome_rows u n) 0) c.args.lines.now)
     c.from_residual.ensures.1
     (each_refuses (IsOutcomeAt u n m) (outcome_rows u n) (outcome_once u n m) m (some_outcome u n m m) c.args.lines.now c.loop-place.lines
-    c.loop-place.outcomes c.loop-place.place _ c.loop-place.invariant.0 c.loop-place.invariant.1 c.loop-place-test.true c.in_err-outcome.ensures)
+    c.loop-place.outcomes c.loop-place.place _ c.loop-place.invariant.0 c.loop-place.invariant.1 c.loop-place-test.true
+    c.in_err-outcome.ensures)
 
 pub loop-place-preserved : goal.loop-place-preserved
 loop-place-preserved c =

@@ -4,14 +4,16 @@ use Rattle.pqueue.proofs.queue_plan.plan.Goals as goal
 
 pub returns-in-Enq-clause-plan : goal.returns-in-Enq-clause-plan
 returns-in-Enq-clause-plan c = enq_planned c.args.region.now c.args.items.now.items c.requires.unit c.requires.running
-    c.args.op.now c.in-Enq.unit c.in-Enq.item c.next_serial.result c.enq.result c.in-Enq.is c.next_serial.ensures c.enq.ensures c.requires.op
+    c.args.op.now c.in-Enq.unit c.in-Enq.item c.next_serial.result c.enq.result c.in-Enq.is c.next_serial.ensures c.enq.ensures
+    c.requires.op
 
 pub returns-in-Deq-clause-plan : goal.returns-in-Deq-clause-plan
 returns-in-Deq-clause-plan c = deq_planned c.args.region.now c.args.items.now.items c.requires.unit c.requires.running
     c.args.op.now c.in-Deq.unit c.first_of.result c.deq.result c.in-Deq.is c.first_of.ensures c.deq.ensures c.requires.op
 
 pub returns-in-Deq-clause-change : goal.returns-in-Deq-clause-change
-returns-in-Deq-clause-change c = deq_changes c.args.region.now c.args.items.now.items c.first_of.result c.deq.result c.first_of.ensures c.deq.ensures
+returns-in-Deq-clause-change c =
+    deq_changes c.args.region.now c.args.items.now.items c.first_of.result c.deq.result c.first_of.ensures c.deq.ensures
 
 pub returns-in-Len-clause-plan : goal.returns-in-Len-clause-plan
 returns-in-Len-clause-plan c = len_planned c.args.region.now c.args.items.now.items c.requires.unit c.requires.running

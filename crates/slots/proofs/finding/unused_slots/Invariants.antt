@@ -7,4 +7,5 @@ use Rattle.slots.proofs.finding.unused_slots.Given as goal
 
 abbrev pub invariant-loop-place : goal.invariant-loop-place
 invariant-loop-place l =
-    (l.unused.items ≡ filter (is_unused l.first l.rows l.marks) (range_with_len l.first l.place)) × (length l.rows ≤ deque_capacity l.unused)
+    (l.unused.items ≡ filter (is_unused l.first l.rows l.marks) (range_with_len l.first l.place))
+    × (length l.rows ≤ deque_capacity l.unused)

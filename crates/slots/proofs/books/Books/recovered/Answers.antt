@@ -40,12 +40,15 @@ returns-clause-books c =
     let free_are = c.in_ok-free.ensures.items
     ∙ ap (λ (n : ℕ). filter (is_unused (c.args.unit * n) c.deref.result.now c.deref-2.result.now)
     (range_with_len (c.args.unit * n) (length c.deref.result.now))) c.slots-slots.ensures.value in
-    let rows_end = rows_are ∙ rows_found c.args.layout c.args.unit c.slots-slots.ensures.layout c.args.records.now c.args.lost.now c.requires.found in
+    let rows_end = rows_are
+    ∙ rows_found c.args.layout c.args.unit c.slots-slots.ensures.layout c.args.records.now c.args.lost.now c.requires.found in
     let free_end = free_found c.args.layout c.args.unit c.slots-slots.ensures.layout c.args.records.now c.args.lost.now c.requires.found
-    c.deref.result.now c.deref-2.result.now c.in_ok-free.free.items (c.deref.ensures.value ∙ rows_are) (c.deref-2.ensures.value ∙ open_are) free_are in
+    c.deref.result.now c.deref-2.result.now c.in_ok-free.free.items (c.deref.ensures.value ∙ rows_are) (c.deref-2.ensures.value
+    ∙ open_are) free_are in
     let retired_end = c.in_ok-retired.ensures.items ∙ ap retired_among sorted_is in
     let lost_end : c.from_vec.result.items ≡ c.args.lost.now = search rules in
-    let serial_end = serial_found c.args.layout c.args.unit c.slots-slots.ensures.layout c.args.records.now c.args.lost.now c.requires.found _ _ waiting_is c.in_ok-serial.ensures in
+    let serial_end = serial_found c.args.layout c.args.unit c.slots-slots.ensures.layout c.args.records.now c.args.lost.now c.requires.found
+    _ _ waiting_is c.in_ok-serial.ensures in
     λ i. record {
       layout = c.args.layout;
       unit = c.args.unit;
