@@ -1,0 +1,16 @@
+mod Shelved
+mod Passing
+mod NodeMaps
+mod Incidences
+mod IndexKept
+mod EdgesInOrder
+mod Attributes
+mod GraphPlans
+pub mod EdgesChecked
+mod RemovalNumbers
+mod NodeFacts
+mod GraphBehind
+mod GraphCalls
+mod ObjectNodes
+mod GraphScans
+mod GraphBegins

@@ -1,0 +1,9 @@
+pub mod Shelf
+pub mod GraphIndex
+pub mod EdgesAt
+pub mod GraphEdit
+pub mod GraphPlan
+pub mod LiveNodes
+pub mod PGraph
+pub mod GraphCall
+pub mod GraphBeginning

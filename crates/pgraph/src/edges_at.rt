@@ -1,0 +1,56 @@
+// The edges from or to a vertex, one behind the other.
+ghost use Rattle.std.specs.Prelude.{◌≡◌};
+ghost use Rattle.std.specs.Iterator.{YieldsFirst, item_count};
+ghost use Rattle.pgraph.specs.EdgesAt.{AreThere, edges_behind};
+
+use crate::node::{Ends, Node};
+use crate::shelf::Shelf;
+use std::collections::btree_set::Range;
+use std::marker::Model;
+
+// Each edge with its node. Contracts see those that are still to come.
+#[derive(Drop)]
+pub(crate) struct EdgesAt<'a> {
+    incidences: Range<'a, (u64, Ends)>,
+    edges: &'a Shelf<Ends, Node>,
+}
+
+impl<'a> Model for EdgesAt<'a> {
+    ghost use Rattle.std.specs.Prelude.{List};
+    ghost use Rattle.mont_base.specs.State.{Ends};
+    ghost use Rattle.pgraph.specs.declared.node.Node.{Node};
+    ghost use Rattle.pgraph.specs.EdgesAt.{AreThere, edges_behind};
+
+    ghost Value = { List (Ends × Node) };
+
+    ghost view = { λ s. edges_behind s.edges.now s.incidences };
+
+    ghost invariant = { λ s. AreThere s.edges.now s.incidences };
+}
+
+impl<'a> EdgesAt<'a> {
+    // The edges that stand behind a vertex.
+    pub(crate) fn new(
+        incidences: Range<'a, (u64, Ends)>,
+        edges: &'a Shelf<Ends, Node>,
+    ) -> EdgesAt<'a>
+        requires { AreThere edges.now incidences }
+        ensures { result ≡ edges_behind edges.now incidences.entry }
+    {
+        EdgesAt { incidences, edges }
+    }
+}
+
+impl<'a> Iterator for EdgesAt<'a> {
+    type Item = (Ends, Node);
+
+    ghost next_gives = { YieldsFirst (λ s. s) };
+
+    ghost remaining = { item_count (λ s. s) };
+
+    fn next(&mut self) -> Option<(Ends, Node)> {
+        let (_, ends) = *self.incidences.next()?;
+        let node = self.edges.get(ends)?;
+        Some((ends, node))
+    }
+}

@@ -1,0 +1,85 @@
+// Values in a slab, each found by its name in an ordered map.
+ghost use Rattle.std.specs.Prelude.{◌≡◌, ◌<◌, ◌^◌, length, [], Some, None, IsSome, OnOk, OnErr};
+ghost use Rattle.pgraph.specs.Shelf.{value_of, SetsValue};
+
+use slab::Slab;
+use std::alloc::{AllocError, Global};
+use std::collections::BTreeMap;
+use std::marker::Model;
+
+// Contracts see the values with their names, by rising name.
+#[derive(Drop)]
+pub(crate) struct Shelf<K: Ord, V> {
+    keys: BTreeMap<K, usize>,
+    values: Slab<V>,
+}
+
+impl<K: Ord, V> Model for Shelf<K, V> {
+    ghost use Rattle.std.specs.Prelude.{List};
+    ghost use Rattle.pgraph.specs.Shelf.{shelved, AreShelved};
+
+    ghost Value = { List (K × V) };
+
+    ghost view = { λ s. shelved s.values s.keys.entries };
+
+    ghost invariant = { λ s. AreShelved K.cmp s.values s.keys.entries };
+}
+
+impl<K: Ord + Copy, V: Copy> Shelf<K, V> {
+    // No values. It allocates nothing.
+    pub(crate) fn new(alloc: Global) -> Shelf<K, V>
+        ensures { result ≡ [] }
+    {
+        Shelf {
+            keys: BTreeMap::new(alloc),
+            values: Slab::new(alloc),
+        }
+    }
+
+    // The value of a name, if it has one.
+    pub(crate) fn get(&self, name: K) -> Option<V>
+        ensures { result ≡ value_of K.cmp self.now name }
+    {
+        let key = *self.keys.get(&name)?;
+        self.values.get(key).copied()
+    }
+
+    // How many values there are.
+    pub(crate) fn len(&self) -> usize
+        ensures value { result ≡ length self.now }
+        ensures few { result < 2 ^ 63 }
+    {
+        self.keys.len()
+    }
+
+    // Gives a name its value.
+    pub(crate) fn insert(&mut self, name: K, value: V) -> Result<(), AllocError>
+        requires { value_of K.cmp self.old name ≡ None }
+        ensures ok { OnOk result (SetsValue K.cmp self.old self.new name (Some value)) }
+        ensures err { OnErr result (self.new ≡ self.old) }
+    {
+        self.values.reserve(1)?;
+        let key = self.values.vacant_key();
+        self.keys.insert(name, key)?;
+        self.values.insert_reserved(value);
+        Ok(())
+    }
+
+    // Sets the value of a name that has one.
+    pub(crate) fn set(&mut self, name: K, value: V)
+        requires { IsSome (value_of K.cmp self.old name) }
+        ensures { SetsValue K.cmp self.old self.new name (Some value) }
+    {
+        let key = self.keys[&name];
+        self.values[key] = value;
+    }
+
+    // Takes the value of a name, if it has one.
+    pub(crate) fn remove(&mut self, name: K) -> Option<V>
+        ensures value { result ≡ value_of K.cmp self.old name }
+        ensures taken { SetsValue K.cmp self.old self.new name None }
+    {
+        let key = self.keys.remove(&name)?;
+        self.values.try_remove(key)
+    }
+}
