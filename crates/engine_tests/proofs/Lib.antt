@@ -1,0 +1,4 @@
+pub mod FoundRecords
+pub mod Permitted
+pub mod EngineEnds
+pub mod Calls
