@@ -1,0 +1,7 @@
+pub mod Gates
+pub mod Fronts
+pub mod Later
+pub mod Calls
+pub mod Waits
+pub mod Lines
+pub mod Alone

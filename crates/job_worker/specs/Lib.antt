@@ -1,0 +1,5 @@
+pub mod Continuing
+pub mod Asking
+pub mod Ending
+pub mod Worked
+pub mod Alone

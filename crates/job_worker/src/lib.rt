@@ -1,0 +1,15 @@
+//! What one caller of a job does: its lines in order, each with what came of it.
+//!
+//! The store stands behind a trait, which says what its answers tell the caller. That is enough for
+//! the outcomes to be those of a faithful report, whatever the other callers did.
+#![tactic(auto)]
+
+mod asks;
+mod carrying;
+mod outcomes;
+#[cfg(test)]
+mod tests;
+mod worker;
+
+pub use asks::Asks;
+pub use worker::work;
