@@ -86,16 +86,20 @@ once_to_title : IsOnce IsTitle to_title
 once_to_title = line_once IsTitle title_words title_part
 
 once_to_base : IsOnce UpToBase to_base
-once_to_base = both_once IsTitle to_title BaseOf (λ p. start_rows (codes "base")) once_to_title (λ p is. start_once p.0.kinds (codes "base"))
+once_to_base = both_once IsTitle to_title BaseOf (λ p. start_rows (codes "base")) once_to_title
+    (λ p is. start_once p.0.kinds (codes "base"))
 
 once_to_histories : IsOnce UpToHistories to_histories
-once_to_histories = both_once UpToBase to_base HistoriesOf (λ p. histories_lines) once_to_base (λ p is. histories_once p.0.1 (few_of p.0 is.0) (length p.0.0.kinds))
+once_to_histories = both_once UpToBase to_base HistoriesOf (λ p. histories_lines) once_to_base
+    (λ p is. histories_once p.0.1 (few_of p.0 is.0) (length p.0.0.kinds))
 
 once_to_callers : IsOnce UpToCallers to_callers
-once_to_callers = both_once UpToHistories to_histories CallersOf (λ p. outcomes_lines) once_to_histories (λ p is. callers_once (length p.0.0.0.kinds) p.0.0.1 p.0.0.1)
+once_to_callers = both_once UpToHistories to_histories CallersOf (λ p. outcomes_lines) once_to_histories
+    (λ p is. callers_once (length p.0.0.0.kinds) p.0.0.1 p.0.0.1)
 
 once_to_image : IsOnce UpToImage to_image
-once_to_image = both_once UpToCallers to_callers ImageOf (λ p. start_rows (codes "image")) once_to_callers (λ p is. start_once p.0.0.0.0.kinds (codes "image"))
+once_to_image = both_once UpToCallers to_callers ImageOf (λ p. start_rows (codes "image")) once_to_callers
+    (λ p is. start_once p.0.0.0.0.kinds (codes "image"))
 
 -- ---- the whole
 report_of_parts : (p : (FrontParts × (ℕ × List State)) × Unit {0}) → UpToEnd p → (r : Report) × IsReport r × (report_lines r ≡ to_end p)
@@ -151,7 +155,8 @@ module _ (old : Unread) where
   up5 e r = up6 e (refuses_first UpToImage to_image EndOf (λ p. line_of_row end_words) (λ p is. (tt, tt)) old e r)
 
   up4 : (e : ReportRefusal) → Refuses UpToCallers to_callers old e → Refuses IsReport report_lines old e
-  up4 e r = up5 e (refuses_first UpToCallers to_callers ImageOf (λ p. start_rows (codes "image")) (λ p is. some_start p.0.0.0.0.kinds) old e r)
+  up4 e r = up5 e (refuses_first UpToCallers to_callers ImageOf (λ p. start_rows (codes "image"))
+      (λ p is. some_start p.0.0.0.0.kinds) old e r)
 
   up3 : (e : ReportRefusal) → Refuses UpToHistories to_histories old e → Refuses IsReport report_lines old e
   up3 e r = up4 e (refuses_first UpToHistories to_histories CallersOf (λ p. outcomes_lines) (λ p is. some_callers
@@ -174,7 +179,8 @@ module _ (old : Unread) where
 
       pub refuses_histories : (e : ReportRefusal) → Refuses (HistoriesOf (t, base)) histories_lines b e
           → Refuses IsReport report_lines old e
-      refuses_histories e r = up3 e (refuses_second UpToBase to_base HistoriesOf (λ p. histories_lines) once_to_base old b (t, base) e two r)
+      refuses_histories e r =
+          up3 e (refuses_second UpToBase to_base HistoriesOf (λ p. histories_lines) once_to_base old b (t, base) e two r)
 
       module _ (d : Unread) (hs : List (List Entry)) (third : Reads (HistoriesOf (t, base)) histories_lines b d hs) where
         three : Reads UpToHistories to_histories old d ((t, base), hs)
@@ -182,7 +188,9 @@ module _ (old : Unread) where
 
         pub refuses_callers : (e : ReportRefusal) → Refuses (CallersOf ((t, base), hs)) outcomes_lines d e
             → Refuses IsReport report_lines old e
-        refuses_callers e r = up4 e (refuses_second UpToHistories to_histories CallersOf (λ p. outcomes_lines) once_to_histories old d ((t, base), hs) e three r)
+        refuses_callers e r =
+            up4 e (refuses_second UpToHistories to_histories CallersOf (λ p. outcomes_lines) once_to_histories old d
+            ((t, base), hs) e three r)
 
         module _ (f : Unread) (oss : List (List Outcome)) (fourth : Reads (CallersOf ((t, base), hs)) outcomes_lines d f oss) where
           four : Reads UpToCallers to_callers old f (((t, base), hs), oss)
@@ -196,7 +204,8 @@ module _ (old : Unread) where
           module _ (g : Unread) (image : ℕ × List State) (fifth : Reads (ImageOf (((t, base), hs), oss)) (start_rows
               (codes "image")) f g image) where
             five : Reads UpToImage to_image old g ((((t, base), hs), oss), image)
-            five = reads_both UpToCallers to_callers ImageOf (λ p. start_rows (codes "image")) old f g (((t, base), hs), oss) image four fifth
+            five = reads_both UpToCallers to_callers ImageOf (λ p. start_rows (codes "image")) old f g
+                (((t, base), hs), oss) image four fifth
 
             pub refuses_end : (e : ReportRefusal) → Refuses (λ _. Unit {0}) (line_of_row end_words) g e
                 → Refuses IsReport report_lines old e

@@ -30,7 +30,8 @@ each_sound : (fault_of : List Object → Object → Option ObjectFault) (os lowe
 each_sound fault_of [] lower i d inside none = absurd (omega arith)
 each_sound fault_of (o ∷ os) lower zero d inside none =
     ap (λ (xs : List Object). fault_of xs o) (append-nil lower)
-    ∙ no_fault_here o.slot (fault_of lower o) (neither_fault (at_slot o.slot (fault_of lower o)) (first_fault fault_of (lower ++ o ∷ []) os) none).0
+    ∙ no_fault_here o.slot (fault_of lower o)
+    (neither_fault (at_slot o.slot (fault_of lower o)) (first_fault fault_of (lower ++ o ∷ []) os) none).0
 each_sound fault_of (o ∷ os) lower (suc i) d inside none =
     ap (λ (xs : List Object). fault_of xs (get_or os i d)) (sym (append_assoc lower (o ∷ []) (take i os)))
     ∙ each_sound fault_of os (lower ++ o ∷ []) i d (omega arith)
@@ -61,7 +62,8 @@ module _ (os : List Object) (sound : graph_fault os ≡ None) (i : ℕ) (d : Obj
     vertex_new = is_some_not (find nat_cmp e.0 (vertex_nodes (take i os)))
         (named_there nat_cmp vertex_at e.0 (take i os) ∙ no_fault_if (list_any (has_vertex e.0) (take i os)) faults.Vertex
         (sym (λ j. if vertex_tag (get_or os i d).body e is j then vertex_fault (take i os) (is j)
-        else (if is_edge_body (get_or os i d).body then edge_fault (take i os) (edge_at (get_or os i d)) else Some faults.Tag)) ∙ part_sound))
+        else (if is_edge_body (get_or os i d).body then edge_fault (take i os) (edge_at (get_or os i d)) else Some faults.Tag))
+        ∙ part_sound))
 
     pub vertex_absent : (n : Nodes) → n ≡ nodes_of (take i os) [] → finite.get n.vertices e.0 ≡ None
     vertex_absent n are = ap (λ (m : Nodes). finite.get m.vertices e.0) are

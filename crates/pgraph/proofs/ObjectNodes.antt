@@ -50,7 +50,8 @@ module _ {K : Type 0} (R : K → K → Ordering) (at : Object → Option (K × �
   abbrev pub nodes_named : List Object → List (K × Node)
   nodes_named os = filter_map (λ (o : Object). named_at o (at o)) os
 
-  pub named_there : (k : K) (os : List Object) → is_some (find R k (nodes_named os)) ≡ list_any (λ (o : Object). names (eq_by_cmp R k) (at o)) os
+  pub named_there : (k : K) (os : List Object) → is_some (find R k (nodes_named os))
+      ≡ list_any (λ (o : Object). names (eq_by_cmp R k) (at o)) os
   named_there k [] = refl
   named_there k (o ∷ os) = by (at o) (named_there k os)
     where
@@ -66,7 +67,8 @@ module _ {K : Type 0} (R : K → K → Ordering) (at : Object → Option (K × �
       by (Some e) rest = first (eq_by_cmp R k e.0) (node_at o e.1) rest
 
   -- with the attributes that they hold
-  pub named_attribute : (k : K) (os : List Object) → option_map (λ (n : Node). n.attribute) (find R k (nodes_named os)) ≡ find R k (filter_map at os)
+  pub named_attribute : (k : K) (os : List Object) → option_map (λ (n : Node). n.attribute) (find R k (nodes_named os))
+      ≡ find R k (filter_map at os)
   named_attribute k [] = refl
   named_attribute k (o ∷ os) = by (at o) (named_attribute k os)
     where

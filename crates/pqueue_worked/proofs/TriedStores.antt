@@ -35,8 +35,10 @@ none_beyond s image within = none_kept (λ (slot : ℕ). nat_lt (cut_of image) (
     at slot low = grind (arith, nat_tests)
 
 -- so the unit is clean
-only_clean : (o : Opening) → units_of o.layout ≡ 1 → slots_beyond o.layout o.words 0 ≡ [] → IsTrue (are_clean (units_of o.layout) (clean_at o))
-only_clean o one none = subst (λ (n : ℕ). IsTrue (are_clean n (filter (λ (u : ℕ). is_empty (slots_beyond o.layout o.words u)) (range_with_len 0 n))))
+only_clean : (o : Opening) → units_of o.layout ≡ 1 → slots_beyond o.layout o.words 0 ≡ []
+    → IsTrue (are_clean (units_of o.layout) (clean_at o))
+only_clean o one none = subst
+    (λ (n : ℕ). IsTrue (are_clean n (filter (λ (u : ℕ). is_empty (slots_beyond o.layout o.words u)) (range_with_len 0 n))))
     (sym one) (ap (λ (l : List ℕ). are_clean 1 (cond (is_empty l) (0 ∷ []) [])) none)
 
 pub settled : (s : Shape) (image : List ℕ) → units_of s ≡ 1 → ((k : ℕ) → k < s.slots → epoch_at image k ≤ cut_of image) → IsSettled s image
@@ -52,8 +54,9 @@ found_settled s image found well one settles is =
     subst (λ (x : List Held × List ℕ). AreFound s 0 x.0 x.1) (λ i. (sym is i, settles.none_lost i))
     (images_are_found s image 0 well (subst (λ (n : ℕ). 0 < n) (sym one) (omega arith)))
 
-pub objects_make : (s at : Shape) (image : List ℕ) (unit : ℕ) (found : List Held) (objects : List Object) → IsWellFormed s image → units_of s ≡ 1
-    → found ≡ records_of s image 0 → objects ≡ live_objects found → at ≡ s → unit ≡ 0 → (state : State) × IsStructure at unit objects state
+pub objects_make : (s at : Shape) (image : List ℕ) (unit : ℕ) (found : List Held) (objects : List Object) → IsWellFormed s image
+    → units_of s ≡ 1 → found ≡ records_of s image 0 → objects ≡ live_objects found → at ≡ s → unit ≡ 0
+    → (state : State) × IsStructure at unit objects state
 objects_make s at image unit found objects well one is are same first =
     subst (λ (x : Shape × ℕ × List Object). (state : State) × IsStructure x.0 x.1 x.2 state)
     (λ i. (sym same i, sym first i, sym (are ∙ ap live_objects is) i))

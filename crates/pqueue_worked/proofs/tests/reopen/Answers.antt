@@ -4,8 +4,8 @@ use Rattle.pqueue_worked.proofs.TriedStores.{found_settled, objects_make}
 use Rattle.pqueue_worked.proofs.tests.reopen.Goals as goal
 
 pub recovered-requires-clause-found : goal.recovered-requires-clause-found
-recovered-requires-clause-found c = found_settled c.args.layout c.args.image.now c.deref-2.result.now (search rules) c.requires.one (search rules)
-    (c.deref-2.ensures.value ∙ c.in_ok-found.ensures)
+recovered-requires-clause-found c = found_settled c.args.layout c.args.image.now c.deref-2.result.now (search rules)
+    c.requires.one (search rules) (c.deref-2.ensures.value ∙ c.in_ok-found.ensures)
 
 pub rebuild-requires-clause-structure : goal.rebuild-requires-clause-structure
 rebuild-requires-clause-structure c = objects_make c.args.layout c.in_ok-region.region.books.layout c.args.image.now
