@@ -167,4 +167,5 @@ first_advancer_is o table clock me is same last layout slots =
       slots = slots;
       few = layout.kinds.few;
       last = last;
+      kept = λ _. refl;
     })

@@ -55,7 +55,7 @@ module _ (t : TableId) (number : ℕ) (counts : Counts) (fronts synced : List �
       heard_keeps r n (note_of_unit (length hearer.part.fronts) h) more now later same
       (more_is ∙ ((λ j. set fronts (of_unit j) (entries_are j))
       ∙ (sym (greater_one fronts h.unit (length h.part.history) (subst (λ (x : ℕ). x < length fronts) of_unit inside)
-      (subst (λ (ns : List ℕ). get_or ns h.unit 0 ≤ length h.part.history) (sym k.fronts_are) low))
+      (subst (λ (ns : List ℕ). get_or ns h.unit 0 ≤ length h.part.history) (sym k.fronts_are) low.front))
       ∙ (λ j. greater_fronts fronts (set (replicate (length (k.fronts_are j)) 0) h.unit (length h.part.history))))))
       (now_is ∙ ap (max counts.newest) newest_is) (later_is ∙ ap (max counts.durable) durable_is) is
 

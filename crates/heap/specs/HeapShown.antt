@@ -6,7 +6,7 @@ use Rattle.mont_base.specs.declared.constants.TheConstants.{FIELDS, LAST, MOST_U
 use Rattle.mont_base.specs.Layout.{Shape}
 use Rattle.core_steps.specs.declared.parts.AdvPart.{AdvPart}
 use Rattle.core_steps.specs.Stages.{is_within, is_announced, epoch_of}
-use Rattle.core_steps.specs.Advancing.{unit_at_hand}
+use Rattle.core_steps.specs.Advancing.{unit_at_hand, is_clocked}
 use Rattle.core_steps.specs.Notes.{last_epoch}
 use Rattle.heap_rule.specs.declared.rule.Opening.{Opening}
 use Rattle.heap_rule.specs.declared.views.UnitHeld.{UnitHeld}
@@ -66,6 +66,8 @@ pub record IsAdvancer
   pub slots : table.slots ≡ 2 * (the_advancer me.0).units
   pub few : (the_advancer me.0).units ≤ MOST_UNITS
   pub last : clock ≤ LAST
+  -- but between the two steps that move it, the clock is durable
+  pub kept : is_clocked part ≡ false → durable ≡ clock
 
 pub record Counts : Type 0 where
   pub calls : ℕ

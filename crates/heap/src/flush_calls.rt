@@ -6,14 +6,17 @@ ghost use Rattle.core_steps.specs.declared.parts.AdvPart.TheVariants.{Rest};
 ghost use Rattle.core_steps.specs.Advancing.{can_check, unit_at_hand, after_check, is_clocked};
 ghost use Rattle.core_steps.specs.Flushing.{can_load_word, can_persist_word, after_persist_word, is_flushed};
 ghost use Rattle.heap_rule.specs.Plays.{IsAnnouncement, IsAhead, IsPlaceListed};
-ghost use Rattle.heap_rule.specs.Views.{are_clean, joined, holding, slot_at_hand, field_at_hand, word_in_hand, advancer_checked, advancer_loaded, advancer_persisted, advancer_set, advancer_rested};
+ghost use Rattle.heap_rule.specs.Views.{are_clean, joined, holding, slot_at_hand, field_at_hand, word_in_hand, advancer_checked, advancer_loaded, advancer_persisted, advancer_set, advancer_rested, advancer_view, the_advancer};
+ghost use Rattle.heap_rule.specs.TableWords.{durable_place};
 ghost use Rattle.heap.specs.GateAsked.{IsAskedOnce};
 
 use crate::heap::Heap;
 use crate::seats::AdvSeat;
+use atomic_table::Seat;
 use core_steps::AdvPart;
-use heap_rule::{Checks, LoadsWord, PersistsClock, PersistsWord, SetsClock};
+use heap_rule::{Cell, Checks, LoadsWord, Opened, PersistsClock, PersistsWord, SetsClock, View};
 use mont_base::{Cut, Epoch, FIELDS, Gate, Slot, Unit};
+use std::marker::Brand;
 
 impl Heap {
     /// Loads the announcement of the unit at hand. Where it lets the advancer pass, the seat then
@@ -29,6 +32,7 @@ impl Heap {
           held = advancer_checked seat.old.held word list;
         })) }
         ensures word { IfOk result (λ word. IsAnnouncement word) }
+        ensures durable { OnOk result (seat.new.held.durable ≡ seat.new.held.clock) }
         ensures cut { OnErr result (seat.new ≡ seat.old) }
     {
         gate.step()?;
@@ -113,25 +117,42 @@ impl Heap {
         Ok(())
     }
 
-    /// Makes the clock durable.
+    /// Makes the clock durable. It is then above the one with which the store opened.
     pub fn persist_clock<G: Gate>(&self, seat: &mut AdvSeat, gate: &mut G) -> Result<(), Cut>
         requires heap { seat.old.table ≡ self.now.table }
         requires may { IsTrue (is_clocked seat.old.held.part) }
         ensures gate { IsAskedOnce G.cuts G.endless G.asked gate.old gate.new result }
         ensures ok { OnOk result (seat.new
             ≡ record { table = seat.old.table; held = advancer_rested seat.old.held }) }
-        ensures ahead { OnOk result (IsAhead seat.old.held) }
+        ensures ahead { OnOk result (IsAhead self.now.opening seat.old.held) }
         ensures cut { OnErr result (seat.new ≡ seat.old) }
     {
         gate.step()?;
         let place = self.durable_clock();
         let clock = seat.clock;
-        self.table
-            .shared
-            .store::<PersistsClock>(&mut seat.seat, place, clock);
+        self.store_clock::<Brand>(&mut seat.seat, place, clock);
         seat.durable = clock;
         seat.part = AdvPart::Rest;
         Ok(())
+    }
+
+    // The store of the durable clock, by the advancer's seat.
+    fn store_clock<N: Opened>(&self, seat: &mut Seat<Cell, View>, place: usize, clock: Epoch)
+        requires heap { seat.old.table_id ≡ self.now.table }
+        requires view { seat.old.me.0 ≡ advancer_view (the_advancer seat.old.me.0) }
+        requires place { place ≡ durable_place self.now.opening.layout 0 }
+        requires inside { place < self.now.table.words }
+        requires clock { clock ≡ (the_advancer seat.old.me.0).clock }
+        requires may { IsTrue (is_clocked (the_advancer seat.old.me.0).part) }
+        requires opening { N.opening ≡ self.now.opening }
+        ensures seat { seat.new.table_id ≡ seat.old.table_id }
+        ensures view { seat.new.me
+            ≡ (advancer_view (advancer_rested (the_advancer seat.old.me.0)), seat.old.me.1) }
+        ensures ahead { IsAhead N.opening (the_advancer seat.old.me.0) }
+    {
+        self.table
+            .shared
+            .store::<PersistsClock<N>>(seat, place, clock);
     }
 }
 

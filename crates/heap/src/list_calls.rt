@@ -82,11 +82,8 @@ impl Heap {
         ensures { seat.new
             ≡ record { table = seat.old.table; held = advancer_gave seat.old.held } }
     {
-        let place = place(unit, seat.clock + 1);
-        let _ = self
-            .table
-            .shared
-            .exchange(&mut seat.seat, place, Some(list));
+        let home = place(unit, seat.clock + 1);
+        let _ = self.table.shared.exchange(&mut seat.seat, home, Some(list));
         self.table.shared.load::<GivesEmpty>(&mut seat.seat, 0);
         seat.emptied += 1;
     }

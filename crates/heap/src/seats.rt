@@ -1,5 +1,6 @@
 // The seats: tokens of the table, with the numbers that their holders need.
-ghost use Rattle.std.specs.Prelude.{◌≡◌, ◌<◌, length, slice_get, Some};
+ghost use Rattle.std.specs.Prelude.{◌≡◌, ◌<◌, false, length, slice_get, Some};
+ghost use Rattle.core_steps.specs.Advancing.{is_clocked};
 ghost use Rattle.heap_rule.specs.Views.{odd_announcement};
 
 use atomic_table::Seat;
@@ -100,6 +101,17 @@ impl UnitSeat {
         } else {
             2 * self.epoch + 1
         }
+    }
+}
+
+impl AdvSeat {
+    /// The durable clock. It is the clock, unless the clock has moved and is not durable yet.
+    pub fn durable(&self) -> Epoch
+        ensures clock { result ≡ self.now.held.durable }
+        ensures kept { is_clocked self.now.held.part ≡ false
+            → self.now.held.durable ≡ self.now.held.clock }
+    {
+        self.durable
     }
 }
 

@@ -208,7 +208,7 @@ leaves o slots seat h q c op reply may given s k long at small =
           (pair_board o s k seat h q f g d home_turn) y owed.moves (stores_announced o s k h.unit 0) owed.passed owed.homes owed.fits,
       (
         refl,
-        not_beyond o s k h q f.part g.part,
+        not_beyond o s k h q f.part g.part g.entries,
         (clock core, durable_clock core, unit_sound o s k core (stays o s k) refl h f.part f.clean),
         (
           clock core,
@@ -277,7 +277,7 @@ reads o slots seat h q c op reply may clean s k long at small =
           (pair_board o s k seat h q f g d h.turn) y owed.moves refl owed.passed owed.homes owed.fits),
       (
         refl,
-        not_beyond o s k h q f.part g.part,
+        not_beyond o s k h q f.part g.part g.entries,
         is_clock _ core k.sound
             (record { newest = max h.learnt.newest q.part.newest; durable = max h.learnt.durable q.part.durable }) h.unit h.part x
             (record { newest = omega arith; durable = omega arith }) f.part found,

@@ -1,6 +1,6 @@
 -- What the rule tells of the core: its words among those of the table, its clocks, and which units have no
 -- lost slot.
-use Rattle.std.proofs.Common.{◌≡◌, ◌≢◌, ℕ, zero, suc, ◌+◌, ◌*◌, ◌<◌, ◌≤◌, List, [], ◌∷◌, ◌++◌, length, set, sym, refl, ap, ◌∙◌, arith, Bool, true, false, ◌⊎◌, inl, inr, ⊎_elim}
+use Rattle.std.proofs.Common.{◌≡◌, ◌≢◌, ℕ, zero, suc, ◌+◌, ◌*◌, ◌<◌, ◌≤◌, List, [], ◌∷◌, ◌++◌, length, set, take, sym, refl, ap, ◌∙◌, arith, Bool, true, false, ◌⊎◌, inl, inr, ⊎_elim}
 use Rattle.std.specs.Prelude.{slice_get, slice_index, Some, ◌||◌, ◌==◌}
 use Rattle.std.specs.List.{Contains}
 use Rattle.std.proofs.lemmas.Option.{slice_get_within, slice_get-get_or}
@@ -8,6 +8,7 @@ use mathlib.Core.Logic.{dite}
 use native.Mathlib.Decide.{ℕ_discrete}
 use Rattle.atomic_table.specs.Table.{State}
 use Rattle.mont_base.specs.declared.constants.TheConstants.{FIELDS, LAST}
+use Rattle.mont_base.specs.declared.operation.Entry.{Entry}
 use Rattle.mont_base.specs.Layout.{Shape, units_of, words_of, total_of, word_of}
 use Rattle.mont_laws.proofs.Members.{first_element}
 use Rattle.core_steps.specs.declared.parts.Core.{Core}
@@ -30,7 +31,7 @@ use Rattle.heap_rule.specs.declared.views.UnitHeld.{UnitHeld}
 use Rattle.heap_rule.specs.declared.views.View.{View}
 use Rattle.heap_rule.specs.Views.{Cell, is_among, are_clean}
 use Rattle.heap_rule.specs.TableWords.{laid_out, table_words, durable_place, announcement_place}
-use Rattle.heap_rule.specs.Rule.{IsLearnt, AreClean, ShowsCore}
+use Rattle.heap_rule.specs.Rule.{IsLearnt, AreClean, seen_in, ShowsCore}
 use Rattle.heap_rule.specs.Plays.{IsClock, IsDurable, IsNotBeyond}
 use Rattle.heap_rule.proofs.WordPlaces.{set_current, set_durable, set_announced, get_current, get_durable, get_announced}
 
@@ -118,6 +119,15 @@ module _ (base : Base) (c : Core) (sound : IsSound base c) where
       let low = durable_low in let last = durable_last in
       record { low = omega arith; high = omega arith; not_behind = omega arith }
 
+-- ---- what a caller keeps
+-- of each unit so many entries
+pub seen_at : (ns : List ℕ) (hs : List (List Entry)) (u n : ℕ) (h : List Entry) → slice_get ns u ≡ Some n → slice_get hs u ≡ Some h
+    → slice_get (seen_in ns hs) u ≡ Some (take n h)
+seen_at [] hs u n h e f = absurd (cc)
+seen_at (m ∷ ms) [] u n h e f = absurd (cc)
+seen_at (m ∷ ms) (g ∷ gs) zero n h e f = let same : m ≡ n = cc in let of : g ≡ h = cc in λ i. Some (take (same i) (of i))
+seen_at (m ∷ ms) (g ∷ gs) (suc u) n h e f = seen_at ms gs u n h e f
+
 -- ---- words
 module _ (o : Opening) (s : State Cell View) (k : ShowsCore o s) where
   current_length : length k.board.core.cur ≡ words_of o.layout
@@ -164,16 +174,22 @@ module _ (o : Opening) (s : State Cell View) (k : ShowsCore o s) where
   none_clean clean are all =
       all_clean k.board.core.units (units_of o.layout) clean are all (k.sound.sizes.unit_count ∙ ap units_of k.layout)
 
-  -- no front of a caller is beyond the unit's history
+  -- no front of a caller is beyond the unit's history, and what it keeps are the entries before its front
   pub not_beyond : (h : UnitHeld) (q : CallerHeld) → slice_get k.board.core.units h.unit ≡ Some h.part
-      → slice_get k.board.core.callers q.caller ≡ Some q.part → IsNotBeyond q h
-  not_beyond h q at there =
+      → slice_get k.board.core.callers q.caller ≡ Some q.part
+      → q.entries ≡ seen_in q.part.fronts (histories_of k.board.core.units) → IsNotBeyond q h
+  not_beyond h q at there kept =
+      let hs = histories_of k.board.core.units in
       let seen = (k.sound.callers.each q.caller q.part there).seen in
       let history = history_row k.board.core.units h.unit h.part at in
-      let inside = slice_get_within (histories_of k.board.core.units) h.unit h.part.history history in
+      let inside = slice_get_within hs h.unit h.part.history history in
       let count = seen.units in
-      (seen.each h.unit (slice_index q.part.fronts h.unit) h.part.history
-      (slice_get-get_or q.part.fronts h.unit 0 (omega arith)) history).there
+      let n : ℕ = slice_index q.part.fronts h.unit in
+      let front = slice_get-get_or q.part.fronts h.unit 0 (omega arith) in record {
+        front = (seen.each h.unit n h.part.history front history).there;
+        entries = ap (λ (es : List (List Entry)). slice_get es h.unit) kept
+            ∙ seen_at q.part.fronts hs h.unit n h.part.history front history;
+      }
 
   pub found_clock : slice_index s.words 0 ≡ clock k.board.core
   found_clock = found_current 0 (omega arith)

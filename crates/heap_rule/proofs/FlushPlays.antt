@@ -408,10 +408,11 @@ clock_ahead now durable (Flushing d g) may c = absurd (cc)
 clock_ahead now durable (Holding d g v) may c = absurd (cc)
 clock_ahead now durable Clocked may c = c
 
-is_ahead : (now durable : ℕ) (a : AdvHeld) → now ≡ a.clock → durable ≡ a.durable → durable + 1 ≡ now → 2 ≤ durable → now ≤ LAST
-    → a.learnt.newest ≤ now → a.learnt.durable ≤ durable → IsAhead a
-is_ahead now durable a clock_is durable_is next low last newest known = record {
+is_ahead : (o : Opening) (now durable : ℕ) (a : AdvHeld) → now ≡ a.clock → durable ≡ a.durable → durable + 1 ≡ now → 2 ≤ durable
+    → clock_of o.words ≤ durable → now ≤ LAST → a.learnt.newest ≤ now → a.learnt.durable ≤ durable → IsAhead o a
+is_ahead o now durable a clock_is durable_is next low begun last newest known = record {
   low = omega arith;
+  begun = omega arith;
   next = omega arith;
   high = omega arith;
   reached = omega arith;
@@ -420,7 +421,7 @@ is_ahead now durable a clock_is durable_is next low last newest known = record {
 
 pub persists_clock : (o : Opening) (slots seat : ℕ) (a : AdvHeld) (c : List (ℕ × Cell)) → is_clocked a.part ≡ true
     → Allows (ShowsCore o) slots seat (advancer_view a, c) (durable_place o.layout 0) (λ _. a.clock)
-    (λ _ m. persisted_clock (step slots (durable_place o.layout 0) a.clock 0 none) (advancer_view a, c) a.clock m)
+    (λ _ m. persisted_clock o (step slots (durable_place o.layout 0) a.clock 0 none) (advancer_view a, c) a.clock m)
 persists_clock o slots seat a c may s k long at small =
     let f = (k.views seat (advancer_view a) at).advancers.0 in
     let core = k.board.core in
@@ -445,9 +446,9 @@ persists_clock o slots seat a c may s k long at small =
           (λ u q is more. absurd (none_below u more)) refl refl refl refl),
       (
         refl,
-        is_ahead (clock core) (durable_clock core) a f.clock_is f.durable
+        is_ahead o (clock core) (durable_clock core) a f.clock_is f.durable
             (clock_ahead (clock core) (durable_clock core) core.advancer clocked k.sound.clocks.stand) (durable_low _ core k.sound)
-            k.sound.clocks.last f.learnt.newest f.learnt.durable,
+            k.sound.clocks.begun k.sound.clocks.last f.learnt.newest f.learnt.durable,
       ),
     )
   where

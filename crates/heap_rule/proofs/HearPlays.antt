@@ -33,7 +33,7 @@ use Rattle.heap_rule.specs.Plays.{IsNotBeyond, HasSeenAll, heard as was_heard}
 use Rattle.heap_rule.proofs.RuleFrames.{Reached, goes, stays, Moves, loads}
 use Rattle.heap_rule.proofs.RunFacts.{unit_sound}
 use Rattle.heap_rule.proofs.Growing.{sweeps_itself}
-use Rattle.heap_rule.proofs.CoreFacts.{at_row, clean_both, not_beyond}
+use Rattle.heap_rule.proofs.CoreFacts.{at_row, clean_both, seen_at, not_beyond}
 use Rattle.heap_rule.proofs.AnswerPlays.{seen_set}
 
 -- ---- fronts
@@ -87,14 +87,6 @@ seen_none : (n : ℕ) (hs : List (List Entry)) → length hs ≡ n → seen_in (
 seen_none zero hs e = refl
 seen_none (suc n) [] e = absurd (omega arith)
 seen_none (suc n) (h ∷ hs) e = λ i. [] ∷ seen_none n hs (omega arith) i
-
--- of each unit so many entries
-seen_at : (ns : List ℕ) (hs : List (List Entry)) (u n : ℕ) (h : List Entry) → slice_get ns u ≡ Some n → slice_get hs u ≡ Some h
-    → slice_get (seen_in ns hs) u ≡ Some (take n h)
-seen_at [] hs u n h e f = absurd (cc)
-seen_at (m ∷ ms) [] u n h e f = absurd (cc)
-seen_at (m ∷ ms) (g ∷ gs) zero n h e f = let same : m ≡ n = cc in let of : g ≡ h = cc in λ i. Some (take (same i) (of i))
-seen_at (m ∷ ms) (g ∷ gs) (suc u) n h e f = seen_at ms gs u n h e f
 
 -- ---- a caller takes a note
 abbrev pub heard_board : Board → CallerHeld → NoteHeld → Board
@@ -214,7 +206,7 @@ seen_all : (hs : List (List Entry)) (h : UnitHeld) (q r : CallerHeld) → slice_
 seen_all hs h q r there inside low fronts entries =
     let u : ℕ = h.unit in
     let n : ℕ = length h.part.history in
-    let now : r.part.fronts ≡ set q.part.fronts u n = fronts ∙ greater_one q.part.fronts u n inside low in
+    let now : r.part.fronts ≡ set q.part.fronts u n = fronts ∙ greater_one q.part.fronts u n inside low.front in
     let front : slice_get r.part.fronts u ≡ Some n = ap (λ (ns : List ℕ). slice_get ns u) now
     ∙ row_here q.part.fronts u n (slice_index q.part.fronts u) (slice_get-get_or q.part.fronts u 0 inside) in
     record {
@@ -237,7 +229,7 @@ hears o slots seat h q c s k long at small =
     let fits = caller_fits o s k seat q n g note k.own seat g.mine in
     let there : slice_get hs h.unit ≡ Some h.part.history = history_row core.units h.unit h.part f.part in
     let within = slice_get_within core.units h.unit h.part f.part in
-    let low = not_beyond o s k h q f.part g.part in (
+    let low = not_beyond o s k h q f.part g.part g.entries in (
       pair_view h (caller_heard q n),
       keeps,
       tt,

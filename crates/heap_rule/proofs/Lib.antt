@@ -12,6 +12,7 @@ pub mod ListFacts
 pub mod FlushPlays
 pub mod AnswerPlays
 pub mod HearPlays
+pub mod SeenFronts
 pub mod ListRoom
 pub mod ListPlays
 pub mod SeatPlays

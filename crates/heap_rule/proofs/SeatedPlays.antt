@@ -128,13 +128,13 @@ sets_clock_as o slots seat i x m a is at new may empty =
     (step slots z.0 z.1 0 none) (z.2, m.1) z.1 n))
     (λ j. (sym at j, sym new j, sym is j)) (sets_clock o slots seat a m.1 may empty)
 
-pub persists_clock_as : (o : Opening) (slots seat i x : ℕ) (m : Seated) (a : AdvHeld) → m.0 ≡ advancer_view a
+pub persists_clock_as : (o w : Opening) (slots seat i x : ℕ) (m : Seated) (a : AdvHeld) → w ≡ o → m.0 ≡ advancer_view a
     → i ≡ durable_place o.layout 0 → x ≡ a.clock → is_clocked a.part ≡ true
-    → Allows (ShowsCore o) slots seat m i (λ _. x) (λ _ n. persisted_clock (step slots i x 0 none) m x n)
-persists_clock_as o slots seat i x m a is at new may =
-    subst (λ (z : ℕ × ℕ × View). Allows (ShowsCore o) slots seat (z.2, m.1) z.0 (λ _. z.1) (λ _ n. persisted_clock
+    → Allows (ShowsCore o) slots seat m i (λ _. x) (λ _ n. persisted_clock w (step slots i x 0 none) m x n)
+persists_clock_as o w slots seat i x m a same is at new may =
+    subst (λ (z : ℕ × ℕ × View × Opening). Allows (ShowsCore o) slots seat (z.2, m.1) z.0 (λ _. z.1) (λ _ n. persisted_clock z.3
     (step slots z.0 z.1 0 none) (z.2, m.1) z.1 n))
-    (λ j. (sym at j, sym new j, sym is j)) (persists_clock o slots seat a m.1 may)
+    (λ j. (sym at j, sym new j, sym is j, sym same j)) (persists_clock o slots seat a m.1 may)
 
 pub freezes_as : (o : Opening) (slots seat i x : ℕ) (m : Seated) (h : UnitHeld) (q : CallerHeld) (value : ℕ) → m.0 ≡ pair_view h q
     → i ≡ announcement_place o.layout h.unit → x ≡ value → can_freeze h.part ≡ true → are_clean (units_of o.layout) h.clean ≡ true

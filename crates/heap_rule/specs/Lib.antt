@@ -3,4 +3,5 @@ pub mod TableWords
 pub mod HomeLists
 pub mod Rule
 pub mod SoundUnits
+pub mod SeenEntries
 pub mod Plays

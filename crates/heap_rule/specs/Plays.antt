@@ -1,7 +1,8 @@
 -- What each step tells: the seat after it, and what the rule says of the word that was found.
-use Rattle.std.specs.Prelude.{◌≡◌, ℕ, ◌+◌, ◌*◌, ◌/◌, ◌<◌, ◌≤◌, ◌⊎◌, List, ◌∷◌, ◌++◌, length, max, slice_get, slice_index, All, Some}
+use Rattle.std.specs.Prelude.{◌≡◌, ℕ, ◌+◌, ◌*◌, ◌/◌, ◌<◌, ◌≤◌, ◌⊎◌, List, ◌∷◌, ◌++◌, length, max, take, slice_get, slice_index, All, Some}
 use Rattle.atomic_table.specs.Table.{Step, rest}
 use Rattle.mont_base.specs.declared.constants.TheConstants.{FIRST_CLOCK, LAST}
+use Rattle.mont_base.specs.Image.{clock_of}
 use Rattle.mont_base.specs.declared.operation.Entry.{Entry}
 use Rattle.mont_base.specs.declared.operation.Op.{Op}
 use Rattle.mont_base.specs.declared.operation.Reply.{Reply}
@@ -72,9 +73,13 @@ persisted o s m found n =
     (n ≡ (unit_view w, m.1)) × ((now durable : ℕ) × IsSoundUnit o now durable w)
 
 -- ---- what a caller has seen of a unit
--- its front there is not beyond the unit's history
-abbrev pub IsNotBeyond : CallerHeld → UnitHeld → Type 0
-IsNotBeyond q h = slice_index q.part.fronts h.unit ≤ length h.part.history
+-- Its front there is not beyond the unit's history, and the entries that it keeps of the unit are
+-- those before its front.
+pub record IsNotBeyond (q : CallerHeld) (h : UnitHeld) : Type 0 where
+  pub front : slice_index q.part.fronts h.unit ≤ length h.part.history
+  pub entries :
+      slice_get q.entries h.unit
+      ≡ Some (take (slice_index q.part.fronts h.unit) h.part.history)
 
 -- all entries of the unit
 pub record HasSeenAll (q : CallerHeld) (h : UnitHeld) : Type 0 where
@@ -165,18 +170,20 @@ set_clock s m found n =
     let a : AdvHeld = the_advancer m.0 in
     (n ≡ (advancer_view (advancer_set a), m.1)) × (a.clock < LAST)
 
--- the clock that is made durable is above every durable clock, and not below any epoch
-pub record IsAhead (a : AdvHeld) : Type 0 where
+-- the clock that is made durable is above every durable clock, that of the opening too, and not
+-- below any epoch
+pub record IsAhead (o : Opening) (a : AdvHeld) : Type 0 where
   pub low : FIRST_CLOCK ≤ a.durable
+  pub begun : clock_of o.words ≤ a.durable
   pub next : a.clock ≡ a.durable + 1
   pub high : a.clock ≤ LAST
   pub reached : a.learnt.newest ≤ a.clock
   pub ahead : a.learnt.durable < a.clock
 
-abbrev pub persisted_clock : Step Cell → Seated → ℕ → Seated → Type 0
-persisted_clock s m found n =
+abbrev pub persisted_clock : Opening → Step Cell → Seated → ℕ → Seated → Type 0
+persisted_clock o s m found n =
     let a : AdvHeld = the_advancer m.0 in
-    (n ≡ (advancer_view (advancer_rested a), m.1)) × IsAhead a
+    (n ≡ (advancer_view (advancer_rested a), m.1)) × IsAhead o a
 
 -- ---- lists
 -- there is room for all that was written

@@ -205,12 +205,14 @@ impl Play<Cell, View> for SetsClock {
 }
 
 /// The advancer makes the clock durable.
-pub struct PersistsClock;
+pub struct PersistsClock<N> {
+    of: PhantomData<N>,
+}
 
-impl Play<Cell, View> for PersistsClock {
+impl<N: Opened> Play<Cell, View> for PersistsClock<N> {
     ghost use Rattle.heap_rule.specs.Plays.{persisted_clock};
 
-    ghost then = { persisted_clock };
+    ghost then = { persisted_clock N.opening };
 }
 
 /// The unit takes its list out.

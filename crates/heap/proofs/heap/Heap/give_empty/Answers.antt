@@ -14,7 +14,7 @@ exchange-requires c =
     let v = c.seat.view_is in (
       advancer_table _ _ _ _ c.seat.view_is c.requires.heap c.self.view_is,
       out_full _ _ _ _ _ c.seat.inside.seat.me c.seat.invariant _ _ (ap (λ (x : AdvShown). x.held.turn.out) v ∙ c.requires.out)
-          c.place-place.ensures (c.requires.next ∙ sym (ap (λ (x : AdvShown). x.held.turn.emptied) v)),
+          c.place-home.ensures (c.requires.next ∙ sym (ap (λ (x : AdvShown). x.held.turn.emptied) v)),
     )
 
 pub load-seat-inside-requires : goal.load-seat-inside-requires
@@ -28,13 +28,13 @@ load-seat-inside-requires c =
       e.0 ∙ advancer_table _ _ _ _ c.seat.view_is c.requires.heap c.self.view_is,
       omega (arith, words),
       gives_empty_as _ _ _ _ _ _
-          (empty_slot _ _ _ _ _ c.seat.inside.seat.me s _ _ _ _ away c.place-place.ensures next e.3
+          (empty_slot _ _ _ _ _ c.seat.inside.seat.me s _ _ _ _ away c.place-home.ensures next e.3
           (c.requires.empty ∙ sym (ap (λ (x : AdvShown). none_of x.held) v)))
           refl (subst (λ (z : ℕ × AdvShown). z.0 < z.1.held.units) (λ j. (next j, sym v j)) c.requires.inside) away,
     )
 
-pub place-place-requires : goal.place-place-requires
-place-place-requires c =
+pub place-home-requires : goal.place-home-requires
+place-home-requires c =
     let inside = c.requires.inside in
     let few = c.seat.invariant.few in
     let same = ap (λ (x : AdvShown). x.held.units) c.seat.view_is in
