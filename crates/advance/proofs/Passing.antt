@@ -42,8 +42,8 @@ holds_announced now word e = (
 
 -- ---- an announcement that holds the advancer
 pub shows : (a b : AdvHeld) (word unit : ℕ) (list : List ℕ) → b ≡ advancer_checked a word list → unit ≡ unit_at_hand a.part
-    → lets_pass a.clock word ≡ false → IsAnnouncement word → HasShown unit (word / 2) (is_odd word) a b
-shows a b word unit list made at holds announces =
+    → lets_pass a.clock word ≡ false → IsAnnouncement word → b.durable ≡ b.clock → HasShown unit (word / 2) (is_odd word) a b
+shows a b word unit list made at holds announces kept =
     let told = holds_announced a.clock word holds in
     subst (λ (z : ℕ × AdvHeld). HasShown z.0 (word / 2) (is_odd word) a z.1) (λ i. (sym at i, sym made i)) (record {
       loads = omega arith;
@@ -51,6 +51,7 @@ shows a b word unit list made at holds announces =
       epoch_is = refl;
       begun = ⊎_elim (λ (z : word ≡ 0). absurd (told.0 z)) (λ (z : IsEpoch (word / 2)). z.low) announces;
       below = told.1;
+      below_durable = subst (λ (n : ℕ). word / 2 < n) (sym (ap (λ (x : AdvHeld). x.durable) (sym made) ∙ (kept ∙ ap (λ (x : AdvHeld). x.clock) made))) told.1;
       cut_is = refl;
       stays = ap (λ (b : Bool). cond b (past_unit a.units (unit_at_hand a.part)) (parts.Checking (unit_at_hand a.part))) holds;
       marked = λ e. marked a.odd (unit_at_hand a.part) word e;

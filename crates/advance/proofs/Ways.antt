@@ -8,6 +8,7 @@ use Rattle.mont_base.specs.Layout.{Shape}
 use Rattle.core_steps.specs.declared.parts.AdvPart.{AdvPart}
 use Rattle.core_steps.specs.declared.parts.AdvPart.TheVariants as parts
 use Rattle.core_steps.specs.Advancing.{can_check, unit_at_hand, past_unit, is_clocked}
+use Rattle.heap_rule.specs.declared.rule.Opening.{Opening}
 use Rattle.heap_rule.specs.declared.views.AdvHeld.{AdvHeld}
 use Rattle.heap_rule.specs.Plays.{IsAhead}
 use Rattle.heap_rule.specs.Views.{full_rest, advancer_rested}
@@ -68,6 +69,7 @@ reason_more (NotYet unit epoch cut) a b c l not h =
       epoch_is = h.epoch_is;
       begun = h.begun;
       below = h.below;
+      below_durable = h.below_durable;
       cut_is = h.cut_is;
       stays = h.stays;
       marked = h.marked;
@@ -76,9 +78,9 @@ reason_more Cut a b c l not h = tt
 reason_more ClockEnd a b c l not h = absurd (not refl)
 
 -- ---- the end
-pub rested_advanced : (a b : AdvHeld) (n : ℕ) → b ≡ advancer_rested a → n ≡ a.clock → is_clocked a.part ≡ true → a.turn ≡ full_rest
-    → IsAhead a → IsAdvanced a n b
-rested_advanced a b n made now moved turn h =
+pub rested_advanced : (o : Opening) (a b : AdvHeld) (n : ℕ) → b ≡ advancer_rested a → n ≡ a.clock → is_clocked a.part ≡ true → a.turn ≡ full_rest
+    → IsAhead o a → IsAdvanced a n b
+rested_advanced o a b n made now moved turn h =
     subst (λ (z : ℕ × AdvHeld). IsAdvanced a z.0 z.1) (λ i. (sym now i, sym made i)) (record {
       ahead = sym (ahead_moved a moved);
       current = refl;

@@ -49,13 +49,15 @@ pub record IsUnderWay (old new : AdvHeld) : Type 0 where
   pub durable : new.durable ≡ old.durable
   pub ahead : clock_ahead new ≡ clock_ahead old
 
--- The announcement that was loaded last, in this call, was this unit's, and below the clock.
+-- The announcement that was loaded last, in this call, was this unit's, and below the clock, which
+-- is durable.
 pub record HasShown (unit epoch : ℕ) (cut : Bool) (old new : AdvHeld) : Type 0 where
   pub loads : old.steps < new.steps
   pub holds : lets_pass new.clock new.loaded ≡ false
   pub epoch_is : epoch ≡ new.loaded / 2
   pub begun : FIRST_CLOCK ≤ epoch
   pub below : epoch < new.clock
+  pub below_durable : epoch < new.durable
   pub cut_is : cut ≡ is_odd new.loaded
   pub stays : new.part ≡ Checking unit
   pub marked : cut ≡ true → is_among new.odd unit ≡ true
@@ -65,10 +67,16 @@ pub record IsAtEnd (a : AdvHeld) : Type 0 where
   pub rests : a.part ≡ Rest
   pub last : a.clock ≡ LAST
 
+-- so nothing was done, and the last clock is durable
+pub record HasEnded (old new : AdvHeld) : Type 0 where
+  pub ended : IsAtEnd old
+  pub durable : new.durable ≡ LAST
+  pub same : new ≡ old
+
 abbrev pub HasReason : AdvanceRefusal → AdvHeld → AdvHeld → Type 0
 HasReason (NotYet unit epoch cut) old new = HasShown unit epoch cut old new
 HasReason Cut old new = Unit {0}
-HasReason ClockEnd old new = IsAtEnd old × (new ≡ old)
+HasReason ClockEnd old new = HasEnded old new
 
 -- the gate cut
 abbrev pub was_cut : {T : Type 0} → Result T AdvanceRefusal → Bool

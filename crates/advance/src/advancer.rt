@@ -1,6 +1,7 @@
 // The advancer: its seat, and how far its advance is.
 ghost use Rattle.std.specs.Prelude.{◌≡◌, ◌≢◌, ◌<◌, ◌≤◌, ◌↔◌, true, false, length, IsTrue, IfSome, IfNone, IfOk, IfErr, OnOk, OnErr, Err};
 ghost use Rattle.mont_base.specs.declared.constants.TheConstants.{LAST};
+ghost use Rattle.mont_base.specs.Image.{clock_of};
 ghost use Rattle.mont_base.specs.Layout.{units_of};
 ghost use Rattle.core_steps.specs.declared.parts.AdvPart.TheVariants.{Rest};
 ghost use Rattle.core_steps.specs.Advancing.{can_check, unit_at_hand, lets_pass, past_unit, is_clocked};
@@ -135,6 +136,7 @@ impl Advancer {
         ensures gate { IsAskedOften G.cuts G.endless gate.old gate.new (was_cut result) }
         ensures same { IsSameSeat self.old self.new }
         ensures ok { IfOk result (λ clock. IsAdvanced self.old.held clock self.new.held) }
+        ensures begun { IfOk result (λ clock. clock_of heap.now.opening.words < clock) }
         ensures refused { OnErr result (IsUnderWay self.old.held self.new.held) }
         ensures reason { IfErr result (λ why. HasReason why self.old.held self.new.held) }
         ensures clock_end { IsAtEnd self.old.held → result ≡ Err ClockEnd }
@@ -151,11 +153,12 @@ impl Advancer {
     // Whether no clock is ahead.
     fn is_at_end(&self) -> bool
         ensures end { IsTrue result ↔ IsAtEnd self.now.held }
+        ensures durable { IsTrue result → self.now.held.durable ≡ LAST }
         ensures ahead { result ≡ false
             → self.now.held.part ≡ Rest → self.now.held.clock < LAST }
     {
         match self.stage {
-            AdvStage::Rest => self.clock == LAST,
+            AdvStage::Rest => self.seat.durable() == LAST,
             _ => false,
         }
     }
@@ -277,6 +280,7 @@ impl Advancer {
         ensures gate { IsAskedOften G.cuts G.endless gate.old gate.new (was_cut result) }
         ensures same { IsSameSeat self.old self.new }
         ensures ok { IfOk result (λ clock. IsAdvanced self.old.held clock self.new.held) }
+        ensures begun { IfOk result (λ clock. clock_of heap.now.opening.words < clock) }
         ensures refused { OnErr result (self.new ≡ self.old) }
         ensures reason { IfErr result (λ why. why ≡ Cut) }
     {

@@ -1,19 +1,17 @@
--- What a caller has seen once it has taken a note: its marks, its fronts and the entries before them.
-use Rattle.std.proofs.Common.{◌≡◌, ℕ, zero, suc, ⊎_elim, Bool, true, false, List, [], ◌∷◌, length, cond, max, replicate, refl, sym, ap, ◌∙◌, arith}
+-- What a caller has seen once it has taken a note: its marks and its fronts.
+use Rattle.std.proofs.Common.{◌≡◌, ℕ, zero, suc, ⊎_elim, Bool, true, false, List, [], ◌∷◌, length, max, replicate, refl, sym, ap, ◌∙◌, arith}
 use Rattle.std.specs.Prelude.{◌==◌, ◌&&◌, ◌||◌, not, slice_get, map, filter, Option, Some, None}
 use Rattle.std.specs.List.{list_any}
-use Rattle.std.proofs.lemmas.Bool.{le-ltb}
 use Rattle.std.proofs.lemmas.Bool.Decides.{nat_tests}
 use Rattle.std.proofs.lemmas.List.Folds.{list_any-append}
 use Rattle.std.proofs.lemmas.Map.Views.{any-filter_same}
 use Rattle.std.proofs.lemmas.Option.{same_Some}
-use Rattle.mont_base.specs.declared.operation.Entry.{Entry}
 use Rattle.core_steps.specs.declared.parts.CallerPart.{CallerPart}
 use Rattle.core_steps.specs.declared.parts.Mark.{Mark}
 use Rattle.core_steps.specs.declared.parts.Note.{Note}
 use Rattle.core_steps.specs.Notes.{greater_fronts, same_caller, same_mark, joined_marks, after_hear}
 use Rattle.core_steps.proofs.Decisions.{both, either_true, eq_true}
-use Rattle.heap_rule.specs.Views.{is_among, longer_each}
+use Rattle.heap_rule.specs.Views.{is_among}
 use Rattle.caller.specs.Telling.{has_mark, TakesGreater}
 
 -- ---- marks
@@ -69,7 +67,7 @@ odd_has (u ∷ us) unit e = ⊎_elim
     (λ (more : is_among us unit ≡ true). or_right ((unit == u) && true) _ (odd_has us unit more))
     (either_true (u == unit) (is_among us unit) e)
 
--- ---- fronts and entries
+-- ---- fronts
 -- none rises by fronts of 0
 pub greater_none : (fronts : List ℕ) → greater_fronts fronts (replicate (length fronts) 0) ≡ fronts
 greater_none [] = refl
@@ -77,12 +75,6 @@ greater_none (n ∷ ns) = λ i. largest n i ∷ greater_none ns i
   where
     largest : (n : ℕ) → max n 0 ≡ n
     largest n = omega arith
-
--- no entry is seen by a note of none
-pub longer_none : (entries : List (List Entry)) (units : ℕ) → longer_each entries (replicate units []) ≡ entries
-longer_none [] units = refl
-longer_none (e ∷ es) zero = refl
-longer_none (e ∷ es) (suc n) = λ i. ap (λ (b : Bool). cond b [] e) (le-ltb (length e) 0 (omega arith)) i ∷ longer_none es n i
 
 greater_at : (ns ms : List ℕ) (u n m : ℕ) → slice_get ns u ≡ Some n → slice_get ms u ≡ Some m
     → slice_get (greater_fronts ns ms) u ≡ Some (max n m)

@@ -2,9 +2,11 @@
 use Rattle.std.proofs.Common.{◌≡◌, ℕ, ◌+◌, ◌-◌, ◌<◌, Bool, true, List, length, cond, max, refl, sym, ap, ◌∙◌, subst, inr, arith}
 use Rattle.std.specs.Prelude.{None}
 use Rattle.std.proofs.lemmas.Bool.{lt-leb}
+use Rattle.mont_base.specs.declared.constants.TheConstants.{LAST}
 use Rattle.core_steps.specs.declared.parts.Mark.{Mark}
 use Rattle.heap_rule.specs.Plays.{IsDurable}
 use Rattle.heap_rule.specs.Views.{caller_saw}
+use Rattle.heap_rule.proofs.SeenFronts.{longer_none}
 use Rattle.heap.specs.HeapShown.{HeapShown, CallerShown}
 use Rattle.advance.specs.declared.refusal.AdvanceRefusal.{AdvanceRefusal}
 use Rattle.advance.specs.declared.refusal.AdvanceRefusal.TheVariants as advances
@@ -12,7 +14,7 @@ use Rattle.caller.specs.declared.sync_refusal.SyncRefusal.{SyncRefusal}
 use Rattle.caller.specs.declared.sync_refusal.SyncRefusal.TheVariants.{Stuck, Cut, ClockEnd}
 use Rattle.caller.specs.Telling.{has_mark}
 use Rattle.caller.specs.Syncing.{KeepsSeen, HasWaited, HasHeard, LeavesUnsynced, refusal_of_advance}
-use Rattle.caller.proofs.TakenNotes.{or_left, or_right, joined_has, odd_has, greater_none, longer_none}
+use Rattle.caller.proofs.TakenNotes.{or_left, or_right, joined_has, odd_has, greater_none}
 
 -- ---- waiting
 -- the caller behind a load of the durable clock, with these synced fronts
@@ -44,13 +46,16 @@ waits_more x y z clock w made d short =
 
 -- one by which the newest epoch is seen to be too new, and it was made
 pub waits_on : (x y z : CallerShown) (clock newest : ℕ) → HasWaited x y → z ≡ saw y clock → IsDurable y.held.part.durable clock
-    → newest ≡ z.held.part.newest → clock - 2 < newest → HasWaited x z × (x.held.steps < z.held.steps)
+    → newest ≡ z.held.part.newest → clock - 2 < newest
+    → HasWaited x z × (x.held.steps < z.held.steps) × (z.held.part.durable ≤ LAST)
 waits_on x y z clock newest w made d is new =
     let low = d.low in
     let before = w.steps in
     let same = ap (λ (v : CallerShown). v.held.part.newest) {x = z} {y = saw y clock} made in
     let steps = ap (λ (v : CallerShown). v.held.steps) {x = z} {y = saw y clock} made in
-    (waits_more x y z clock w made d (omega arith), omega arith)
+    let durable = ap (λ (v : CallerShown). v.held.part.durable) {x = z} {y = saw y clock} made in
+    let high = d.high in
+    (waits_more x y z clock w made d (omega arith), omega arith, omega arith)
 
 -- ---- what stays
 pub keeps_waited : (x y : CallerShown) → HasWaited x y → KeepsSeen x y
@@ -112,12 +117,23 @@ keeps_more x y z h j =
       marks = λ m has. j.marks m (h.marks m has);
     }
 
+-- a durable clock of the advancer's that is the last one
+last_heard : (known durable heard : ℕ) → heard ≡ max known durable → durable ≡ LAST → known ≤ LAST → heard ≡ LAST
+last_heard known durable heard is last high = omega arith
+
 -- ---- refusals
 pub leaves_held_up : (heap : HeapShown) (x y z : CallerShown) (why : SyncRefusal) → HasWaited x y → x.held.steps < y.held.steps
-    → HasHeard heap y z (refusal_of_advance why) → LeavesUnsynced heap x z why
-leaves_held_up heap x y z (Stuck unit epoch) w more h = record {
+    → y.held.part.durable ≤ LAST → HasHeard heap y z (refusal_of_advance why) → LeavesUnsynced heap x z why
+leaves_held_up heap x y z (Stuck unit epoch) w more high h =
+    let durable = ap (λ (v : CallerShown). v.held.part.durable) h.noted in
+    let below = h.reason.below_durable in record {
+      held_up = record { waiting = y; waited = w; loads = more; heard = h };
+      marked = marked_heard heap y z unit epoch h;
+      below = omega arith;
+    }
+leaves_held_up heap x y z Cut w more high h = inr (record { waiting = y; waited = w; loads = more; heard = h })
+leaves_held_up heap x y z ClockEnd w more high h = record {
   held_up = record { waiting = y; waited = w; loads = more; heard = h };
-  marked = marked_heard heap y z unit epoch h;
+  last = last_heard y.held.part.durable h.behind.held.durable z.held.part.durable
+      (ap (λ (v : CallerShown). v.held.part.durable) h.noted) h.reason.durable high;
 }
-leaves_held_up heap x y z Cut w more h = inr (record { waiting = y; waited = w; loads = more; heard = h })
-leaves_held_up heap x y z ClockEnd w more h = record { waiting = y; waited = w; loads = more; heard = h }

@@ -1,6 +1,7 @@
 -- What a sync leaves of a caller, and what its refusals tell.
 use Rattle.std.specs.Prelude.{◌≡◌, ℕ, ◌+◌, ◌<◌, ◌≤◌, ◌⊎◌, Bool, true, false, length, Err, None}
 use Rattle.std.specs.declared.result.Result.{Result}
+use Rattle.mont_base.specs.declared.constants.TheConstants.{LAST}
 use Rattle.core_steps.specs.declared.parts.Mark.{Mark}
 use Rattle.heap_rule.specs.declared.views.CallerHeld.{CallerHeld}
 use Rattle.heap_rule.specs.Plays.{IsDurable}
@@ -97,15 +98,22 @@ pub record WasHeldUp (heap : HeapShown) (old new : CallerShown) (why : AdvanceRe
   pub loads : old.held.steps < waiting.held.steps
   pub heard : HasHeard heap waiting new why
 
--- A caller was cut in the unit, as the caller knows now.
+-- A caller was cut in the unit, and the epoch that it announces is below a durable clock, as the
+-- caller knows now.
 pub record IsStuckBehind (heap : HeapShown) (old new : CallerShown) (unit epoch : ℕ) : Type 0 where
   pub held_up : WasHeldUp heap old new (advances.NotYet unit epoch true)
   pub marked : has_mark new.held.part.marks (record { unit = unit; by = None }) ≡ true
+  pub below : epoch < new.held.part.durable
+
+-- The last clock is durable, as the caller knows now.
+pub record HasLastClock (heap : HeapShown) (old new : CallerShown) : Type 0 where
+  pub held_up : WasHeldUp heap old new advances.ClockEnd
+  pub last : new.held.part.durable ≡ LAST
 
 abbrev pub LeavesUnsynced : HeapShown → CallerShown → CallerShown → SyncRefusal → Type 0
 LeavesUnsynced heap old new (Stuck unit epoch) = IsStuckBehind heap old new unit epoch
 LeavesUnsynced heap old new Cut = HasWaited old new ⊎ WasHeldUp heap old new advances.Cut
-LeavesUnsynced heap old new ClockEnd = WasHeldUp heap old new advances.ClockEnd
+LeavesUnsynced heap old new ClockEnd = HasLastClock heap old new
 
 -- the gate cut
 abbrev pub was_cut : {T : Type 0} → Result T SyncRefusal → Bool

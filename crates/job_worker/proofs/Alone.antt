@@ -23,10 +23,11 @@ use Rattle.mont_base.specs.State.State.{QueueOf}
 use Rattle.mont_base.specs.Structure.{structure_of, IsStructure}
 use Rattle.mont_base.specs.Versions.{live_objects}
 use Rattle.job_text.specs.Causes.{effects_then}
-use Rattle.job_worker.specs.Continuing.{AreFronts}
+use Rattle.heap_rule.specs.SeenEntries.{AreFronts}
+use Rattle.heap_rule.proofs.SeenFronts.{fronts_same}
 use Rattle.job_worker.specs.Asking.{KeepsAnswers, HasContinued, FoundFrom, HasNoRoom, WasHalted, IsCutIn}
 use Rattle.job_worker.specs.Alone.{alone_opening, held_alone}
-use Rattle.job_worker.proofs.Fronts.{one_found, fronts_same}
+use Rattle.job_worker.proofs.Fronts.{one_found}
 use Rattle.job_worker.proofs.Later.{keeps_same}
 
 -- the one unit has some entries more

@@ -2,12 +2,11 @@
 use Rattle.std.proofs.Common.{◌≡◌, ℕ, ◌<◌, ◌≤◌, List, [], ◌∷◌, ◌++◌, length, take, slice_get, sym, ap, ◌∙◌, arith, append_assoc, length-append}
 use Rattle.std.specs.Prelude.{Option, Some, unwrap_or}
 use Rattle.std.proofs.Math.Seq.{take-append_seam, get_or-append_seam}
-use Rattle.std.proofs.lemmas.List.{append-nil}
 use Rattle.std.proofs.lemmas.Option.{slice_get-get_or}
 use Rattle.mont_base.specs.declared.operation.Entry.{Entry}
 use Rattle.mont_base.specs.Seen.{IsEntryAt}
 use Rattle.core_steps.specs.Notes.{BeginsWith}
-use Rattle.job_worker.specs.Continuing.{AreFronts}
+use Rattle.heap_rule.specs.SeenEntries.{AreFronts}
 
 pub one_found : {A : Type 0} (o : Option A) (a b : A) → o ≡ Some a → o ≡ Some b → a ≡ b
 one_found o a b e f = ap (λ v. unwrap_or v a) (sym e ∙ f)
@@ -15,23 +14,8 @@ one_found o a b e f = ap (λ v. unwrap_or v a) (sym e ∙ f)
 pub begins_longer : (whole front : List Entry) → BeginsWith whole front → length front ≤ length whole
 begins_longer whole front (rest, e) = let n = ap length e ∙ length-append front rest in omega (arith, n)
 
-pub begins_same : (whole : List Entry) → BeginsWith whole whole
-begins_same whole = ([], sym (append-nil whole))
-
-pub begins_trans : (a b c : List Entry) → BeginsWith a b → BeginsWith b c → BeginsWith a c
-begins_trans a b c (r, e) (s, f) = (s ++ r, e ∙ ap (λ (v : List Entry). v ++ r) f ∙ append_assoc c s r)
-
 pub taken : (whole front : List Entry) → BeginsWith whole front → take (length front) whole ≡ front
 taken whole front (rest, e) = ap (λ (v : List Entry). take (length front) v) e ∙ take-append_seam front rest
-
-pub fronts_same : (whole : List (List Entry)) → AreFronts whole whole
-fronts_same whole unit front there = record { whole = front; there = there; begins = begins_same front }
-
-pub fronts_trans : (a b c : List (List Entry)) → AreFronts a b → AreFronts b c → AreFronts a c
-fronts_trans a b c f g unit front there =
-    let m = g unit front there in
-    let w = f unit m.whole m.there in
-    record { whole = w.whole; there = w.there; begins = begins_trans w.whole m.whole front w.begins m.begins }
 
 -- the last entry of a front
 pub last_there : (whole before : List Entry) (e : Entry) → BeginsWith whole (before ++ e ∷ [])

@@ -15,7 +15,8 @@ use Rattle.job_text.specs.Report.{Report}
 use Rattle.job_worker.specs.Continuing.{GoesOn, Continues}
 use Rattle.job_worker.specs.Asking.{KeepsAnswers, WasFound}
 use Rattle.job_worker.specs.Ending.{IsPassed, IsBefore, IsAhead, ComesBehind}
-use Rattle.job_worker.proofs.Fronts.{one_found, begins_longer, taken, fronts_same, fronts_trans}
+use Rattle.heap_rule.proofs.SeenFronts.{fronts_same, fronts_trans}
+use Rattle.job_worker.proofs.Fronts.{one_found, begins_longer, taken}
 
 -- ---- a caller that goes on
 pub goes_same : (q : CallerHeld) → GoesOn q q

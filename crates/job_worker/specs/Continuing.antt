@@ -1,28 +1,16 @@
 -- How what a caller has seen goes on, and when a report continues it.
-use Rattle.std.specs.Prelude.{◌≡◌, ℕ, ◌≤◌, true, List, ◌++◌, slice_get, Some}
+use Rattle.std.specs.Prelude.{◌≡◌, ℕ, ◌≤◌, true, List, ◌++◌}
 use Rattle.mont_base.specs.declared.constants.TheConstants.{LAST}
-use Rattle.mont_base.specs.declared.operation.Entry.{Entry}
 use Rattle.mont_base.specs.declared.operation.Receipt.{Receipt}
 use Rattle.mont_base.specs.Image.{clock_of, IsRecovered}
 use Rattle.core_steps.specs.declared.parts.Mark.{Mark}
-use Rattle.core_steps.specs.Notes.{BeginsWith, NamesCaller}
+use Rattle.core_steps.specs.Notes.{NamesCaller}
 use Rattle.heap_rule.specs.declared.rule.Opening.{Opening}
 use Rattle.heap_rule.specs.declared.views.CallerHeld.{CallerHeld}
+use Rattle.heap_rule.specs.SeenEntries.{AreFronts}
 use Rattle.caller.specs.Telling.{has_mark}
 use Rattle.job_text.specs.Causes.{WasCutIn}
 use Rattle.job_text.specs.Report.{Report}
-
--- ---- entries, unit by unit
--- These entries stand first among those of the unit.
-pub record StandsFirst (wholes : List (List Entry)) (unit : ℕ) (front : List Entry) : Type 0 where
-  pub whole : List Entry
-  pub there : slice_get wholes unit ≡ Some whole
-  pub begins : BeginsWith whole front
-
-abbrev pub AreFronts : List (List Entry) → List (List Entry) → Type 0
-AreFronts wholes fronts =
-    (unit : ℕ) (front : List Entry) → slice_get fronts unit ≡ Some front
-    → StandsFirst wholes unit front
 
 -- ---- a caller, earlier and later
 -- It is the same caller. It has lost no receipt, it has forgotten no entry that it saw, no mark and

@@ -21,4 +21,4 @@ returns-in_err-advance_once-clause-refused g c =
     c.loop.invariant.waited e.ok e.clock c.newest.ensures (omega arith) in
     let p = err_from_is_err_and c.from_residual-in_err-advance_once.result c.from_residual-in_err-advance_once.ensures.1 in
     rw (p.1, p.2) (leaves_held_up c.args.heap.now c.args.pass.now.ticket c.seen_durable.new.ticket c.advance_once.new.pass.ticket
-    c.in_err-advance_once.field-0.0 w.0 w.1 c.in_err-advance_once.ensures.refused)
+    c.in_err-advance_once.field-0.0 w.0 w.1 w.2 c.in_err-advance_once.ensures.refused)

@@ -14,4 +14,4 @@ returns-then-not-may_pass-clause-reason g c =
     (ap (λ (s : AdvShown). s.held) ok.1)
     (c.requires.unit ∙ ap (λ (s : AdvShown). unit_at_hand s.held.part) (sym c.self.view_is))
     (ap (λ (n : ℕ). lets_pass n c.in_ok-word.word) (sym c.self.invariant.clock_is)
-    ∙ (sym c.may_pass.ensures ∙ c.if-not-may_pass.true)) c.in_ok-word.ensures.word)
+    ∙ (sym c.may_pass.ensures ∙ c.if-not-may_pass.true)) c.in_ok-word.ensures.word c.in_ok-word.ensures.durable)
