@@ -1,5 +1,5 @@
 -- A unit that registers once it has taken a note of the caller.
-use Rattle.std.proofs.Common.{◌≡◌, ℕ, ◌≤◌, length, max, refl, ap, sym, ◌∙◌, subst, arith, true, false}
+use Rattle.std.proofs.Common.{◌≡◌, ℕ, ◌≤◌, length, max, refl, ap, sym, ◌∙◌, subst, arith, false}
 use Rattle.mont_base.specs.Layout.{units_of}
 use Rattle.mont_laws.specs.Records.{live_of}
 use Rattle.core_steps.specs.Notes.{last_epoch}
@@ -10,7 +10,7 @@ use Rattle.heap_pass.proofs.Cleanness.{are_clean-append}
 use Rattle.heap_rule.specs.Plays.{IsClock}
 use Rattle.heap_rule.specs.declared.views.Learnt.{Learnt}
 use Rattle.heap_rule.specs.declared.views.UnitTurn.{UnitTurn}
-use Rattle.heap_rule.specs.Views.{home_turn, learnt_more, unit_shown}
+use Rattle.heap_rule.specs.Views.{home_turn, learnt_more}
 use Rattle.announce.specs.Registering.{Comes, IsRegistered, IsOut}
 use Rattle.slots.specs.Books.{RegionShown}
 use Rattle.slots.specs.Putting.{MayWrite}
@@ -23,14 +23,8 @@ abbrev pub region_with : RegionShown → UnitShown → RegionShown
 region_with r seat = record { seat = seat; books = r.books }
 
 -- ---- a unit's seat takes a note of the caller
--- where it was lent, and took the note
-pub shown_is : (r : RegionShown) (q : CallerShown) (lent seat : UnitShown) → lent ≡ r.seat
-    → seat ≡ record { table = lent.table; held = unit_shown lent.held q.held } → region_with r seat ≡ region_shown r q
-shown_is r q lent seat is noted =
-    ap (region_with r) (noted ∙ ap (λ (s : UnitShown). record { table = s.table; held = unit_shown s.held q.held }) is)
-
 -- an operation may begin as before: it knows as many units to be clean
-pub ready_shown : (heap : HeapShown) (r : RegionShown) (q : CallerShown) → IsReady heap r → IsReady heap (region_shown r q)
+ready_shown : (heap : HeapShown) (r : RegionShown) (q : CallerShown) → IsReady heap r → IsReady heap (region_shown r q)
 ready_shown heap r q ready = record {
   runs = record {
     of_heap = record { table = ready.runs.of_heap.table; layout = ready.runs.of_heap.layout };
@@ -41,6 +35,10 @@ ready_shown heap r q ready = record {
   rests = ready.rests;
   home = ready.home;
 }
+
+pub ready_as_shown : (heap : HeapShown) (r now : RegionShown) (q : CallerShown) → now ≡ region_shown r q → IsReady heap r
+    → IsReady heap now
+ready_as_shown heap r now q is ready = subst (IsReady heap) (sym is) (ready_shown heap r q ready)
 
 -- ---- it registers
 -- the guard of an operation of which nothing is written
