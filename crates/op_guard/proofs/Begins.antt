@@ -1,5 +1,5 @@
 -- A unit that registers once it has taken a note of the caller.
-use Rattle.std.proofs.Common.{◌≡◌, ℕ, ◌≤◌, length, refl, ap, sym, ◌∙◌, subst, arith, true, false}
+use Rattle.std.proofs.Common.{◌≡◌, ℕ, ◌≤◌, length, max, refl, ap, sym, ◌∙◌, subst, arith, false}
 use Rattle.mont_base.specs.Layout.{units_of}
 use Rattle.mont_laws.specs.Records.{live_of}
 use Rattle.core_steps.specs.Notes.{last_epoch}
@@ -8,78 +8,79 @@ use Rattle.core_steps.specs.declared.parts.UnitStage.TheVariants.{Within}
 use Rattle.heap.specs.HeapShown.{HeapShown, UnitShown, CallerShown}
 use Rattle.heap_pass.proofs.Cleanness.{are_clean-append}
 use Rattle.heap_rule.specs.Plays.{IsClock}
+use Rattle.heap_rule.specs.declared.views.Learnt.{Learnt}
 use Rattle.heap_rule.specs.declared.views.UnitTurn.{UnitTurn}
-use Rattle.heap_rule.specs.Views.{are_clean, home_turn, unit_shown}
-use Rattle.announce.specs.Registering.{Comes, IsRegistered, IsOut, at_stage}
+use Rattle.heap_rule.specs.Views.{home_turn, learnt_more}
+use Rattle.announce.specs.Registering.{Comes, IsRegistered, IsOut}
 use Rattle.slots.specs.Books.{RegionShown}
 use Rattle.slots.specs.Putting.{MayWrite}
 use Rattle.op_guard.specs.declared.guard.Guard.{Guard}
-use Rattle.op_guard.specs.Regions.{IsRunning, IsReady, KeepsUnit}
+use Rattle.op_guard.specs.Regions.{IsRunning, IsReady, KeepsUnit, region_shown}
 use Rattle.op_guard.specs.Guarding.{HasBegun}
-
--- the seat of a unit that took a note of the caller
-abbrev pub seat_shown : RegionShown → CallerShown → UnitShown
-seat_shown r q = record { table = r.seat.table; held = unit_shown r.seat.held q.held }
 
 -- the region with another seat
 abbrev pub region_with : RegionShown → UnitShown → RegionShown
 region_with r seat = record { seat = seat; books = r.books }
 
--- where it was lent, took the note, and was lent again
-pub shown_is : (r : RegionShown) (q : CallerShown) (lent seat now : UnitShown) → lent ≡ r.seat
-    → seat ≡ record { table = lent.table; held = unit_shown lent.held q.held } → now ≡ seat → now ≡ seat_shown r q
-shown_is r q lent seat now is noted same =
-    same ∙ (noted ∙ ap (λ (s : UnitShown). record { table = s.table; held = unit_shown s.held q.held }) is)
+-- ---- a unit's seat takes a note of the caller
+-- an operation may begin as before: it knows as many units to be clean
+ready_shown : (heap : HeapShown) (r : RegionShown) (q : CallerShown) → IsReady heap r → IsReady heap (region_shown r q)
+ready_shown heap r q ready = record {
+  runs = record {
+    of_heap = record { table = ready.runs.of_heap.table; layout = ready.runs.of_heap.layout };
+    agrees = ready.runs.agrees;
+    running = ready.runs.running;
+    clean = are_clean-append (units_of heap.opening.layout) r.seat.held.clean q.held.clean ready.runs.clean;
+  };
+  rests = ready.rests;
+  home = ready.home;
+}
 
+pub ready_as_shown : (heap : HeapShown) (r now : RegionShown) (q : CallerShown) → now ≡ region_shown r q → IsReady heap r
+    → IsReady heap now
+ready_as_shown heap r now q is ready = subst (IsReady heap) (sym is) (ready_shown heap r q ready)
+
+-- ---- it registers
 -- the guard of an operation of which nothing is written
 abbrev pub guard_at : ℕ → ℕ → ℕ → ℕ → Guard
 guard_at unit by epoch need = record { unit = unit; by = by; epoch = epoch; need = need; written = 0 }
 
--- it knows as many units to be clean
-pub clean_shown : (heap : HeapShown) (r : RegionShown) (q : CallerShown) → IsRunning heap r
-    → are_clean (units_of heap.opening.layout) (seat_shown r q).held.clean ≡ true
-clean_shown heap r q runs =
-    are_clean-append (units_of heap.opening.layout) r.seat.held.clean q.held.clean runs.clean
-
 -- it may make steps at whatever stage
-pub runs_at : (heap : HeapShown) (r : RegionShown) (q : CallerShown) (stage : UnitStage) (steps loaded : ℕ) (seat : UnitShown)
-    → IsRunning heap r → Comes (seat_shown r q) seat stage steps loaded → IsRunning heap (region_with r seat)
-runs_at heap r q stage steps loaded seat runs comes =
+pub runs_at : (heap : HeapShown) (r : RegionShown) (stage : UnitStage) (steps loaded : ℕ) (seat : UnitShown)
+    → IsRunning heap r → Comes r.seat seat stage steps loaded → IsRunning heap (region_with r seat)
+runs_at heap r stage steps loaded seat runs comes =
     subst (λ (s : UnitShown). IsRunning heap (region_with r s)) (sym comes) (record {
       of_heap = record { table = runs.of_heap.table; layout = runs.of_heap.layout };
       agrees = runs.agrees;
       running = runs.running;
-      clean = clean_shown heap r q runs;
+      clean = runs.clean;
     })
 
 -- also where it didn't register
-pub runs_out : (heap : HeapShown) (r : RegionShown) (q : CallerShown) (seat : UnitShown) → IsRunning heap r
-    → IsOut (seat_shown r q) seat → IsRunning heap (region_with r seat)
-runs_out heap r q seat runs out =
-    runs_at heap r q seat.held.part.stage seat.held.steps seat.held.loaded seat runs out.only
+pub runs_out : (heap : HeapShown) (r : RegionShown) (seat : UnitShown) → IsRunning heap r → IsOut r.seat seat
+    → IsRunning heap (region_with r seat)
+runs_out heap r seat runs out =
+    runs_at heap r seat.held.part.stage seat.held.steps seat.held.loaded seat runs out.only
 
 -- and has its list at home
-pub home_out : (r : RegionShown) (q : CallerShown) (seat : UnitShown) → r.seat.held.turn ≡ home_turn → IsOut (seat_shown r q) seat
-    → seat.held.turn.out ≡ false
-home_out r q seat home out = ap (λ (s : UnitShown). s.held.turn.out) out.only ∙ ap (λ (t : UnitTurn). t.out) home
+pub home_out : (r : RegionShown) (seat : UnitShown) → r.seat.held.turn ≡ home_turn → IsOut r.seat seat → seat.held.turn.out ≡ false
+home_out r seat home out = ap (λ (s : UnitShown). s.held.turn.out) out.only ∙ ap (λ (t : UnitTurn). t.out) home
 
 -- an operation is under way
 pub has_begun : (heap : HeapShown) (old r : RegionShown) (q : CallerShown) (need epoch : ℕ) (seat : UnitShown)
-    → IsReady heap r → KeepsUnit old r → need ≤ length r.books.free → (need ≤ length old.books.free → r ≡ old)
-    → IsRegistered (seat_shown r q) seat epoch
-    → IsClock (seat_shown r q).held.learnt (seat_shown r q).held.part epoch
+    → IsReady heap r → KeepsUnit old r → r.seat.held.learnt ≡ learnt_more old.seat.held.learnt q.held.part
+    → need ≤ length r.books.free → (need ≤ length old.books.free → r ≡ region_shown old q)
+    → IsRegistered r.seat seat epoch → IsClock r.seat.held.learnt r.seat.held.part epoch
     → HasBegun heap old (region_with r seat) q need (guard_at r.books.unit q.held.caller epoch need)
-has_begun heap old r q need epoch seat ready keeps room same registered clock =
+has_begun heap old r q need epoch seat ready keeps knows room same registered clock =
     let steps = seat.held.steps in
     let comes = registered.within in
-    let at : UnitShown = record {
-      table = r.seat.table;
-      held = at_stage (seat_shown r q).held (Within epoch) steps epoch;
-    } in
-    let runs = runs_at heap r q (Within epoch) steps epoch seat ready.runs comes in
+    let runs = runs_at heap r (Within epoch) steps epoch seat ready.runs comes in
     let low = clock.low in
-    let newest = clock.not_before in
-    let durable = clock.not_behind in
+    let newest : max old.seat.held.learnt.newest q.held.part.newest ≤ epoch =
+    subst (λ (l : Learnt). l.newest ≤ epoch) knows clock.not_before in
+    let durable : max old.seat.held.learnt.durable q.held.part.durable ≤ epoch =
+    subst (λ (l : Learnt). l.durable ≤ epoch) knows clock.not_behind in
     let before : old.seat.held.part.durable ≤ r.seat.held.part.durable = keeps.durable in
     let known : r.seat.held.part.durable ≤ epoch = clock.after_durable in
     let entries : last_epoch r.seat.held.part.history ≤ epoch = clock.after_entries in
@@ -117,11 +118,10 @@ has_begun heap old r q need epoch seat ready keeps room same registered clock =
     }
 
 -- the same of what has these values
-pub begun_as : (heap : HeapShown) (old r now : RegionShown) (q p : CallerShown) (need epoch unit by : ℕ) (seat : UnitShown)
-    → now ≡ region_with r seat → q ≡ p → unit ≡ r.books.unit → by ≡ q.held.caller
+pub begun_as : (heap : HeapShown) (old r now : RegionShown) (q : CallerShown) (need epoch unit by : ℕ) (seat : UnitShown)
+    → now ≡ region_with r seat → unit ≡ r.books.unit → by ≡ q.held.caller
     → HasBegun heap old (region_with r seat) q need (guard_at r.books.unit q.held.caller epoch need)
-    → HasBegun heap old now p need (guard_at unit by epoch need)
-begun_as heap old r now q p need epoch unit by seat now_is same unit_is by_is =
-    subst (λ (x : RegionShown × CallerShown × ℕ × ℕ). HasBegun heap old x.0 x.1 need
-    (guard_at x.2 x.3 epoch need))
-    (λ i. (sym now_is i, same i, sym unit_is i, sym by_is i))
+    → HasBegun heap old now q need (guard_at unit by epoch need)
+begun_as heap old r now q need epoch unit by seat now_is unit_is by_is =
+    subst (λ (x : RegionShown × ℕ × ℕ). HasBegun heap old x.0 q need (guard_at x.1 x.2 epoch need))
+    (λ i. (sym now_is i, sym unit_is i, sym by_is i))

@@ -21,7 +21,7 @@ use Rattle.heap_rule.specs.Plays.{IsDurable, HasSeenAll}
 use Rattle.heap_rule.specs.Views.{is_among, are_clean, unit_closed, unit_persisted, unit_loaded_durable}
 use Rattle.slots.specs.Books.{BooksShown, RegionShown, Agrees, IsAtRest, StaysOpen}
 use Rattle.slots.specs.Reclaiming.{HasClosed, KeepsLive, IsSound, is_due, due_at, unit_emptied}
-use Rattle.op_guard.specs.Regions.{IsRunning, IsReady, KeepsUnit}
+use Rattle.op_guard.specs.Regions.{IsRunning, IsReady, KeepsUnit, WasHalted, region_shown}
 use Rattle.op_guard.specs.Guarding.{HasRoomAt, HasNoted, IsReclaimedBy, IsFull}
 use Rattle.op_guard.proofs.Halts.{stays_running}
 
@@ -99,62 +99,104 @@ room_at heap r clock runs rests durable begun none sound = λ states recovered.
     omega arith
 
 -- ---- a unit after all that is due was closed
-module _ (heap : HeapShown) (old new : RegionShown) (clock : ℕ) (ready : IsReady heap old)
-    (closed : HasClosed old new clock (due_at clock old.books.retired))
-    (agrees : Agrees new) (stays : StaysOpen heap old new) where
-  pub ready_emptied : IsAtRest new.seat.held.part → IsReady heap new
-  ready_emptied rests = record {
-    runs = stays_running heap old new ready.runs stays agrees;
-    rests = rests;
-    home = ap (λ (h : UnitHeld). h.turn) closed.others_are ∙ ready.home;
+-- what a reclaim tells of it
+pub record HasEmptied (heap : HeapShown) (old new : RegionShown) (clock : ℕ) : Type 0 where
+  pub ready : IsReady heap old
+  pub closed : HasClosed old new clock (due_at clock old.books.retired)
+  pub agrees : Agrees new
+  pub stays : StaysOpen heap old new
+  pub rests : IsAtRest new.seat.held.part
+  pub live : KeepsLive old new
+  pub found : IsDurable (max old.seat.held.part.durable old.seat.held.learnt.durable) clock
+  pub begun : clock_of heap.opening.words ≤ clock
+  pub sound : IsSound heap new
+
+module _ (heap : HeapShown) (old new : RegionShown) (clock : ℕ) (k : HasEmptied heap old new clock) where
+  pub ready_emptied : IsReady heap new
+  ready_emptied = record {
+    runs = stays_running heap old new k.ready.runs k.stays k.agrees;
+    rests = k.rests;
+    home = ap (λ (h : UnitHeld). h.turn) k.closed.others_are ∙ k.ready.home;
   }
 
-  pub keeps_emptied : KeepsLive old new → IsDurable (max old.seat.held.part.durable old.seat.held.learnt.durable) clock
-      → KeepsUnit old new
-  keeps_emptied live found = let known = found.not_behind in let now = ap (λ (p : UnitPart). p.durable) closed.part_is in record {
-    of_unit = ap (λ (b : BooksShown). b.unit) closed.books_are;
-    history = stays.history;
-    live = live;
-    identity = ap (λ (b : BooksShown). b.identity) closed.books_are;
-    serial = ap (λ (b : BooksShown). b.serial) closed.books_are;
+  pub keeps_emptied : KeepsUnit old new
+  keeps_emptied = let known = k.found.not_behind in let now = ap (λ (p : UnitPart). p.durable) k.closed.part_is in record {
+    of_unit = ap (λ (b : BooksShown). b.unit) k.closed.books_are;
+    history = k.stays.history;
+    live = k.live;
+    identity = ap (λ (b : BooksShown). b.identity) k.closed.books_are;
+    serial = ap (λ (b : BooksShown). b.serial) k.closed.books_are;
     durable = omega arith;
   }
 
-  pub reclaimed_emptied : IsDurable (max old.seat.held.part.durable old.seat.held.learnt.durable) clock → IsReclaimedBy old new clock
-  reclaimed_emptied found =
+  pub reclaimed_emptied : IsReclaimedBy old new clock
+  reclaimed_emptied =
       let loaded = unit_loaded_durable old.seat.held clock in
       let more = steps_emptied loaded (due_at clock old.books.retired) in
       let steps : new.seat.held.steps ≡ (unit_emptied loaded (due_at clock old.books.retired)).steps =
-      ap (λ (s : UnitShown). s.held.steps) closed.seat_is in
+      ap (λ (s : UnitShown). s.held.steps) k.closed.seat_is in
       record {
-        clock_is = ap (λ (p : UnitPart). p.durable) closed.part_is;
-        found = found;
+        closed = k.closed;
+        clock_is = ap (λ (p : UnitPart). p.durable) k.closed.part_is;
+        found = k.found;
         loads = omega arith;
-        none_due = none_left clock old.books.retired new.books.retired closed.queue_is;
+        none_due = none_left clock old.books.retired new.books.retired k.closed.queue_is;
       }
+
+  -- it has learnt no more
+  pub learnt_emptied : new.seat.held.learnt ≡ old.seat.held.learnt
+  learnt_emptied = ap (λ (h : UnitHeld). h.learnt) k.closed.others_are
 
   -- the unit's number
-  same_unit : IsRunning heap new → new.seat.held.unit ≡ old.books.unit
-  same_unit runs = sym runs.agrees.0 ∙ ap (λ (b : BooksShown). b.unit) closed.books_are
+  pub same_unit : new.seat.held.unit ≡ old.books.unit
+  same_unit = sym k.agrees.0 ∙ ap (λ (b : BooksShown). b.unit) k.closed.books_are
 
-  -- too few are free, and the caller took a note
-  pub is_full : (q r : CallerShown) (need free : ℕ) → IsAtRest new.seat.held.part → KeepsLive old new
-      → IsDurable (max old.seat.held.part.durable old.seat.held.learnt.durable) clock → clock_of heap.opening.words ≤ clock
-      → IsSound heap new → free ≡ length new.books.free → free < need → HasNoted new q r → HasSeenAll r.held new.seat.held
-      → IsFull heap old new q r need free clock
-  is_full q r need free rests live found begun sound is fewer noted seen =
-      let ready_now = ready_emptied rests in
-      let unit = same_unit ready_now.runs in
-      let reclaimed = reclaimed_emptied found in
-      record {
-        ready = ready_now;
-        keeps = keeps_emptied live found;
-        reclaimed = reclaimed;
-        free_is = is;
-        fewer = fewer;
-        room = room_at heap new clock ready_now.runs rests reclaimed.clock_is begun reclaimed.none_due sound;
-        noted = noted;
-        front = ap (slice_index r.held.part.fronts) (sym unit) ∙ seen.front;
-        entries = ap (slice_get r.held.entries) (sym unit) ∙ seen.entries;
-        sound = sound;
-      }
+-- ---- where its seat had taken a note of the caller
+-- what it keeps since
+pub keeps_shown : (old new : RegionShown) (q : CallerShown) → KeepsUnit (region_shown old q) new → KeepsUnit old new
+keeps_shown old new q k = record {
+  of_unit = k.of_unit;
+  history = k.history;
+  live = k.live;
+  identity = k.identity;
+  serial = k.serial;
+  durable = k.durable;
+}
+
+pub halted_shown : (heap : HeapShown) (old new : RegionShown) (q r : CallerShown) → WasHalted heap (region_shown old q) new q r
+    → WasHalted heap old new q r
+halted_shown heap old new q r k = record {
+  of_heap = k.of_heap;
+  agrees = k.agrees;
+  of_unit = k.of_unit;
+  by = k.by;
+  clean = k.clean;
+  home = k.home;
+  history = k.history;
+  caller = k.caller;
+}
+
+-- too few are free, and the caller took a note
+pub is_full : (heap : HeapShown) (old new : RegionShown) (q r : CallerShown) (need free clock : ℕ)
+    → HasEmptied heap (region_shown old q) new clock → free ≡ length new.books.free → free < need → HasNoted new q r
+    → HasSeenAll r.held new.seat.held → IsFull heap old new q r need free clock
+is_full heap old new q r need free clock k is fewer noted seen =
+    let shown = region_shown old q in
+    let ready_now = ready_emptied heap shown new clock k in
+    let unit = same_unit heap shown new clock k in
+    let reclaimed = reclaimed_emptied heap shown new clock k in
+    let found = k.found.not_behind in
+    record {
+      ready = ready_now;
+      keeps = keeps_shown old new q (keeps_emptied heap shown new clock k);
+      reclaimed = reclaimed;
+      known = omega arith;
+      begun = k.begun;
+      free_is = is;
+      fewer = fewer;
+      room = room_at heap new clock ready_now.runs k.rests reclaimed.clock_is k.begun reclaimed.none_due k.sound;
+      noted = noted;
+      front = ap (slice_index r.held.part.fronts) (sym unit) ∙ seen.front;
+      entries = ap (slice_get r.held.entries) (sym unit) ∙ seen.entries;
+      sound = k.sound;
+    }

@@ -13,11 +13,11 @@ use Rattle.heap_rule.specs.Plays.{IsDurable}
 use Rattle.heap_rule.specs.Views.{caller_heard, note_of_unit}
 use Rattle.slots.specs.Books.{RegionShown}
 use Rattle.slots.specs.Putting.{HasPut}
-use Rattle.slots.specs.Reclaiming.{IsSound, due_at}
+use Rattle.slots.specs.Reclaiming.{HasClosed, IsSound, due_at}
 use Rattle.op_guard.specs.declared.guard.Guard.{Guard}
 use Rattle.op_guard.specs.declared.guard.GuardRefusal.{GuardRefusal}
 use Rattle.op_guard.specs.declared.guard.GuardRefusal.TheVariants.{Full, Cut}
-use Rattle.op_guard.specs.Regions.{IsReady, IsUnderWay, KeepsUnit, WasHalted}
+use Rattle.op_guard.specs.Regions.{IsReady, IsUnderWay, KeepsUnit, WasHalted, region_shown}
 
 -- ---- begun
 -- an epoch that is not below anything that the caller has seen, nor below the unit's last, nor
@@ -54,8 +54,10 @@ HasRoomAt heap r clock =
     (base_state (opened_at (clock_of heap.opening.words) states) r.books.unit)
     r.seat.held.part.history clock
 
--- the durable clock was loaded in this call, and all that it lets be closed is closed
+-- The durable clock was loaded in this call, and all that it lets be closed is closed. Of the unit
+-- nothing else changed.
 pub record IsReclaimedBy (old new : RegionShown) (clock : ℕ) : Type 0 where
+  pub closed : HasClosed old new clock (due_at clock old.books.retired)
   pub clock_is : new.seat.held.part.durable ≡ clock
   pub found : IsDurable (max old.seat.held.part.durable old.seat.held.learnt.durable) clock
   pub loads : old.seat.held.steps < new.seat.held.steps
@@ -68,12 +70,17 @@ HasNoted new q r = r ≡ record {
   held = caller_heard q.held (note_of_unit (length q.held.part.fronts) new.seat.held);
 }
 
+-- Too few slots are free, though the unit's seat took a note of the caller, and then all was closed
+-- that the durable clock lets be closed. So that clock isn't below one that the caller knew. The
+-- caller took a note of the unit behind that.
 pub record IsFull
     (heap : HeapShown) (old new : RegionShown) (q r : CallerShown) (need free clock : ℕ)
     : Type 0 where
   pub ready : IsReady heap new
   pub keeps : KeepsUnit old new
-  pub reclaimed : IsReclaimedBy old new clock
+  pub reclaimed : IsReclaimedBy (region_shown old q) new clock
+  pub known : q.held.part.durable ≤ clock
+  pub begun : clock_of heap.opening.words ≤ clock
   pub free_is : free ≡ length new.books.free
   pub fewer : free < need
   pub room : HasRoomAt heap new clock

@@ -2,7 +2,7 @@
 use Rattle.std.specs.Prelude.{◌≡◌, ◌+◌, ◌≤◌, false, length, Some, None, IsTrue}
 use Rattle.mont_base.specs.Layout.{units_of}
 use Rattle.heap.specs.HeapShown.{HeapShown, CallerShown}
-use Rattle.heap_rule.specs.Views.{are_clean, home_turn, caller_cut}
+use Rattle.heap_rule.specs.Views.{are_clean, home_turn, unit_shown, caller_cut}
 use Rattle.slots.specs.Books.{RegionShown, IsRegionOf, Agrees, IsAtRest}
 use Rattle.slots.specs.Putting.{MayWrite}
 use Rattle.slots.specs.Reclaiming.{KeepsLive}
@@ -20,6 +20,13 @@ pub record IsReady (heap : HeapShown) (r : RegionShown) : Type 0 where
   pub runs : IsRunning heap r
   pub rests : IsAtRest r.seat.held.part
   pub home : r.seat.held.turn ≡ home_turn
+
+-- the region once the unit's seat has taken a note of the caller
+abbrev pub region_shown : RegionShown → CallerShown → RegionShown
+region_shown r q = record {
+  seat = record { table = r.seat.table; held = unit_shown r.seat.held q.held };
+  books = r.books;
+}
 
 -- The operation of a guard is under way: the unit is within the guard's epoch, what the guard's
 -- calls wrote is written and nothing else, and the slots that are still needed are free.

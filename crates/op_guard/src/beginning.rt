@@ -1,20 +1,23 @@
-// How an operation begins: room is made where there is too little, and the unit registers.
+// How an operation begins: the unit hears of the pass, room is made where there is too little, and
+// the unit registers.
 ghost use Rattle.std.specs.Prelude.{◌≡◌, ◌≤◌, IfOk, OnOk, IfErr, OnErr, is_err, length};
 ghost use Rattle.heap.specs.GateAsked.{IsAskedOften};
-ghost use Rattle.op_guard.specs.Regions.{IsReady, IsRunning, KeepsUnit, WasHalted};
+ghost use Rattle.heap_rule.specs.Views.{learnt_more};
+ghost use Rattle.op_guard.specs.Regions.{IsReady, IsRunning, KeepsUnit, WasHalted, region_shown};
 ghost use Rattle.op_guard.specs.Guarding.{HasBegun, LeavesRefused, was_cut};
 
 use crate::guard::{Guard, GuardRefusal};
 use crate::halting::or_halt;
 use announce::register;
-use heap::Heap;
+use heap::{Heap, Ticket};
 use heap_pass::Pass;
 use mont_base::{Epoch, Gate};
 use slots::Region;
 use std::sync::Wait;
 
-/// Begins an operation that needs so many slots: it reclaims where fewer are free, and registers
-/// the unit at an epoch that isn't below anything that the caller has seen.
+/// Begins an operation that needs so many slots: the unit's seat takes a note of the pass, closes
+/// what may be closed where fewer are free, and registers at an epoch that isn't below anything
+/// that the caller has seen.
 ///
 /// It may wait for the clock to stand still.
 pub fn begin<R: Wait, G: Gate>(
@@ -36,7 +39,6 @@ pub fn begin<R: Wait, G: Gate>(
         pass.old.ticket pass.new.ticket need refusal) }
 {
     make_room(heap, region, need, pass)?;
-    heap.show_unit(&mut pass.ticket, region.seat_mut());
     let registered = register(rt, heap, region.seat_mut(), &mut pass.gate);
     let epoch = or_halt(registered, heap, region, &mut pass.ticket)?;
     Ok(Guard {
@@ -48,7 +50,8 @@ pub fn begin<R: Wait, G: Gate>(
     })
 }
 
-// Closes what the durable clock lets be closed, where too few slots are free.
+// Lets the unit hear of the pass, and then closes what the durable clock lets be closed, where too
+// few slots are free.
 fn make_room<G: Gate>(
     heap: &Heap,
     region: &mut Region,
@@ -63,12 +66,15 @@ fn make_room<G: Gate>(
     ensures ready { OnOk result (IsReady heap.now region.new) }
     ensures room { OnOk result (need ≤ length region.new.books.free) }
     ensures keeps { OnOk result (KeepsUnit region.old region.new) }
+    ensures learnt { OnOk result (region.new.seat.held.learnt
+        ≡ learnt_more region.old.seat.held.learnt pass.old.ticket.held.part) }
     ensures enough { need ≤ length region.old.books.free
-        → OnOk result (region.new ≡ region.old) }
+        → OnOk result (region.new ≡ region_shown region.old pass.old.ticket) }
     ensures caller { OnOk result (pass.new.ticket ≡ pass.old.ticket) }
     ensures refused { IfErr result (λ refusal. LeavesRefused heap.now region.old region.new
         pass.old.ticket pass.new.ticket need refusal) }
 {
+    show(heap, region, &mut pass.ticket);
     if region.free() >= need {
         return Ok(());
     }
@@ -80,4 +86,15 @@ fn make_room<G: Gate>(
     }
     heap.hear_unit(&mut pass.ticket, region.seat_mut());
     Err(GuardRefusal::Full { need, free, clock })
+}
+
+// The unit's seat takes a note of the caller.
+fn show(heap: &Heap, region: &mut Region, ticket: &mut Ticket)
+    requires ready { IsReady heap.now region.old }
+    requires ticket { ticket.old.table ≡ heap.now.table }
+    ensures region { region.new ≡ region_shown region.old ticket.old }
+    ensures ready { IsReady heap.now region.new }
+    ensures caller { ticket.new ≡ ticket.old }
+{
+    heap.show_unit(ticket, region.seat_mut());
 }

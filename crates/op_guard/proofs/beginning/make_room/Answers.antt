@@ -9,7 +9,7 @@ use Rattle.slots.specs.Books.{RegionShown, IsAtRest}
 use Rattle.slots.specs.Reclaiming.{HasClosed, KeepsLive, IsSound, WasCutReclaiming, due_at}
 use Rattle.op_guard.specs.Guarding.{IsFull}
 use Rattle.op_guard.proofs.Halts.{turn_reclaiming}
-use Rattle.op_guard.proofs.Room.{is_full}
+use Rattle.op_guard.proofs.Room.{HasEmptied, is_full}
 use Rattle.op_guard.proofs.beginning.make_room.Goals as goal
 
 -- a caller that took a note of a unit's seat
@@ -21,36 +21,43 @@ noting q seat = record {
 
 pub or_halt-requires-clause-home : goal.or_halt-requires-clause-home
 or_halt-requires-clause-home g c =
-    let old = c.args.region.now in
+    let shown = c.show.new.region in
     let new = c.reclaim-reclaimed.new.self in
-    on_err_weaker {P = WasCutReclaiming old new} c.reclaim-reclaimed.result (λ cut.
-    ap (λ (t : UnitTurn). t.out) (turn_reclaiming old new cut ∙ c.requires.ready.home)) c.reclaim-reclaimed.ensures.cut
+    on_err_weaker {P = WasCutReclaiming shown new} c.reclaim-reclaimed.result (λ cut.
+    ap (λ (t : UnitTurn). t.out) (turn_reclaiming shown new cut ∙ c.show.ensures.ready.home)) c.reclaim-reclaimed.ensures.cut
 
 pub returns-clause-refused : goal.returns-clause-refused
 returns-clause-refused g c =
     let heap = c.args.heap.now in
     let old = c.args.region.now in
     let q = c.args.pass.now.ticket in
+    let shown = c.show.new.region in
     let new = c.reclaim-reclaimed.new.self in
     let given = c.reclaim-reclaimed.ensures in
     let clock = c.in_ok-clock.clock in
     let is = sym c.or_halt.ensures.same ∙ c.in_ok-clock.was in
-    let kept = IfOk-at_ok (λ (x : ℕ). (c.or_halt.new.region ≡ new) × (c.or_halt.new.ticket ≡ q)) is c.or_halt.ensures.ok in
-    let closed = IfOk-at_ok (λ (x : ℕ). HasClosed old new x (due_at x old.books.retired)) is given.closed in
-    let rests = IfOk-at_ok (λ (x : ℕ). IsAtRest new.seat.held.part) is given.rests in
-    let live = IfOk-at_ok (λ (x : ℕ). KeepsLive old new) is given.live in
-    let found = IfOk-at_ok (λ (x : ℕ). IsDurable (max old.seat.held.part.durable old.seat.held.learnt.durable) x) is given.clock in
-    let begun = IfOk-at_ok (λ (x : ℕ). clock_of heap.opening.words ≤ x) is given.begun in
-    let sound = IfOk-at_ok (λ (x : ℕ). IsSound heap new) is given.sound in
+    let kept = IfOk-at_ok (λ (x : ℕ). (c.or_halt.new.region ≡ new) × (c.or_halt.new.ticket ≡ c.show.new.ticket)) is c.or_halt.ensures.ok in
+    let emptied : HasEmptied heap shown new clock = record {
+      ready = c.show.ensures.ready;
+      closed = IfOk-at_ok (λ (x : ℕ). HasClosed shown new x (due_at x shown.books.retired)) is given.closed;
+      agrees = given.agrees;
+      stays = given.stays;
+      rests = IfOk-at_ok (λ (x : ℕ). IsAtRest new.seat.held.part) is given.rests;
+      live = IfOk-at_ok (λ (x : ℕ). KeepsLive shown new) is given.live;
+      found = IfOk-at_ok (λ (x : ℕ). IsDurable (max shown.seat.held.part.durable shown.seat.held.learnt.durable) x) is given.clock;
+      begun = IfOk-at_ok (λ (x : ℕ). clock_of heap.opening.words ≤ x) is given.begun;
+      sound = IfOk-at_ok (λ (x : ℕ). IsSound heap new) is given.sound;
+    } in
     let seat : c.seat_mut.result.now ≡ new.seat = c.seat_mut.ensures.value ∙ ap (λ (x : RegionShown). x.seat) kept.0 in
-    let noted = c.hear_unit.ensures.caller ∙ (λ i. noting (kept.1 i) (seat i)) in
+    let same = kept.1 ∙ c.show.ensures.caller in
+    let noted = c.hear_unit.ensures.caller ∙ (λ i. noting (same i) (seat i)) in
     let seen = subst (λ (s : UnitShown). HasSeenAll c.hear_unit.new.ticket.held s.held) seat c.hear_unit.ensures.all in
     let free = c.free-free.ensures ∙ ap (λ (x : RegionShown). length x.books.free) kept.0 in
     let whole : record { seat = c.hear_unit.new.seat; books = c.or_halt.new.region.books } ≡ new =
     (λ i. record { seat = (c.hear_unit.ensures.unit ∙ c.seat_mut.ensures.value) i; books = c.or_halt.new.region.books }) ∙ kept.0 in (
       refl,
       subst (λ (x : RegionShown). IsFull heap old x q c.hear_unit.new.ticket c.args.need c.free-free.result clock) (sym whole)
-          (is_full heap old new clock c.requires.ready closed given.agrees given.stays q c.hear_unit.new.ticket
-          c.args.need c.free-free.result
-          rests live found begun sound free c.if-free-need-2.false noted seen),
+          (is_full heap old new q c.hear_unit.new.ticket c.args.need c.free-free.result clock
+          (subst (λ (x : RegionShown). HasEmptied heap x new clock) c.show.ensures.region emptied)
+          free c.if-free-need-2.false noted seen),
     )
