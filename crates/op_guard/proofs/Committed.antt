@@ -45,7 +45,7 @@ module _ (heap : HeapShown) (old : RegionShown) (lent : UnitShown) (is : lent �
       let at : receipt.place ≡ length old.seat.held.part.history = ap (λ (r : Receipt). r.place) receipt_is
       ∙ ap (λ (x : UnitShown). length x.held.part.history) is in
       subst (λ (n : ℕ). slice_index q.held.part.fronts old.seat.held.unit ≤ n) (sym at)
-      (subst (λ (x : UnitShown). IsNotBeyond q.held x.held) is front)
+      (subst (λ (x : UnitShown). IsNotBeyond q.held x.held) is front).front
 
 -- and behind the answer
 pub sound_after : (heap : HeapShown) (new : RegionShown) (seat : UnitShown) → new.seat ≡ seat
