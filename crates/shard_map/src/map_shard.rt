@@ -1,5 +1,6 @@
 // A map unit: the region of its slots, and an index from each live key to its slot.
 ghost use Rattle.std.specs.Prelude.{◌≡◌};
+ghost use Rattle.shard_map.specs.MapShard.{IsMapUnit};
 
 use heap_pass::OfHeap;
 use index_kit::Index;
@@ -40,14 +41,16 @@ impl<I: Index> OfHeap for MapShard<I> {
 impl<I: Index> MapShard<I> {
     /// The unit's region.
     pub fn region(&self) -> &Region
-        ensures { result.now ≡ self.now.region }
+        ensures region { result.now ≡ self.now.region }
+        ensures unit { IsMapUnit self.now.region self.now.places }
     {
         &self.region
     }
 
     /// Gives the region back, and drops the index.
     pub fn into_region(self) -> Region
-        ensures { result ≡ self.region }
+        ensures region { result ≡ self.region }
+        ensures unit { IsMapUnit self.region self.places }
     {
         let MapShard { region, index: _ } = self;
         region

@@ -1,5 +1,5 @@
 -- What a call of a structure leaves, whatever its kind.
-use Rattle.std.specs.Prelude.{◌≡◌, ℕ, ◌+◌, ◌≤◌, Bool, true, false, List, [], ◌∷◌, ◌++◌, All, count_by, length, slice_index, Err}
+use Rattle.std.specs.Prelude.{◌≡◌, ℕ, ◌+◌, ◌≤◌, Bool, true, false, List, [], ◌∷◌, ◌++◌, All, count_by, length, slice_index, None, Err}
 use Rattle.std.specs.declared.result.Result.{Result}
 use Rattle.mont_base.specs.declared.effect.Effect.{Effect}
 use Rattle.mont_base.specs.declared.effect.Effect.TheVariants.{Inserts}
@@ -74,10 +74,11 @@ pub record HasAnsweredCall
   pub sound : IsSound heap new
 
 -- ---- refusals
--- a number is at its end for the changes of the operation
+-- no caller was cut in the unit, and a number is at its end for the changes of the operation
 pub record HasEnd
     (heap : HeapShown) (old new : RegionShown) (q r : CallerShown) (op : Op) (why : CallRefusal)
     : Type 0 where
+  pub running : old.books.halted ≡ None
   pub reply : Reply
   pub changes : List Change
   pub plan : IsPlan old op reply changes
