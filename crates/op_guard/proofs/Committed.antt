@@ -1,19 +1,29 @@
 -- What is told of a unit that leaves once its list was given back, as the region had it before.
-use Rattle.std.proofs.Common.{◌≡◌, ℕ, ◌≤◌, ap, sym, ◌∙◌, subst, length}
-use Rattle.std.specs.Prelude.{slice_index}
+use Rattle.std.proofs.Common.{◌≡◌, ℕ, ◌≤◌, ap, sym, ◌∙◌, subst, length, List, take}
+use Rattle.std.specs.Prelude.{Some, slice_get, slice_index}
 use Rattle.mont_base.specs.declared.operation.Entry.{Entry}
-use Rattle.mont_base.specs.declared.operation.Receipt.{Receipt}
 use Rattle.heap.specs.HeapShown.{HeapShown, UnitShown, CallerShown}
-use Rattle.heap.specs.Receipts.{receipt_of}
 use Rattle.heap_rule.specs.Plays.{IsNotBeyond}
 use Rattle.heap_rule.specs.SoundUnits.{IsSoundUnit}
 use Rattle.heap_rule.specs.Views.{unit_gave}
+use Rattle.heap_rule.specs.declared.views.CallerHeld.{CallerHeld}
+use Rattle.heap_rule.specs.declared.views.UnitHeld.{UnitHeld}
 use Rattle.slots.specs.Books.{RegionShown}
 use Rattle.slots.specs.Reclaiming.{IsSound}
 
 -- the seat of a unit whose list was given back
 abbrev pub seat_gave : RegionShown → UnitShown
 seat_gave r = record { table = r.seat.table; held = unit_gave r.seat.held }
+
+-- What a caller has seen of a unit is told by the unit's number and its history.
+pub seen_at : (q : CallerHeld) (h k : UnitHeld) → k.unit ≡ h.unit → k.part.history ≡ h.part.history → IsNotBeyond q k → IsNotBeyond q h
+seen_at q h k same_unit same_history seen = record {
+  front = subst (λ (u : ℕ). slice_index q.part.fronts u ≤ length h.part.history) same_unit
+      (subst (λ (es : List Entry). slice_index q.part.fronts k.unit ≤ length es) same_history seen.front);
+  entries = subst (λ (u : ℕ). slice_get q.entries u ≡ Some (take (slice_index q.part.fronts u) h.part.history)) same_unit
+      (subst (λ (es : List Entry). slice_get q.entries k.unit ≡ Some (take (slice_index q.part.fronts k.unit) es)) same_history
+      seen.entries);
+}
 
 module _ (heap : HeapShown) (old : RegionShown) (lent : UnitShown) (is : lent ≡ seat_gave old) where
   -- a turn isn't among the unit's clauses
@@ -38,14 +48,11 @@ module _ (heap : HeapShown) (old : RegionShown) (lent : UnitShown) (is : lent �
         ),
       )
 
-  -- the entry stands behind what the caller had seen
-  pub behind_seen : (q : CallerShown) (receipt : Receipt) (e : Entry) → IsNotBeyond q.held lent.held
-      → receipt ≡ receipt_of lent.held e → slice_index q.held.part.fronts old.seat.held.unit ≤ receipt.place
-  behind_seen q receipt e front receipt_is =
-      let at : receipt.place ≡ length old.seat.held.part.history = ap (λ (r : Receipt). r.place) receipt_is
-      ∙ ap (λ (x : UnitShown). length x.held.part.history) is in
-      subst (λ (n : ℕ). slice_index q.held.part.fronts old.seat.held.unit ≤ n) (sym at)
-      (subst (λ (x : UnitShown). IsNotBeyond q.held x.held) is front).front
+  -- nor does a turn tell what the caller had seen
+  pub seen_gave : (q : CallerHeld) → IsNotBeyond q lent.held → IsNotBeyond q old.seat.held
+  seen_gave q k =
+      let given = subst (λ (x : UnitShown). IsNotBeyond q x.held) is k in
+      record { front = given.front; entries = given.entries; }
 
 -- and behind the answer
 pub sound_after : (heap : HeapShown) (new : RegionShown) (seat : UnitShown) → new.seat ≡ seat

@@ -17,7 +17,7 @@ use Rattle.core_steps.proofs.Decisions.{both}
 use Rattle.core_steps.proofs.UnitRoom.{unit_used_undue}
 use Rattle.heap.specs.HeapShown.{HeapShown, UnitShown, CallerShown}
 use Rattle.heap_rule.specs.declared.views.UnitHeld.{UnitHeld}
-use Rattle.heap_rule.specs.Plays.{IsDurable, HasSeenAll}
+use Rattle.heap_rule.specs.Plays.{IsDurable, IsNotBeyond, HasSeenAll}
 use Rattle.heap_rule.specs.Views.{is_among, are_clean, unit_closed, unit_persisted, unit_loaded_durable}
 use Rattle.slots.specs.Books.{BooksShown, RegionShown, Agrees, IsAtRest, StaysOpen}
 use Rattle.slots.specs.Reclaiming.{HasClosed, KeepsLive, IsSound, is_due, due_at, unit_emptied}
@@ -179,8 +179,8 @@ halted_shown heap old new q r k = record {
 -- too few are free, and the caller took a note
 pub is_full : (heap : HeapShown) (old new : RegionShown) (q r : CallerShown) (need free clock : ℕ)
     → HasEmptied heap (region_shown old q) new clock → free ≡ length new.books.free → free < need → HasNoted new q r
-    → HasSeenAll r.held new.seat.held → IsFull heap old new q r need free clock
-is_full heap old new q r need free clock k is fewer noted seen =
+    → IsNotBeyond q.held new.seat.held → HasSeenAll r.held new.seat.held → IsFull heap old new q r need free clock
+is_full heap old new q r need free clock k is fewer noted had_seen seen =
     let shown = region_shown old q in
     let ready_now = ready_emptied heap shown new clock k in
     let unit = same_unit heap shown new clock k in
@@ -195,6 +195,7 @@ is_full heap old new q r need free clock k is fewer noted seen =
       free_is = is;
       fewer = fewer;
       room = room_at heap new clock ready_now.runs k.rests reclaimed.clock_is k.begun reclaimed.none_due k.sound;
+      seen = had_seen;
       noted = noted;
       front = ap (slice_index r.held.part.fronts) (sym unit) ∙ seen.front;
       entries = ap (slice_get r.held.entries) (sym unit) ∙ seen.entries;

@@ -1,12 +1,12 @@
 -- What an answer leaves of a region and of the caller.
-use Rattle.std.specs.Prelude.{◌≡◌, ℕ, ◌≤◌, max, List, map, slice_index}
+use Rattle.std.specs.Prelude.{◌≡◌, ℕ, max, List, map}
 use Rattle.mont_base.specs.declared.operation.Op.{Op}
 use Rattle.mont_base.specs.declared.operation.Receipt.{Receipt}
 use Rattle.mont_base.specs.declared.operation.Reply.{Reply}
 use Rattle.core_steps.specs.Answering.{after_leave, after_read}
 use Rattle.heap.specs.HeapShown.{HeapShown, CallerShown}
 use Rattle.heap.specs.Receipts.{receipt_of}
-use Rattle.heap_rule.specs.Plays.{IsClock, answer_of}
+use Rattle.heap_rule.specs.Plays.{IsClock, IsNotBeyond, answer_of}
 use Rattle.heap_rule.specs.Views.{caller_answered}
 use Rattle.slots.specs.declared.books.Written.{Written}
 use Rattle.slots.specs.Books.{RegionShown, books_showing}
@@ -14,12 +14,12 @@ use Rattle.slots.specs.Reclaiming.{IsSound}
 use Rattle.op_guard.specs.Regions.{IsReady}
 
 -- The unit has one entry more, of this epoch, and the receipt names it. It stands behind all that
--- the caller had seen of the unit.
+-- the caller had seen of the unit, which stood first there.
 pub record HasAnswered
     (heap : HeapShown) (old new : RegionShown) (q r : CallerShown) (op : Op) (reply : Reply)
     (epoch : ℕ) (receipt : Receipt) : Type 0 where
   pub receipt_is : receipt ≡ receipt_of old.seat.held (answer_of q.held op reply epoch)
-  pub not_before : slice_index q.held.part.fronts old.seat.held.unit ≤ receipt.place
+  pub seen : IsNotBeyond q.held old.seat.held
   pub caller : r ≡ record {
     table = q.table;
     held = caller_answered q.held old.seat.held receipt.entry;

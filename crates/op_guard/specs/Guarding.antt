@@ -9,7 +9,7 @@ use Rattle.core_steps.specs.Notes.{last_epoch}
 use Rattle.core_steps.specs.Opened.{opened_at}
 use Rattle.core_steps.specs.Sound.{base_state}
 use Rattle.heap.specs.HeapShown.{HeapShown, CallerShown}
-use Rattle.heap_rule.specs.Plays.{IsDurable}
+use Rattle.heap_rule.specs.Plays.{IsDurable, IsNotBeyond}
 use Rattle.heap_rule.specs.Views.{caller_heard, note_of_unit}
 use Rattle.slots.specs.Books.{RegionShown}
 use Rattle.slots.specs.Putting.{HasPut}
@@ -84,6 +84,8 @@ pub record IsFull
   pub free_is : free ≡ length new.books.free
   pub fewer : free < need
   pub room : HasRoomAt heap new clock
+  -- what the caller had seen of the unit stood first there
+  pub seen : IsNotBeyond q.held new.seat.held
   pub noted : HasNoted new q r
   -- so it has seen all entries of the unit
   pub front : slice_index r.held.part.fronts old.books.unit ≡ length new.seat.held.part.history

@@ -1,6 +1,6 @@
 -- What an operation leaves that was carried out as planned.
 use Rattle.std.proofs.Common.{◌≡◌, ℕ, ◌<◌, ◌≤◌, true, List, [], ◌∷◌, ◌++◌, length, append-nil, refl, sym, ap, ◌∙◌, subst, arith}
-use Rattle.std.specs.Prelude.{◌≢◌, slice_index, slice_set, All, Option, Some, None, count_by}
+use Rattle.std.specs.Prelude.{◌≢◌, slice_set, All, Option, Some, None, count_by}
 use Rattle.std.specs.List.{AllZip}
 use Rattle.std.proofs.lemmas.List.Elements.{All-cons, All-nil, All-contains, Contains-append_left}
 use Rattle.mont_base.specs.declared.constants.TheConstants.{LAST}
@@ -33,6 +33,7 @@ use Rattle.op_guard.specs.declared.guard.Guard.{Guard}
 use Rattle.op_guard.specs.Answered.{HasCommitted, HasRead}
 use Rattle.op_guard.specs.Guarding.{HasBegun, IsReachedBy}
 use Rattle.op_guard.specs.Regions.{IsReady}
+use Rattle.op_guard.proofs.Committed.{seen_at}
 use Rattle.structure_call.specs.Calling.{HasAnsweredCall, is_insertion}
 use Rattle.structure_call.specs.Carrying.{CanPutAll, HasWrittenAll, HasCarried, records_by, serial_behind}
 use Rattle.structure_call.specs.Planning.{IsPlan, Makes, adds_item, first_at_end}
@@ -260,9 +261,7 @@ module _ (heap : HeapShown) (old : RegionShown) (q : CallerShown) (op : Op) (rep
                 };
               });
           history = ap (λ (p : UnitPart). p.history) k.part ∙ (λ i. same_history i ++ receipt.entry ∷ []);
-          not_before =
-              subst (λ (u : ℕ). slice_index q.held.part.fronts u ≤ receipt.place) (same_seat ∙ sym ready.runs.agrees.0)
-              k.answered.not_before;
+          seen = seen_at q.held old.seat.held done.seat.held same_seat same_history k.answered.seen;
           reached = subst (IsReachedBy q old) (sym (same_epoch_now ∙ same_epoch)) begun.reached;
           wrote = record {
             kept = kept;
@@ -342,8 +341,7 @@ module _ (heap : HeapShown) (old : RegionShown) (q : CallerShown) (op : Op) (rep
             ∙ ap (λ (told : Reply). receipt_of old.seat.held (answer_of q.held op told receipt.entry.epoch)) (sym read_reply);
         caller = k.answered.caller;
         history = ap (λ (p : UnitPart). p.history) k.part;
-        not_before =
-            subst (λ (u : ℕ). slice_index q.held.part.fronts u ≤ receipt.place) (sym ready.runs.agrees.0) k.answered.not_before;
+        seen = k.answered.seen;
         reached =
             let newest = k.clock.not_before in
             let durable = k.clock.not_behind in

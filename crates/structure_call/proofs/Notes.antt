@@ -2,7 +2,7 @@
 use Rattle.std.proofs.Common.{◌≡◌, ℕ, length, sym, ap, ◌∙◌, subst}
 use Rattle.std.specs.Prelude.{slice_get, slice_index}
 use Rattle.heap.specs.HeapShown.{HeapShown, UnitShown, CallerShown}
-use Rattle.heap_rule.specs.Plays.{HasSeenAll}
+use Rattle.heap_rule.specs.Plays.{IsNotBeyond, HasSeenAll}
 use Rattle.heap_rule.specs.SoundUnits.{IsSoundUnit}
 use Rattle.heap_rule.specs.Views.{caller_heard, note_of_unit}
 use Rattle.slots.specs.Books.{RegionShown, Agrees}
@@ -17,10 +17,11 @@ noted_by q seat = record {
 }
 
 module _ (heap : HeapShown) (old : RegionShown) (q r : CallerShown) (agrees : Agrees old) where
-  noted_of : r ≡ noted_by q old.seat → HasSeenAll r.held old.seat.held
+  noted_of : IsNotBeyond q.held old.seat.held → r ≡ noted_by q old.seat → HasSeenAll r.held old.seat.held
       → (now durable : ℕ) × IsSoundUnit heap.opening now durable old.seat.held → WasNoted heap old old q r
-  noted_of noted all sound = record {
+  noted_of seen noted all sound = record {
     same = λ i. old;
+    seen = seen;
     noted = noted;
     front = ap (λ (u : ℕ). slice_index r.held.part.fronts u) agrees.0 ∙ all.front;
     entries = ap (λ (u : ℕ). slice_get r.held.entries u) agrees.0 ∙ all.entries;
@@ -28,10 +29,12 @@ module _ (heap : HeapShown) (old : RegionShown) (q r : CallerShown) (agrees : Ag
   }
 
   -- by the seat that the region lent, and that came back as it was
-  pub was_noted : (lent seat : UnitShown) → lent ≡ old.seat → seat ≡ lent → r ≡ noted_by q lent → HasSeenAll r.held lent.held
+  pub was_noted : (lent seat : UnitShown) → lent ≡ old.seat → seat ≡ lent → IsNotBeyond q.held lent.held → r ≡ noted_by q lent
+      → HasSeenAll r.held lent.held
       → (now durable : ℕ) × IsSoundUnit heap.opening now durable lent.held
       → WasNoted heap old (record { seat = seat; books = old.books }) q r
-  was_noted lent seat is back noted all sound =
+  was_noted lent seat is back seen noted all sound =
       subst (λ (s : UnitShown). WasNoted heap old (record { seat = s; books = old.books }) q r) (sym (back ∙ is))
-      (noted_of (noted ∙ ap (noted_by q) is) (subst (λ (s : UnitShown). HasSeenAll r.held s.held) is all)
+      (noted_of (subst (λ (s : UnitShown). IsNotBeyond q.held s.held) is seen) (noted ∙ ap (noted_by q) is)
+      (subst (λ (s : UnitShown). HasSeenAll r.held s.held) is all)
       (sound.0, sound.1, subst (λ (s : UnitShown). IsSoundUnit heap.opening sound.0 sound.1 s.held) is sound.2))

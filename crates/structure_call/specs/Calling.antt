@@ -1,5 +1,5 @@
 -- What a call of a structure leaves, whatever its kind.
-use Rattle.std.specs.Prelude.{◌≡◌, ℕ, ◌+◌, ◌≤◌, Bool, true, false, List, [], ◌∷◌, ◌++◌, All, count_by, length, slice_index, None, Err}
+use Rattle.std.specs.Prelude.{◌≡◌, ℕ, ◌+◌, ◌≤◌, Bool, true, false, List, [], ◌∷◌, ◌++◌, All, count_by, length, None, Err}
 use Rattle.std.specs.declared.result.Result.{Result}
 use Rattle.mont_base.specs.declared.effect.Effect.{Effect}
 use Rattle.mont_base.specs.declared.effect.Effect.TheVariants.{Inserts}
@@ -17,7 +17,7 @@ use Rattle.mont_laws.specs.Structures.{HasStructure}
 use Rattle.core_steps.specs.Answering.{IsJudged}
 use Rattle.heap.specs.HeapShown.{HeapShown, CallerShown}
 use Rattle.heap.specs.Receipts.{receipt_of}
-use Rattle.heap_rule.specs.Plays.{answer_of}
+use Rattle.heap_rule.specs.Plays.{IsNotBeyond, answer_of}
 use Rattle.heap_rule.specs.Views.{caller_answered}
 use Rattle.op_guard.specs.Guarding.{IsReachedBy}
 use Rattle.op_guard.specs.Regions.{IsReady}
@@ -44,8 +44,9 @@ abbrev pub is_insertion : Effect → Bool
 is_insertion (Inserts thing) = true
 is_insertion _ = false
 
--- The unit has one entry more, behind all that the caller had seen of it. Its reply is the plain
--- step's on the state that the unit's records showed, and to which its history had led.
+-- The unit has one entry more, behind all that the caller had seen of it, which stood first there.
+-- Its reply is the plain step's on the state that the unit's records showed, and to which its
+-- history had led.
 pub record HasAnsweredCall
     (heap : HeapShown) (old new : RegionShown) (q r : CallerShown) (op : Op) (receipt : Receipt)
     : Type 0 where
@@ -61,7 +62,7 @@ pub record HasAnsweredCall
   }
   pub history : new.seat.held.part.history
       ≡ old.seat.held.part.history ++ receipt.entry ∷ []
-  pub not_before : slice_index q.held.part.fronts old.books.unit ≤ receipt.place
+  pub seen : IsNotBeyond q.held old.seat.held
   pub reached : IsReachedBy q old receipt.entry.epoch
   pub wrote : HasWritten old.books.unit old.seat.held.part.records new.seat.held.part.records
       (step judged.state op).effects receipt.entry.epoch

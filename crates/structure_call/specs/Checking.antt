@@ -6,16 +6,18 @@ use Rattle.mont_base.specs.declared.record.Change.{Change}
 use Rattle.mont_base.specs.declared.refusal.CallRefusal.{CallRefusal}
 use Rattle.mont_base.specs.declared.refusal.CallRefusal.TheVariants.{Halted, CountEnd}
 use Rattle.heap.specs.HeapShown.{HeapShown, CallerShown}
+use Rattle.heap_rule.specs.Plays.{IsNotBeyond}
 use Rattle.op_guard.specs.Guarding.{HasNoted}
 use Rattle.slots.specs.Books.{RegionShown}
 use Rattle.structure_call.specs.Standing.{ShowsHistory}
 use Rattle.structure_call.specs.Planning.{IsPlan, first_at_end}
 
--- The unit is as it was, and the caller took a note of it, so that it has seen all entries of the
--- unit. The records show the state to which these lead.
+-- The unit is as it was, and the caller, whose entries of the unit stood first there, took a note of
+-- it, so that it has seen all of them. The records show the state to which these lead.
 pub record WasNoted
     (heap : HeapShown) (old new : RegionShown) (q r : CallerShown) : Type 0 where
   pub same : new ≡ old
+  pub seen : IsNotBeyond q.held old.seat.held
   pub noted : HasNoted old q r
   pub front : slice_index r.held.part.fronts old.books.unit ≡ length new.seat.held.part.history
   pub entries : slice_get r.held.entries old.books.unit ≡ Some new.seat.held.part.history

@@ -2,7 +2,7 @@ use Rattle.std.proofs.Common.{◌≡◌, ◌≤◌, ℕ, length, max, refl, ap, 
 use Rattle.std.proofs.lemmas.Result.{IfOk-at_ok, on_err_weaker}
 use Rattle.mont_base.specs.Image.{clock_of}
 use Rattle.heap.specs.HeapShown.{UnitShown, CallerShown}
-use Rattle.heap_rule.specs.Plays.{IsDurable, HasSeenAll}
+use Rattle.heap_rule.specs.Plays.{IsDurable, IsNotBeyond, HasSeenAll}
 use Rattle.heap_rule.specs.declared.views.UnitTurn.{UnitTurn}
 use Rattle.heap_rule.specs.Views.{caller_heard, note_of_unit}
 use Rattle.slots.specs.Books.{RegionShown, IsAtRest}
@@ -51,6 +51,8 @@ returns-clause-refused g c =
     let seat : c.seat_mut.result.now ≡ new.seat = c.seat_mut.ensures.value ∙ ap (λ (x : RegionShown). x.seat) kept.0 in
     let same = kept.1 ∙ c.show.ensures.caller in
     let noted = c.hear_unit.ensures.caller ∙ (λ i. noting (same i) (seat i)) in
+    let had_seen = subst (λ (s : UnitShown). IsNotBeyond q.held s.held) seat
+    (subst (λ (x : CallerShown). IsNotBeyond x.held c.seat_mut.result.now.held) same c.hear_unit.ensures.front) in
     let seen = subst (λ (s : UnitShown). HasSeenAll c.hear_unit.new.ticket.held s.held) seat c.hear_unit.ensures.all in
     let free = c.free-free.ensures ∙ ap (λ (x : RegionShown). length x.books.free) kept.0 in
     let whole : record { seat = c.hear_unit.new.seat; books = c.or_halt.new.region.books } ≡ new =
@@ -59,5 +61,5 @@ returns-clause-refused g c =
       subst (λ (x : RegionShown). IsFull heap old x q c.hear_unit.new.ticket c.args.need c.free-free.result clock) (sym whole)
           (is_full heap old new q c.hear_unit.new.ticket c.args.need c.free-free.result clock
           (subst (λ (x : RegionShown). HasEmptied heap x new clock) c.show.ensures.region emptied)
-          free c.if-free-need-2.false noted seen),
+          free c.if-free-need-2.false noted had_seen seen),
     )

@@ -2,12 +2,10 @@ use Rattle.std.proofs.Common.{rules, ◌≡◌, ℕ, ap, subst, sym, ◌∙◌}
 use Rattle.std.specs.Prelude.{OnOk}
 use Rattle.std.proofs.lemmas.Result.{IfOk-at_ok}
 use Rattle.mont_base.specs.declared.operation.Receipt.{Receipt}
-use Rattle.core_steps.specs.Stages.{epoch_of}
-use Rattle.heap.specs.Receipts.{receipt_of}
-use Rattle.heap_rule.specs.Plays.{IsNotBeyond, answer_of}
+use Rattle.heap_rule.specs.Plays.{IsNotBeyond}
 use Rattle.heap_rule.specs.SoundUnits.{IsSoundUnit}
 use Rattle.slots.specs.Books.{RegionShown}
-use Rattle.op_guard.proofs.Committed.{seat_gave, sound_gave, behind_seen, sound_after}
+use Rattle.op_guard.proofs.Committed.{seat_gave, sound_gave, seen_gave, sound_after}
 use Rattle.op_guard.proofs.committing.commit.Goals as goal
 
 pub returns-clause-committed : goal.returns-clause-committed
@@ -18,8 +16,6 @@ returns-clause-committed g c =
     let lent = c.seat_mut.result.now in
     let given = c.leave-left.ensures in
     let left = c.leave-left.new in
-    let receipt = c.in_ok-receipt.receipt in
-    let entry = answer_of q.held c.args.op.now c.args.reply.now (epoch_of lent.held.part.stage) in
     let is = sym c.or_halt.ensures.same ∙ c.in_ok-receipt.was in
     let seat : lent ≡ seat_gave old = c.seat_mut.ensures.value ∙ c.list_written.ensures.seat in
     let kept = subst (λ z. OnOk z ((c.or_halt.new.region ≡ record { seat = left.seat; books = c.list_written.new.region.books })
@@ -27,11 +23,10 @@ returns-clause-committed g c =
     let front = subst (λ z. OnOk z (IsNotBeyond q.held lent.held)) is given.front in
     let before = subst (λ z. OnOk z ((now durable : ℕ) × IsSoundUnit heap.opening now durable lent.held)) is given.sound_before in
     let sound = IfOk-at_ok (λ (x : Receipt). (now durable : ℕ) × IsSoundUnit heap.opening now durable left.seat.held) is given.sound in
-    let receipt_is = IfOk-at_ok (λ (x : Receipt). x ≡ receipt_of lent.held entry) is given.receipt in
     record {
       answered = record {
         receipt_is = search rules;
-        not_before = behind_seen heap old lent seat q receipt entry front receipt_is;
+        seen = seen_gave heap old lent seat q.held front;
         caller = search rules;
         books = search rules;
         ready = search rules;
