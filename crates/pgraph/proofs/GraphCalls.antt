@@ -388,12 +388,14 @@ module _ (heap : HeapShown) (shown ran : RegionShown) (q s : CallerShown) (op : 
   }
 
   module _ (new : RegionShown) (r : CallerShown) where
-    at_end : (why : CallRefusal) → EndsCount heap shown new q r changes why → LeavesCall heap shown new q r op why
-    at_end (CountEnd which) h = record { reply = reply; changes = changes; plan = plan_shown; ends = h }
-    at_end _ h = absurd h
+    at_end : shown.books.halted ≡ None → (why : CallRefusal) → EndsCount heap shown new q r changes why
+        → LeavesCall heap shown new q r op why
+    at_end running (CountEnd which) h = record { running = running; reply = reply; changes = changes; plan = plan_shown; ends = h }
+    at_end running _ h = absurd h
 
-    pub leaves_at_end : (why : CallRefusal) → EndsCount heap ran new s r changes why → LeavesCall heap shown new q r op why
-    leaves_at_end why h = at_end why
+    pub leaves_at_end : ran.books.halted ≡ None → (why : CallRefusal) → EndsCount heap ran new s r changes why
+        → LeavesCall heap shown new q r op why
+    leaves_at_end running why h = at_end (subst (λ (x : RegionShown). x.books.halted ≡ None) same running) why
         (subst (λ (x : RegionShown × CallerShown). EndsCount heap x.0 new x.1 r changes why) (both ran refl s refl) h)
 
     uncarried : (why : CallRefusal) → LeavesUncarried heap shown new q r (length changes) why → LeavesCall heap shown new q r op why

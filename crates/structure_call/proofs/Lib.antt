@@ -9,3 +9,5 @@ pub mod CarriedOut
 pub mod Stands
 pub mod Refusals
 pub mod CarriedRecords
+pub mod Insertions
+pub mod Counted

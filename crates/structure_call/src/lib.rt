@@ -4,7 +4,11 @@
 
 mod carrying;
 mod checking;
+mod counting;
 mod refusing;
 
 pub use carrying::{Carried, carry_out};
 pub use checking::{check_numbers, check_running};
+pub use counting::{
+    answers_are_counted, identities_end, opened_units_are_counted, refusals_are_counted,
+};

@@ -45,7 +45,7 @@ returns-in_err-check_edit-clause-refused g c =
     (leaves_at_end c.args.heap.now c.args.self.now.region c.check_running.new.region c.args.pass.now.ticket
     c.check_running.new.pass.ticket c.args.op.now c.plan-reply.result.reply (changes_of c.self.inside.index c.plan-reply.result.edit)
     (same g p) c.in_ok-check_running.ensures.ok.2 (plan g p) c.check_edit.new.region c.check_edit.new.pass.ticket
-    c.in_err-check_edit.field-0.0 c.in_err-check_edit.ensures.ends)
+    (called g p).running c.in_err-check_edit.field-0.0 c.in_err-check_edit.ensures.ends)
 
 -- ---- checked
 pub returns-in_err-take_memory-clause-checked : goal.returns-in_err-take_memory-clause-checked
