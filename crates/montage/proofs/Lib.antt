@@ -1,0 +1,12 @@
+mod FirstSeats
+mod BoxesGiven
+mod NumbersAsked
+mod CallsShown
+mod UnitStands
+mod Ticks
+mod UnitStands
+mod SeatsTaken
+mod KeptBases
+mod UnitOps
+mod Passed
+mod StructuresOpened
