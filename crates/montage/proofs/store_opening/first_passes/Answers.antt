@@ -6,8 +6,8 @@ use Rattle.heap.specs.HeapShown.{CallerShown}
 use Rattle.montage.proofs.Passed.{one_more_passed, none_left, one_less_each, one_is_left, one_more_mapped, has_place, has_room}
 use Rattle.montage.proofs.store_opening.first_passes.Goals as goal
 
-pub next_gate-requires : goal.next_gate-requires
-next_gate-requires g c =
+pub next_gate-gate-requires : goal.next_gate-gate-requires
+next_gate-gate-requires g c =
     one_is_left _ _ c.in-Some.ticket (into_iter_items c.loop-ticket.gates) c.in-Some.ensures.steps.0 c.loop-ticket.invariant.as_many
 
 pub push_reserved-requires : goal.push_reserved-requires
@@ -23,8 +23,8 @@ loop-ticket-preserved g c =
     let push = c.push_reserved.ensures.items in
     let next = c.in-Some.ensures.steps.0 in
     let gates = into_iter_items c.loop-ticket.gates in
-    let after = into_iter_items c.next_gate.new.gates in
-    let mapped = one_more_mapped old new c.new.result c.next_gate.result (λ p. p.gate) push c.new.ensures.gate in
+    let after = into_iter_items c.next_gate-gate.new.gates in
+    let mapped = one_more_mapped old new c.new.result c.next_gate-gate.result (λ p. p.gate) push c.new.ensures.gate in
     record {
       callers = one_more_passed _ c.loop-ticket.yielded _ _ c.in-Some.ticket i.callers next;
       unanswered = All-tail (λ (s : CallerShown). s.held.part.receipts ≡ []) c.in-Some.ticket _
@@ -32,8 +32,8 @@ loop-ticket-preserved g c =
       tickets = one_more_mapped old new c.new.result c.in-Some.ticket (λ p. p.ticket) push c.new.ensures.ticket
           ∙ (λ j. i.tickets j ++ c.in-Some.ticket ∷ []);
       gates = (λ j. mapped j ++ after)
-          ∙ one_more_passed _ (map (λ p. p.gate) old) gates after c.next_gate.result i.gates c.next_gate.ensures;
-      as_many = one_less_each gates after c.next_gate.result _ _ c.in-Some.ticket c.next_gate.ensures next i.as_many;
+          ∙ one_more_passed _ (map (λ p. p.gate) old) gates after c.next_gate-gate.result i.gates c.next_gate-gate.ensures;
+      as_many = one_less_each gates after c.next_gate-gate.result _ _ c.in-Some.ticket c.next_gate-gate.ensures next i.as_many;
       room = has_room old new c.new.result _ _ c.in-Some.ticket _ _ push next c.push_reserved.ensures.capacity i.room;
     }
 
