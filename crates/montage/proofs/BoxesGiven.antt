@@ -1,5 +1,5 @@
 -- Boxes go to map units, one after the other.
-use Rattle.std.proofs.Common.{◌≡◌, ◌≢◌, ℕ, zero, suc, ◌+◌, ◌≤◌, ◌<◌, List, [], ◌∷◌, ◌++◌, length, map, take, drop, refl, sym, ap, ◌∙◌, subst, true, false, arith}
+use Rattle.std.proofs.Common.{◌≡◌, ◌≢◌, ℕ, zero, suc, ◌+◌, ◌≤◌, ◌<◌, List, [], ◌∷◌, ◌++◌, length, map, drop, refl, sym, ap, ◌∙◌, subst, false, arith}
 use Rattle.std.specs.Prelude.{slice_get, count_by, Option, Some, None, IsSome}
 use Rattle.std.specs.Option.{option_map, option_to_list}
 use Rattle.std.proofs.lemmas.Bool.{false≢true}
@@ -11,8 +11,8 @@ use Rattle.mont_base.specs.declared.kinds.UnitKind.{UnitKind}
 use Rattle.mont_base.specs.declared.kinds.UnitKind.TheVariants as kinds
 use Rattle.mont_base.specs.Layout.{Shape, kind_of, same_kind, units_of}
 use Rattle.montage.specs.declared.open_refusal.OpenRefusal.{OpenRefusal}
-use Rattle.montage.specs.declared.open_refusal.OpenRefusal.TheVariants.{Index, Memory}
-use Rattle.montage.specs.MapBoxes.{maps_below, keys_for, HasEmptyBox, HaveEmptyBoxes, IsFirstLack, LacksBox, AreLeft, GivesBox, RefusesBox}
+use Rattle.montage.specs.declared.open_refusal.OpenRefusal.TheVariants.{Index}
+use Rattle.montage.specs.MapBoxes.{maps_below, HasEmptyBox, HaveEmptyBoxes, AreLeft, GivesBox, RefusesBox}
 
 -- ---- how many maps are below
 one_more : (s : Shape) (unit : ℕ) → kind_of s unit ≡ Some kinds.Map → maps_below s (unit + 1) ≡ maps_below s unit + 1

@@ -4,7 +4,6 @@ mod NumbersAsked
 mod CallsShown
 mod UnitStands
 mod Ticks
-mod UnitStands
 mod SeatsTaken
 mod KeptBases
 mod UnitOps

@@ -1,11 +1,11 @@
 -- The seats of a store's units, taken back one after the other.
-use Rattle.std.proofs.Common.{◌≡◌, ℕ, zero, suc, ◌+◌, ◌≤◌, ◌<◌, List, [], ◌∷◌, ◌++◌, length, min, refl, sym, ap, ◌∙◌, subst, arith, length-append}
-use Rattle.std.specs.Prelude.{All, false}
+use Rattle.std.proofs.Common.{◌≡◌, ℕ, ◌+◌, ◌≤◌, ◌<◌, List, [], ◌∷◌, ◌++◌, length, sym, ◌∙◌, subst, arith, length-append}
+use Rattle.std.specs.Prelude.{false}
 use Rattle.std.proofs.lemmas.List.Elements.{All-nil, All-push}
 use Rattle.mont_base.specs.Layout.{Shape, units_of}
 use Rattle.core_steps.proofs.RowFacts.{each_push}
 use Rattle.heap.specs.HeapShown.{HeapShown, UnitShown, AdvShown, CallerShown}
-use Rattle.heap.specs.Stops.{IsSeatOfUnit, AreAtHome, AreAllSeats}
+use Rattle.heap.specs.Stops.{IsSeatOfUnit, AreAllSeats}
 use Rattle.montage.specs.declared.unit_at.Structure.{Structure}
 use Rattle.montage.specs.Store.{AreAllCallers}
 use Rattle.montage.specs.SeatsBack.{AreSeatsBelow}
