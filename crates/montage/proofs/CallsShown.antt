@@ -1,0 +1,254 @@
+-- What a caller has of a call, from what the call found and left of its unit.
+use Rattle.std.proofs.Common.{◌≡◌, ℕ, suc, ◌+◌, ◌≤◌, ◌<◌, List, [], ◌∷◌, ◌++◌, length, max, true, false, refl, sym, ap, ◌∙◌, subst, arith}
+use Rattle.std.specs.Prelude.{slice_get, slice_index, slice_set, Option, Some, None, ◌||◌, Ok, Err, IfOk, IfErr}
+use Rattle.std.specs.List.{AllZip}
+use Rattle.std.specs.declared.result.Result.{Result}
+use Rattle.std.proofs.lemmas.Option.{get_or_from_slice_get}
+use Rattle.std.proofs.lemmas.Slice.Zip.{AllZip-long}
+use Rattle.mont_base.specs.declared.operation.Entry.{Entry}
+use Rattle.mont_base.specs.declared.operation.Op.{Op}
+use Rattle.mont_base.specs.declared.operation.Receipt.{Receipt}
+use Rattle.mont_base.specs.declared.operation.Reply.{Reply}
+use Rattle.mont_base.specs.declared.record.Change.{Change}
+use Rattle.mont_base.specs.declared.refusal.CallRefusal.{CallRefusal}
+use Rattle.mont_base.specs.declared.refusal.CallRefusal.TheVariants.{Halted, CountEnd, Memory, Full, Cut}
+use Rattle.mont_base.specs.declared.refusal.Which.{Which}
+use Rattle.mont_base.specs.Image.{clock_of, IsRecovered}
+use Rattle.mont_base.specs.Layout.{Shape, kind_of}
+use Rattle.mont_base.specs.Room.{room_of}
+use Rattle.mont_base.specs.Seen.{ContinuesView}
+use Rattle.mont_base.specs.State.{State, step, unit_of_op}
+use Rattle.mont_base.specs.History.{state_after}
+use Rattle.mont_laws.specs.Effects.{IsOpOf}
+use Rattle.mont_laws.specs.Structures.{HasStructure, kind_of_state}
+use Rattle.mont_laws.proofs.Shown.{one_state}
+use Rattle.job_text.specs.Causes.{effects_then}
+use Rattle.core_steps.specs.declared.parts.CallerPart.{CallerPart}
+use Rattle.core_steps.specs.declared.parts.Mark.{Mark}
+use Rattle.core_steps.specs.Answering.{entry_of}
+use Rattle.core_steps.specs.CallerClauses.{view_of}
+use Rattle.core_steps.specs.Notes.{mark_of}
+use Rattle.core_steps.specs.Opened.{opened_at}
+use Rattle.core_steps.specs.Sound.{base_state}
+use Rattle.heap_rule.specs.declared.views.CallerHeld.{CallerHeld}
+use Rattle.heap_rule.specs.Views.{caller_cut}
+use Rattle.heap.specs.HeapShown.{HeapShown, CallerShown}
+use Rattle.slots.specs.Books.{RegionShown}
+use Rattle.op_guard.specs.Guarding.{HasNoted, IsFull}
+use Rattle.structure_call.specs.Calling.{HasAnsweredCall, HasEnd, IsUncarried, LeavesCall, was_checked}
+use Rattle.structure_call.specs.Checking.{WasNoted, MayBeCalled}
+use Rattle.structure_call.specs.Planning.{IsPlan, Makes}
+use Rattle.structure_call.specs.Standing.{IsStanding, ShowsHistory}
+use Rattle.structure_call.proofs.SoundHistories.{sound_shows, shows_before}
+use Rattle.caller.specs.Telling.{has_mark}
+use Rattle.caller.proofs.TakenNotes.{joined_has, or_right}
+use Rattle.montage.specs.StoreCalls.{RepliesBehind, HasContinued, IsAnswered, KeepsAnswers, NeedsRoom, NeedsNumber, HasLearntWhy, IsRefused}
+use Rattle.montage.specs.UnitAt.{IsSeated}
+use Rattle.montage.proofs.NumbersAsked.{asks_for}
+
+-- ---- an answer
+module _ (heap : HeapShown) (before behind : RegionShown) (q r : CallerShown) (op : Op) (receipt : Receipt)
+    (seated : IsSeated before) (a : HasAnsweredCall heap before behind q r op receipt) where
+  unit_is : receipt.unit ≡ before.books.unit
+  unit_is = ap (λ (x : Receipt). x.unit) a.receipt_is ∙ sym seated.of_seat
+
+  pub same_unit : before.books.unit ≡ receipt.unit
+  same_unit = sym unit_is
+
+  place_is : receipt.place ≡ length before.seat.held.part.history
+  place_is = ap (λ (x : Receipt). x.place) a.receipt_is
+
+  named : unit_of_op heap.opening.layout op ≡ Some receipt.unit
+  named = a.judged.of_unit.of_unit ∙ ap Some (sym unit_is)
+
+  held_is : receipt.unit ≡ before.seat.held.unit
+  held_is = ap (λ (x : Receipt). x.unit) a.receipt_is
+
+  fronts_are : r.held.part.fronts ≡ slice_set q.held.part.fronts receipt.unit (receipt.place + 1)
+  fronts_are = ap (λ (x : CallerShown). x.held.part.fronts) a.caller
+      ∙ (λ i. slice_set q.held.part.fronts (sym held_is i) (sym place_is i + 1))
+
+  continues : ContinuesView (view_of q.held.part) (view_of r.held.part) receipt
+  continues = record {
+    behind = λ front at.
+        let index = get_or_from_slice_get q.held.part.fronts receipt.unit front 0 at in
+        let low = a.not_before in
+        let moved = ap (slice_index q.held.part.fronts) unit_is in
+        omega (arith, index, low, moved);
+    later = a.reached.not_before;
+    fronts = fronts_are;
+    newest = ap (λ (x : CallerShown). x.held.part.newest) a.caller;
+  }
+
+  receipt_again : (record { unit = before.seat.held.unit; place = length before.seat.held.part.history; entry = receipt.entry }) ≡ receipt
+  receipt_again = λ i. record { unit = sym held_is i; place = sym place_is i; entry = receipt.entry }
+
+  replies : RepliesBehind heap receipt.unit before.seat.held.part.history op receipt.entry.reply
+  replies states recovered =
+      let led = λ (u : ℕ). state_after (base_state (opened_at (clock_of heap.opening.words) states) u) before.seat.held.part.history in
+      let same = one_state heap.opening.layout before.books.unit before.seat.held.part.records a.judged.state (led before.books.unit)
+      a.judged.shown (a.showed states recovered) in
+      a.judged.replies ∙ ap (λ (s : State). (step s op).reply) (same ∙ ap led (sym unit_is))
+
+  pub has_continued : HasContinued heap q r op receipt
+  has_continued = record {
+    table = ap (λ (x : CallerShown). x.table) a.caller;
+    caller = ap (λ (x : CallerShown). x.held.caller) a.caller;
+    of_unit = named;
+    entry = ap (λ (x : Receipt). x.entry) a.receipt_is;
+    continues = continues;
+    durable = a.reached.not_behind;
+    receipts = ap (λ (x : CallerShown). x.held.part.receipts) a.caller
+        ∙ ap (λ (x : Receipt). q.held.part.receipts ++ x ∷ []) receipt_again;
+    history = before.seat.held.part.history;
+    place = place_is;
+    replies = replies;
+    seen = ap (λ (x : CallerShown). x.held.entries) a.caller
+        ∙ ap (λ (u : ℕ). slice_set q.held.entries u (before.seat.held.part.history ++ receipt.entry ∷ [])) (sym held_is);
+  }
+
+-- ---- a refusal
+module _ (new : RegionShown) (q r : CallerShown) (noted : HasNoted new q r) where
+  keeps_noted : KeepsAnswers q r
+  keeps_noted = record {
+    table = ap (λ (x : CallerShown). x.table) noted;
+    caller = ap (λ (x : CallerShown). x.held.caller) noted;
+    calls = ap (λ (x : CallerShown). x.held.part.calls) noted;
+    receipts = ap (λ (x : CallerShown). x.held.part.receipts) noted;
+    synced = ap (λ (x : CallerShown). x.held.part.synced) noted;
+    cuts = ap (λ (x : CallerShown). x.held.part.cuts) noted;
+    newest = let now = ap (λ (x : CallerShown). x.held.part.newest) noted in omega (arith, now);
+    durable = let now = ap (λ (x : CallerShown). x.held.part.durable) noted in omega (arith, now);
+  }
+
+module _ (heap : HeapShown) (before behind : RegionShown) (q r : CallerShown) (op : Op) (seated : IsSeated before) where
+  marked : (by : ℕ) → before.books.halted ≡ Some by → WasNoted heap before behind q r
+      → has_mark r.held.part.marks (record { unit = before.books.unit; by = Some by }) ≡ true
+  marked by halted w =
+      let m : Mark = record { unit = before.books.unit; by = Some by } in
+      let frozen : before.seat.held.part.frozen ≡ Some by = sym seated.halted ∙ halted in
+      let marks : List Mark = mark_of before.seat.held.unit before.seat.held.part.frozen in
+      let marks_are : marks ≡ m ∷ [] = λ i. mark_of (sym seated.of_seat i) (frozen i) in
+      ap (λ (x : CallerShown). has_mark x.held.part.marks m) w.noted
+      ∙ joined_has q.held.part.marks marks m
+      (or_right (has_mark q.held.part.marks m) (has_mark marks m) (ap (λ (ms : List Mark). has_mark ms m) marks_are ∙ grind arith))
+
+  -- the state on which it was planned is the one to which the entries lead
+  module _ (stood : IsStanding heap before) (reply : Reply) (changes : List Change) (plan : IsPlan before op reply changes)
+      (states : List State) (recovered : IsRecovered heap.opening.layout heap.opening.words states) (showed : ShowsHistory heap before) where
+    abbrev opened : State
+    opened = base_state (opened_at (clock_of heap.opening.words) states) before.books.unit
+
+    abbrev led : State
+    led = state_after opened before.seat.held.part.history
+
+    planned : plan.state ≡ led
+    planned =
+        one_state heap.opening.layout before.books.unit before.seat.held.part.records plan.state led
+        (subst (λ (s : Shape). HasStructure s before.books.unit before.seat.held.part.records plan.state) stood.of_heap.layout plan.shown)
+        (showed states recovered)
+
+    makes : AllZip (Makes before.books before.seat.held.part.records) (effects_then opened before.seat.held.part.history op) changes
+    makes = subst (λ (s : State). AllZip (Makes before.books before.seat.held.part.records) (step s op).effects changes) planned plan.makes
+
+    as_many : length (effects_then opened before.seat.held.part.history op) ≡ length changes
+    as_many =
+        sym (AllZip-long (Makes before.books before.seat.held.part.records) (effects_then opened before.seat.held.part.history op) changes
+        makes)
+
+    of_kind : kind_of before.books.layout before.books.unit ≡ Some (kind_of_state led)
+    of_kind = plan.shown.of_unit ∙ ap (λ (s : State). Some (kind_of_state s)) planned
+
+  module _ (stood : IsStanding heap before) where
+    needs_number : (which : Which) → HasEnd heap before behind q r op (CountEnd which) → NeedsNumber heap before.books.unit q r op which
+    needs_number which k =
+        let w = k.ends.1 in
+        let showed = subst (ShowsHistory heap) w.same w.showed in record {
+          history = before.seat.held.part.history;
+          kept = w.entries ∙ ap (λ (x : RegionShown). Some x.seat.held.part.history) w.same;
+          cause = λ states recovered.
+              asks_for q.held.part before op k.changes (opened stood k.reply k.changes k.plan states recovered showed)
+              before.seat.held.part.history seated.places (of_kind stood k.reply k.changes k.plan states recovered showed)
+              (makes stood k.reply k.changes k.plan states recovered showed) which k.ends.0;
+        }
+
+    needs_room : (need free clock : ℕ) → IsUncarried heap before behind q r op (Full need free clock)
+        → NeedsRoom heap before.books.unit r op need free clock
+    needs_room need free clock k =
+        let full = k.leaves.1 in
+        let same_unit = full.keeps.of_unit in
+        let same_history = full.keeps.history in
+        let showed = shows_before heap before behind same_unit same_history (λ identity. full.keeps.live identity)
+        (sound_shows heap behind full.ready.runs.agrees.0 full.sound) in record {
+          history = before.seat.held.part.history;
+          kept = full.entries ∙ ap Some same_history;
+          cause = λ states recovered. record {
+            as_needed = as_many stood k.reply k.changes k.plan states recovered showed ∙ sym k.leaves.0;
+            as_free = room_is states recovered full ∙ sym full.free_is;
+            few = full.fewer;
+          };
+        }
+      where
+        room_is : (states : List State) (recovered : IsRecovered heap.opening.layout heap.opening.words states)
+            (full : IsFull heap before behind q r need free clock)
+            → room_of heap.opening.layout.slots (base_state (opened_at (clock_of heap.opening.words) states) before.books.unit)
+            before.seat.held.part.history clock ≡ length behind.books.free
+        room_is states recovered full =
+            (λ i. room_of heap.opening.layout.slots
+            (base_state (opened_at (clock_of heap.opening.words) states) (sym full.keeps.of_unit i)) (sym full.keeps.history i) clock)
+            ∙ sym (full.room states recovered)
+
+    pub learnt_why : (why : CallRefusal) → LeavesCall heap before behind q r op why → HasLearntWhy heap before.books.unit q r op why
+    learnt_why (Halted unit by) k = (k.0, keeps_noted before q r k.2.noted, marked by k.1 k.2)
+    learnt_why (CountEnd which) k = (keeps_noted before q r k.ends.1.noted, needs_number which k)
+    learnt_why Memory k = k.1
+    learnt_why (Full need free clock) k =
+        let full = k.leaves.1 in
+        let now = ap (λ (x : CallerShown). x.held.part.durable) full.noted in
+        let loaded = full.reclaimed.clock_is in
+        (keeps_noted behind q r full.noted, needs_room need free clock k, omega (arith, now, loaded))
+    learnt_why (Cut unit) k = (k.leaves.0, k.leaves.1.caller)
+
+-- ---- what a call answers
+module _ (heap : HeapShown) (number : ℕ) (before behind : RegionShown) (q r : CallerShown) (op : Op)
+    (of_unit : before.books.unit ≡ number) (stood : IsStanding heap before) (seated : IsSeated before)
+    (result : Result Receipt CallRefusal) (checked : was_checked result ≡ true → MayBeCalled q before op) where
+  pub call_answered : IfOk result (λ (receipt : Receipt). HasAnsweredCall heap before behind q r op receipt)
+      → IfOk result (λ (receipt : Receipt). IsAnswered heap q r op receipt)
+  call_answered = answered_by result checked
+    where
+      answered_by : (x : Result Receipt CallRefusal) → (was_checked x ≡ true → MayBeCalled q before op)
+          → IfOk x (λ (receipt : Receipt). HasAnsweredCall heap before behind q r op receipt)
+          → IfOk x (λ (receipt : Receipt). IsAnswered heap q r op receipt)
+      answered_by (Ok receipt) may a = record {
+        caller = has_continued heap before behind q r op receipt seated a;
+        before = before;
+        behind = behind;
+        of_unit = same_unit heap before behind q r op receipt seated a;
+        stood = stood;
+        might = may refl;
+        answered = a;
+      }
+      answered_by (Err why) may a = a
+
+  pub call_refused : IsOpOf heap.opening.layout number op
+      → IfErr result (λ (why : CallRefusal). LeavesCall heap before behind q r op why)
+      → IfErr result (λ (why : CallRefusal). IsRefused heap q r op why)
+  call_refused is_op = refused_by result checked
+    where
+      refused_by : (x : Result Receipt CallRefusal) → (was_checked x ≡ true → MayBeCalled q before op)
+          → IfErr x (λ (why : CallRefusal). LeavesCall heap before behind q r op why)
+          → IfErr x (λ (why : CallRefusal). IsRefused heap q r op why)
+      refused_by (Ok receipt) may k = k
+      refused_by (Err why) may k = record {
+        unit = before.books.unit;
+        named = is_op.of_unit ∙ ap Some (sym of_unit);
+        learnt = learnt_why heap before behind q r op seated stood why k;
+        before = before;
+        behind = behind;
+        of_unit = refl;
+        stood = stood;
+        seated = seated;
+        checked = may;
+        refused = k;
+      }

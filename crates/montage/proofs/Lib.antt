@@ -1,0 +1,11 @@
+mod FirstSeats
+mod BoxesGiven
+mod NumbersAsked
+mod CallsShown
+mod UnitStands
+mod Ticks
+mod SeatsTaken
+mod KeptBases
+mod UnitOps
+mod Passed
+mod StructuresOpened

@@ -1,0 +1,56 @@
+-- What stands behind the lock of a unit after a call.
+use Rattle.std.proofs.Common.{◌≡◌, ℕ, sym, ap, ◌∙◌, subst}
+use Rattle.std.specs.Prelude.{Option, Some, Box, Ok, Err, IfOk, IfErr}
+use Rattle.std.specs.declared.result.Result.{Result}
+use Rattle.mont_base.specs.declared.operation.Op.{Op}
+use Rattle.mont_base.specs.declared.operation.Receipt.{Receipt}
+use Rattle.mont_base.specs.declared.refusal.CallRefusal.{CallRefusal}
+use Rattle.mont_base.specs.declared.refusal.CallRefusal.TheVariants.{Halted, CountEnd, Memory, Full, Cut}
+use Rattle.heap.specs.HeapShown.{HeapShown, CallerShown}
+use Rattle.slots.specs.Books.{RegionShown, Agrees}
+use Rattle.structure_call.specs.Calling.{HasAnsweredCall, LeavesCall}
+use Rattle.structure_call.specs.Standing.{IsStanding}
+use Rattle.montage.specs.declared.unit_at.Structure.{Structure}
+use Rattle.montage.specs.UnitAt.{region_of, IsSeated, StandsAt, FitsNumber}
+
+pub seated_by : (r : RegionShown) → Agrees r → IsSeated r
+seated_by r k = record { of_seat = k.0; inside = k.1.own.inside; halted = k.1.halted_is; places = k.1.places_are }
+
+-- the unit is the same one, and is seated
+abbrev Stays : RegionShown → RegionShown → Type 0
+Stays before behind = (behind.books.unit ≡ before.books.unit) × IsSeated behind
+
+module _ (heap : HeapShown) (before behind : RegionShown) (q r : CallerShown) (op : Op) (seated : IsSeated before) where
+  as_it_was : behind ≡ before → Stays before behind
+  as_it_was same = (ap (λ (x : RegionShown). x.books.unit) same, subst IsSeated (sym same) seated)
+
+  refused_stays : (why : CallRefusal) → LeavesCall heap before behind q r op why → Stays before behind
+  refused_stays (Halted unit by) k = as_it_was k.2.same
+  refused_stays (CountEnd which) k = as_it_was k.ends.1.same
+  refused_stays Memory k = as_it_was k.0
+  refused_stays (Full need free clock) k =
+      let full = k.leaves.1 in (full.keeps.of_unit, seated_by behind full.ready.runs.agrees)
+  refused_stays (Cut unit) k = let halted = k.leaves.1 in (halted.of_unit, seated_by behind halted.agrees)
+
+  stays : (result : Result Receipt CallRefusal)
+      → IfOk result (λ (receipt : Receipt). HasAnsweredCall heap before behind q r op receipt)
+      → IfErr result (λ (why : CallRefusal). LeavesCall heap before behind q r op why) → Stays before behind
+  stays (Ok receipt) a k = (a.of_unit, seated_by behind a.ready.runs.agrees)
+  stays (Err why) a k = refused_stays why k
+
+-- a structure that was found behind the lock stands, of the heap that the lock's type names
+pub stood : {I Z : Type 0} (named heap : HeapShown) (number : ℕ) (found : Option (Box (Structure I) Z)) (box : Box (Structure I) Z)
+    (s : Structure I) → heap ≡ named → found ≡ Some box → s ≡ box.value → FitsNumber named number found → StandsAt heap number s
+stood named heap number found box s same is at fits =
+    subst (StandsAt heap number) (sym at)
+    (subst (λ (h : HeapShown). StandsAt h number box.value) (sym same) (subst (FitsNumber named number) is fits))
+
+-- the structure of a unit stands after a call, whatever its answer is
+pub stands_behind : {I : Type 0} (heap : HeapShown) (number : ℕ) (old new : Structure I) (q r : CallerShown) (op : Op)
+    (result : Result Receipt CallRefusal) → StandsAt heap number old → IsStanding heap (region_of new)
+    → IfOk result (λ (receipt : Receipt). HasAnsweredCall heap (region_of old) (region_of new) q r op receipt)
+    → IfErr result (λ (why : CallRefusal). LeavesCall heap (region_of old) (region_of new) q r op why)
+    → StandsAt heap number new
+stands_behind heap number old new q r op result found stands answered refused =
+    let s = stays heap (region_of old) (region_of new) q r op found.seated result answered refused in
+    record { of_unit = s.0 ∙ found.of_unit; seated = s.1; stands = stands }

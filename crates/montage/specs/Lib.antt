@@ -1,0 +1,7 @@
+pub mod UnitAt
+pub mod StoreCalls
+pub mod Store
+pub mod MapBoxes
+pub mod FreshStore
+pub mod Ticking
+pub mod SeatsBack

@@ -1,0 +1,144 @@
+-- What a call of a structure leaves of its caller, and what its refusals tell. The unit stands
+-- behind a lock, so a call names it as it found and left it.
+use Rattle.std.specs.Prelude.{◌≡◌, ℕ, ◌<◌, ◌≤◌, true, List, [], ◌∷◌, ◌++◌, length, slice_get, slice_set, Any, Some, IsSome, Err}
+use Rattle.std.specs.declared.result.Result.{Result}
+use Rattle.mont_base.specs.declared.constants.TheConstants.{LAST}
+use Rattle.mont_base.specs.declared.operation.Entry.{Entry}
+use Rattle.mont_base.specs.declared.operation.Op.{Op}
+use Rattle.mont_base.specs.declared.operation.Receipt.{Receipt}
+use Rattle.mont_base.specs.declared.operation.Reply.{Reply}
+use Rattle.mont_base.specs.declared.refusal.CallRefusal.{CallRefusal}
+use Rattle.mont_base.specs.declared.refusal.CallRefusal.TheVariants.{Halted, CountEnd, Memory, Full, Cut}
+use Rattle.mont_base.specs.declared.refusal.Which.{Which}
+use Rattle.mont_base.specs.declared.refusal.Which.TheVariants as ends
+use Rattle.mont_base.specs.History.{state_after}
+use Rattle.mont_base.specs.Image.{clock_of, IsRecovered}
+use Rattle.mont_base.specs.Room.{room_of}
+use Rattle.mont_base.specs.Seen.{ContinuesView}
+use Rattle.mont_base.specs.State.{State, step, unit_of_op}
+use Rattle.job_text.specs.Causes.{effects_then, LacksRoom, is_insertion, is_enq, renewed}
+use Rattle.core_steps.specs.Answering.{entry_of}
+use Rattle.core_steps.specs.CallerClauses.{view_of}
+use Rattle.core_steps.specs.Opened.{opened_at}
+use Rattle.core_steps.specs.Sound.{base_state}
+use Rattle.heap_rule.specs.Views.{caller_cut}
+use Rattle.heap.specs.HeapShown.{HeapShown, CallerShown}
+use Rattle.slots.specs.Books.{RegionShown}
+use Rattle.structure_call.specs.Calling.{HasAnsweredCall, LeavesCall, was_checked}
+use Rattle.structure_call.specs.Checking.{MayBeCalled}
+use Rattle.structure_call.specs.Standing.{IsStanding}
+use Rattle.caller.specs.Telling.{has_mark}
+use Rattle.montage.specs.UnitAt.{IsSeated}
+
+-- This holds of what the unit held when the store was opened, by whatever states recovery gives.
+abbrev pub HoldsOfBase : HeapShown → ℕ → (State → Type 0) → Type 0
+HoldsOfBase heap unit Holds =
+    (states : List State) → IsRecovered heap.opening.layout heap.opening.words states
+    → Holds (base_state (opened_at (clock_of heap.opening.words) states) unit)
+
+-- ---- answered: what the caller has of it
+-- The reply is that of the operation on the state to which entries of the unit lead, from what the
+-- unit held when the store was opened.
+abbrev pub RepliesBehind : HeapShown → ℕ → List Entry → Op → Reply → Type 0
+RepliesBehind heap unit history op reply =
+    HoldsOfBase heap unit (λ base. reply ≡ (step (state_after base history) op).reply)
+
+-- The call is one entry of the unit's history. The entry stands behind all that the caller had
+-- seen, at no earlier epoch; from then on the caller has seen it, and all entries before it.
+pub record HasContinued
+    (heap : HeapShown) (q r : CallerShown) (op : Op) (receipt : Receipt) : Type 0 where
+  pub table : r.table ≡ q.table
+  pub caller : r.held.caller ≡ q.held.caller
+  pub of_unit : unit_of_op heap.opening.layout op ≡ Some receipt.unit
+  pub entry : receipt.entry
+      ≡ entry_of q.held.caller q.held.part op receipt.entry.reply receipt.entry.epoch
+  pub continues : ContinuesView (view_of q.held.part) (view_of r.held.part) receipt
+  pub durable : q.held.part.durable ≤ receipt.entry.epoch
+  pub receipts : r.held.part.receipts ≡ q.held.part.receipts ++ receipt ∷ []
+  pub history : List Entry
+  pub place : receipt.place ≡ length history
+  pub replies : RepliesBehind heap receipt.unit history op receipt.entry.reply
+  pub seen : r.held.entries
+      ≡ slice_set q.held.entries receipt.unit (history ++ receipt.entry ∷ [])
+
+-- and what the unit was before and behind it
+pub record IsAnswered
+    (heap : HeapShown) (q r : CallerShown) (op : Op) (receipt : Receipt) : Type 0 where
+  pub caller : HasContinued heap q r op receipt
+  pub before : RegionShown
+  pub behind : RegionShown
+  pub of_unit : before.books.unit ≡ receipt.unit
+  pub stood : IsStanding heap before
+  pub might : MayBeCalled q before op
+  pub answered : HasAnsweredCall heap before behind q r op receipt
+
+-- ---- refused: what the caller has of it
+-- No answer is lost, nothing that was seen is forgotten, and nothing more is known to be durable
+-- than the caller has seen.
+pub record KeepsAnswers (q r : CallerShown) : Type 0 where
+  pub table : r.table ≡ q.table
+  pub caller : r.held.caller ≡ q.held.caller
+  pub calls : r.held.part.calls ≡ q.held.part.calls
+  pub receipts : r.held.part.receipts ≡ q.held.part.receipts
+  pub synced : r.held.part.synced ≡ q.held.part.synced
+  pub cuts : r.held.part.cuts ≡ q.held.part.cuts
+  pub newest : q.held.part.newest ≤ r.held.part.newest
+  pub durable : q.held.part.durable ≤ r.held.part.durable
+
+-- A cause held of what the unit held when the store was opened and of its entries, all of which
+-- the caller has now seen.
+pub record HasLearntCause
+    (heap : HeapShown) (unit : ℕ) (r : CallerShown) (Holds : State → List Entry → Type 0)
+    : Type 0 where
+  pub history : List Entry
+  pub kept : slice_get r.held.entries unit ≡ Some history
+  pub cause : HoldsOfBase heap unit (λ base. Holds base history)
+
+-- The operation needed so many slots then, and so many are free of those that the unit has, where
+-- all is closed that may be at the clock.
+abbrev pub NeedsRoom : HeapShown → ℕ → CallerShown → Op → ℕ → ℕ → ℕ → Type 0
+NeedsRoom heap unit r op need free clock = HasLearntCause heap unit r (λ base history.
+    LacksRoom (length (effects_then base history op))
+    (room_of heap.opening.layout.slots base history clock) need free)
+
+-- Which numbers an operation asks for behind so many calls of its caller. The number of calls or
+-- of entries is then above the last one.
+abbrev pub AsksFor : ℕ → Which → Op → State → List Entry → Type 0
+AsksFor calls ends.Call op base h = LAST < calls
+AsksFor calls ends.Place op base h = LAST < length h
+AsksFor calls ends.Identity op base h =
+    Any (λ e. is_insertion e ≡ true) (effects_then base h op)
+AsksFor calls ends.Version op base h = Any (λ e. IsSome (renewed e)) (effects_then base h op)
+AsksFor calls ends.Serial op base h = is_enq op ≡ true
+
+abbrev pub NeedsNumber : HeapShown → ℕ → CallerShown → CallerShown → Op → Which → Type 0
+NeedsNumber heap unit q r op which =
+    HasLearntCause heap unit r (AsksFor q.held.part.calls which op)
+
+-- what a refusal of an operation of the unit tells
+abbrev pub HasLearntWhy :
+    HeapShown → ℕ → CallerShown → CallerShown → Op → CallRefusal → Type 0
+HasLearntWhy heap unit q r op (Halted halted by) =
+    (halted ≡ unit) × KeepsAnswers q r
+    × (has_mark r.held.part.marks (record { unit = unit; by = Some by }) ≡ true)
+HasLearntWhy heap unit q r op (CountEnd which) =
+    KeepsAnswers q r × NeedsNumber heap unit q r op which
+HasLearntWhy heap unit q r op Memory = r ≡ q
+HasLearntWhy heap unit q r op (Full need free clock) =
+    KeepsAnswers q r × NeedsRoom heap unit r op need free clock × (clock ≤ r.held.part.durable)
+HasLearntWhy heap unit q r op (Cut cut) =
+    (cut ≡ unit) × (r ≡ record { table = q.table; held = caller_cut q.held unit })
+
+-- and what the unit was before and behind it
+pub record IsRefused
+    (heap : HeapShown) (q r : CallerShown) (op : Op) (why : CallRefusal) : Type 0 where
+  pub unit : ℕ
+  pub named : unit_of_op heap.opening.layout op ≡ Some unit
+  pub learnt : HasLearntWhy heap unit q r op why
+  pub before : RegionShown
+  pub behind : RegionShown
+  pub of_unit : before.books.unit ≡ unit
+  pub stood : IsStanding heap before
+  pub seated : IsSeated before
+  pub checked : was_checked {T = Receipt} (Err why) ≡ true → MayBeCalled q before op
+  pub refused : LeavesCall heap before behind q r op why

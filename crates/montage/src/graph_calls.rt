@@ -1,0 +1,151 @@
+// Calls of graph units.
+ghost use Rattle.std.specs.Prelude.{◌≡◌, Some, IfOk, IfErr};
+ghost use Rattle.mont_base.specs.declared.kinds.UnitKind.TheVariants as kinds;
+ghost use Rattle.mont_base.specs.declared.operation.Op.TheVariants as ops;
+ghost use Rattle.mont_base.specs.Layout.{kind_of};
+ghost use Rattle.heap.specs.GateAsked.{IsAskedOften};
+ghost use Rattle.structure_call.specs.Calling.{was_cut};
+ghost use Rattle.montage.specs.StoreCalls.{IsAnswered, IsRefused};
+
+use crate::store::Store;
+use heap_pass::{HeapName, Pass};
+use index_kit::Index;
+use mont_base::{CallRefusal, Gate, Op, Receipt, Unit};
+use std::sync::Wait;
+
+impl<N: HeapName, I: Index> Store<N, I> {
+    /// Sets the attribute of a vertex, and answers the one that it had.
+    #[tactic(auto, using(crate::proofs::UnitOps::add_vertex_of))]
+    pub fn add_vertex<R: Wait, G: Gate>(
+        &self,
+        rt: &R,
+        pass: &mut Pass<G>,
+        unit: Unit,
+        vertex: u64,
+        attr: u64,
+    ) -> Result<Receipt, CallRefusal>
+        requires pass { pass.old.ticket.table ≡ N.heap.table }
+        requires kind { kind_of N.heap.opening.layout unit ≡ Some kinds.Graph }
+        ensures gate { IsAskedOften G.cuts G.endless pass.old.gate pass.new.gate (was_cut result) }
+        ensures answered { IfOk result (λ receipt. IsAnswered N.heap pass.old.ticket
+            pass.new.ticket (ops.AddV unit vertex attr) receipt) }
+        ensures refused { IfErr result (λ why. IsRefused N.heap pass.old.ticket
+            pass.new.ticket (ops.AddV unit vertex attr) why) }
+    {
+        let op = Op::AddV { unit, vertex, attr };
+        self.call(rt, pass, unit, &op)
+    }
+
+    /// Removes a vertex with every edge from or to it, all in one entry, and answers its attribute.
+    #[tactic(auto, using(crate::proofs::UnitOps::del_vertex_of))]
+    pub fn del_vertex<R: Wait, G: Gate>(
+        &self,
+        rt: &R,
+        pass: &mut Pass<G>,
+        unit: Unit,
+        vertex: u64,
+    ) -> Result<Receipt, CallRefusal>
+        requires pass { pass.old.ticket.table ≡ N.heap.table }
+        requires kind { kind_of N.heap.opening.layout unit ≡ Some kinds.Graph }
+        ensures gate { IsAskedOften G.cuts G.endless pass.old.gate pass.new.gate (was_cut result) }
+        ensures answered { IfOk result (λ receipt. IsAnswered N.heap pass.old.ticket
+            pass.new.ticket (ops.DelV unit vertex) receipt) }
+        ensures refused { IfErr result (λ why. IsRefused N.heap pass.old.ticket
+            pass.new.ticket (ops.DelV unit vertex) why) }
+    {
+        let op = Op::DelV { unit, vertex };
+        self.call(rt, pass, unit, &op)
+    }
+
+    /// Looks a vertex up.
+    #[tactic(auto, using(crate::proofs::UnitOps::vertex_of))]
+    pub fn vertex<R: Wait, G: Gate>(
+        &self,
+        rt: &R,
+        pass: &mut Pass<G>,
+        unit: Unit,
+        vertex: u64,
+    ) -> Result<Receipt, CallRefusal>
+        requires pass { pass.old.ticket.table ≡ N.heap.table }
+        requires kind { kind_of N.heap.opening.layout unit ≡ Some kinds.Graph }
+        ensures gate { IsAskedOften G.cuts G.endless pass.old.gate pass.new.gate (was_cut result) }
+        ensures answered { IfOk result (λ receipt. IsAnswered N.heap pass.old.ticket
+            pass.new.ticket (ops.Vertex unit vertex) receipt) }
+        ensures refused { IfErr result (λ why. IsRefused N.heap pass.old.ticket
+            pass.new.ticket (ops.Vertex unit vertex) why) }
+    {
+        let op = Op::Vertex { unit, vertex };
+        self.call(rt, pass, unit, &op)
+    }
+
+    /// Counts the edges from or to a vertex.
+    #[tactic(auto, using(crate::proofs::UnitOps::degree_of))]
+    pub fn degree<R: Wait, G: Gate>(
+        &self,
+        rt: &R,
+        pass: &mut Pass<G>,
+        unit: Unit,
+        vertex: u64,
+    ) -> Result<Receipt, CallRefusal>
+        requires pass { pass.old.ticket.table ≡ N.heap.table }
+        requires kind { kind_of N.heap.opening.layout unit ≡ Some kinds.Graph }
+        ensures gate { IsAskedOften G.cuts G.endless pass.old.gate pass.new.gate (was_cut result) }
+        ensures answered { IfOk result (λ receipt. IsAnswered N.heap pass.old.ticket
+            pass.new.ticket (ops.Degree unit vertex) receipt) }
+        ensures refused { IfErr result (λ why. IsRefused N.heap pass.old.ticket
+            pass.new.ticket (ops.Degree unit vertex) why) }
+    {
+        let op = Op::Degree { unit, vertex };
+        self.call(rt, pass, unit, &op)
+    }
+
+    /// Sets the attribute of the edge from one vertex to another, and answers the one that it had.
+    #[tactic(auto, using(crate::proofs::UnitOps::add_edge_of))]
+    pub fn add_edge<R: Wait, G: Gate>(
+        &self,
+        rt: &R,
+        pass: &mut Pass<G>,
+        unit: Unit,
+        from: u64,
+        to: u64,
+        attr: u64,
+    ) -> Result<Receipt, CallRefusal>
+        requires pass { pass.old.ticket.table ≡ N.heap.table }
+        requires kind { kind_of N.heap.opening.layout unit ≡ Some kinds.Graph }
+        ensures gate { IsAskedOften G.cuts G.endless pass.old.gate pass.new.gate (was_cut result) }
+        ensures answered { IfOk result (λ receipt. IsAnswered N.heap pass.old.ticket
+            pass.new.ticket (ops.AddE unit from to attr) receipt) }
+        ensures refused { IfErr result (λ why. IsRefused N.heap pass.old.ticket
+            pass.new.ticket (ops.AddE unit from to attr) why) }
+    {
+        let op = Op::AddE {
+            unit,
+            from,
+            to,
+            attr,
+        };
+        self.call(rt, pass, unit, &op)
+    }
+
+    /// Removes an edge, and answers the attribute that it had.
+    #[tactic(auto, using(crate::proofs::UnitOps::del_edge_of))]
+    pub fn del_edge<R: Wait, G: Gate>(
+        &self,
+        rt: &R,
+        pass: &mut Pass<G>,
+        unit: Unit,
+        from: u64,
+        to: u64,
+    ) -> Result<Receipt, CallRefusal>
+        requires pass { pass.old.ticket.table ≡ N.heap.table }
+        requires kind { kind_of N.heap.opening.layout unit ≡ Some kinds.Graph }
+        ensures gate { IsAskedOften G.cuts G.endless pass.old.gate pass.new.gate (was_cut result) }
+        ensures answered { IfOk result (λ receipt. IsAnswered N.heap pass.old.ticket
+            pass.new.ticket (ops.DelE unit from to) receipt) }
+        ensures refused { IfErr result (λ why. IsRefused N.heap pass.old.ticket
+            pass.new.ticket (ops.DelE unit from to) why) }
+    {
+        let op = Op::DelE { unit, from, to };
+        self.call(rt, pass, unit, &op)
+    }
+}

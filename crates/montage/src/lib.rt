@@ -1,0 +1,20 @@
+//! The store: the heap, each unit behind a lock of its own, and the advancer behind another. Its
+//! structure calls are made by callers on threads of their own; what `Store::stop` ensures is the
+//! promise of the whole store.
+#![tactic(auto)]
+
+mod graph_calls;
+mod map_calls;
+mod open_refusal;
+mod queue_calls;
+mod store;
+mod store_end;
+mod store_opening;
+#[cfg(test)]
+mod tests;
+mod ticking;
+mod unit_at;
+mod unit_calls;
+
+pub use open_refusal::OpenRefusal;
+pub use store::Store;
