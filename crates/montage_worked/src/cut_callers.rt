@@ -64,7 +64,7 @@ fn a_cut_halts_its_unit_alone(rt: HostRuntime) -> Result<(), Fail> {
 }
 
 // How many stores are tried, each of whose three callers is cut before some step.
-const STORES: u64 = 60;
+const STORES: u64 = 12;
 const MOST_STEPS: u64 = 900;
 const TURNS: u64 = 60;
 

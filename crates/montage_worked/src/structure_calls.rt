@@ -37,6 +37,7 @@ pub(crate) fn carry_out<R: Wait, N: HeapName, I: Index, G: Gate>(
     }
 }
 
+#[tactic(auto, using(crate::proofs::Kept::same_caller))]
 fn call_map<R: Wait, N: HeapName, I: Index, G: Gate>(
     rt: &R,
     store: &Store<N, I>,
@@ -57,6 +58,7 @@ fn call_map<R: Wait, N: HeapName, I: Index, G: Gate>(
     }
 }
 
+#[tactic(auto, using(crate::proofs::Kept::same_caller))]
 fn call_queue<R: Wait, N: HeapName, I: Index, G: Gate>(
     rt: &R,
     store: &Store<N, I>,
@@ -78,6 +80,7 @@ fn call_queue<R: Wait, N: HeapName, I: Index, G: Gate>(
     }
 }
 
+#[tactic(auto, using(crate::proofs::Kept::same_caller))]
 fn call_graph<R: Wait, N: HeapName, I: Index, G: Gate>(
     rt: &R,
     store: &Store<N, I>,
