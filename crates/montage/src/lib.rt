@@ -10,8 +10,6 @@ mod queue_calls;
 mod store;
 mod store_end;
 mod store_opening;
-#[cfg(test)]
-mod tests;
 mod ticking;
 mod unit_at;
 mod unit_calls;

@@ -1,5 +1,6 @@
 // A caller moves the clock on, and waits until what it has seen is durable.
-ghost use Rattle.std.specs.Prelude.{◌≡◌, IfOk, IfErr, OnErr};
+ghost use Rattle.std.specs.Prelude.{◌≡◌, length, IfOk, IfErr, OnErr};
+ghost use Rattle.heap_rule.specs.Views.{caller_heard, note_of_advancer};
 ghost use Rattle.heap.specs.GateAsked.{IsAskedOften};
 ghost use Rattle.advance.specs.Advance.{was_cut};
 ghost use Rattle.caller.specs.Syncing.{KeepsSeen, HasSynced, LeavesUnsynced};
@@ -7,8 +8,9 @@ ghost use Rattle.caller.specs.Syncing as syncs;
 ghost use Rattle.montage.specs.Ticking.{HasTicked};
 
 use crate::store::Store;
-use advance::AdvanceRefusal;
+use advance::{AdvanceRefusal, Advancer};
 use caller::{SyncRefusal, sync};
+use heap::Heap;
 use heap_pass::{HeapName, Pass};
 use index_kit::Index;
 use mont_base::{Epoch, Gate};
@@ -32,7 +34,7 @@ impl<N: HeapName, I: Index> Store<N, I> {
         let named = &mut *guard;
         named.part.show(&self.heap, &mut pass.ticket);
         let answer = named.part.advance(&self.heap, &mut pass.gate);
-        named.part.hear(&self.heap, &mut pass.ticket);
+        take_note(&self.heap, &mut named.part, pass);
         answer
     }
 
@@ -54,4 +56,20 @@ impl<N: HeapName, I: Index> Store<N, I> {
     {
         sync(rt, &self.heap, &self.advancer, pass)
     }
+}
+
+// The caller takes a note of the advancer.
+fn take_note<G: Gate>(heap: &Heap, advancer: &mut Advancer, pass: &mut Pass<G>)
+    requires heap { advancer.old.table ≡ heap.now.table }
+    requires ticket { pass.old.ticket.table ≡ heap.now.table }
+    ensures advancer { advancer.new ≡ advancer.old }
+    ensures caller { pass.new.ticket ≡ record {
+      table = pass.old.ticket.table;
+      held = caller_heard pass.old.ticket.held
+          (note_of_advancer (length pass.old.ticket.held.part.fronts) advancer.old.held);
+    } }
+    ensures gate { pass.new.gate ≡ pass.old.gate }
+    ensures receipts { pass.new.receipts ≡ pass.old.receipts }
+{
+    advancer.hear(heap, &mut pass.ticket);
 }

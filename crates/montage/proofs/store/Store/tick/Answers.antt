@@ -25,15 +25,15 @@ advance-answer-requires-clause-clean g c =
     c.self.invariant.of_heap named.of_heap c.show.ensures.advancer in
     λ rests. fits.of_heap.all_clean
 
-pub hear-requires-clause-heap : goal.hear-requires-clause-heap
-hear-requires-clause-heap g c =
+pub take_note-requires-clause-heap : goal.take_note-requires-clause-heap
+take_note-requires-clause-heap g c =
     let named = c.deref_mut-named.result.now in
     let fits = shown_fits g.N.HeapName.heap c.self.inside.heap named.part c.show.new.self c.args.pass.now.ticket.held
     c.self.invariant.of_heap named.of_heap c.show.ensures.advancer in
     c.advance-answer.ensures.same.table ∙ fits.of_heap.of_table
 
-pub hear-requires-clause-ticket : goal.hear-requires-clause-ticket
-hear-requires-clause-ticket g c =
+pub take_note-requires-clause-ticket : goal.take_note-requires-clause-ticket
+take_note-requires-clause-ticket g c =
     ap (λ (t : CallerShown). t.table) c.show.ensures.caller
     ∙ (c.requires.pass ∙ sym (ap (λ (h : HeapShown). h.table) c.self.invariant.of_heap))
 
@@ -42,7 +42,7 @@ invariant_of-named g c =
     let named = c.deref_mut-named.result.now in
     let heap = g.N.HeapName.heap in
     record {
-      of_heap = subst (λ (a : AdvShown). IsAdvancerOf heap a) (sym c.hear.ensures.advancer)
+      of_heap = subst (λ (a : AdvShown). IsAdvancerOf heap a) (sym c.take_note.ensures.advancer)
           (same_fits heap c.show.new.self c.advance-answer.new.self
           (shown_fits heap heap named.part c.show.new.self c.args.pass.now.ticket.held refl named.of_heap c.show.ensures.advancer)
           c.advance-answer.ensures.same);
@@ -53,5 +53,5 @@ returns-clause-ticked g c =
     let named = c.deref_mut-named.result.now in
     let e = c.advance-answer.ensures in
     ticked_by g.N.HeapName.heap named.part c.show.new.self c.advance-answer.new.self c.args.pass.now.ticket c.show.new.ticket
-    c.hear.new.ticket c.advance-answer.result named.of_heap c.show.ensures.advancer c.show.ensures.caller c.hear.ensures.caller
+    c.take_note.new.pass.ticket c.advance-answer.result named.of_heap c.show.ensures.advancer c.show.ensures.caller c.take_note.ensures.caller
     e.ok e.refused e.reason e.clock_end
