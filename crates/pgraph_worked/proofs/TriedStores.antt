@@ -1,8 +1,10 @@
--- A store of one unit whose slots are all within the cut has none that was left open, and of any store the last seat is dealt last.
-use Rattle.std.proofs.Common.{◌≡◌, ℕ, suc, ◌+◌, ◌++◌, ◌*◌, ◌<◌, ◌≤◌, List, [], ◌∷◌, sym, refl, ap, ◌∙◌, subst, arith, Bool, false, cond}
+-- A store of one unit whose slots are all within the cut has none that was left open; the seats with which one begins and stops.
+use Rattle.std.proofs.Common.{◌≡◌, ℕ, zero, suc, ◌+◌, ◌++◌, ◌*◌, ◌<◌, ◌≤◌, List, [], ◌∷◌, length, sym, refl, ap, ◌∙◌, subst, arith, Bool, false, cond}
 use Rattle.std.specs.Prelude.{filter, nat_lt, IsTrue}
 use Rattle.std.specs.List.{Contains, range_with_len}
 use Rattle.std.proofs.lemmas.Bool.Decides.{nat_tests}
+use Rattle.std.proofs.lemmas.List.{length_push, same_from_push}
+use Rattle.std.proofs.lemmas.Option.{same_Some}
 use Rattle.mont_base.specs.declared.record.Held.{Held}
 use Rattle.mont_base.specs.declared.record.Object.{Object}
 use Rattle.mont_base.specs.Image.{cut_of, epoch_at, slots_of, records_of, IsWellFormed}
@@ -13,14 +15,19 @@ use Rattle.mont_base.specs.Versions.{live_objects}
 use Rattle.mont_laws.proofs.Mapped.{range_bounds}
 use Rattle.mont_laws.proofs.Members.{first_element, later_element}
 use Rattle.core_steps.specs.Opened.{slots_beyond}
+use Rattle.core_steps.specs.Places.{EachAt}
 use Rattle.core_steps.specs.Stages.{is_empty}
+use Rattle.core_steps.proofs.RowFacts.{each_push, all_at}
 use Rattle.heap_rule.specs.declared.rule.Opening.{Opening}
 use Rattle.heap_rule.specs.Views.{are_clean, clean_at, first_unit}
-use Rattle.heap.specs.HeapShown.{HeapShown, UnitShown}
+use Rattle.heap.specs.HeapShown.{HeapShown, UnitShown, AdvShown, CallerShown}
 use Rattle.heap.specs.Opens.{dealt_units}
+use Rattle.heap.specs.Stops.{IsSeatOfUnit, IsSeatOfCaller, AreAllSeats, AreAtHome}
 use Rattle.slots.specs.Beginning.{AreFound}
+use Rattle.slots.specs.Books.{Agrees}
 use Rattle.region_laws.proofs.FoundImages.{images_are_found}
-use Rattle.pgraph_worked.specs.TriedGraph.{IsSettled}
+use Rattle.pgraph.specs.PGraph.{PGraphShown}
+use Rattle.pgraph_worked.specs.TriedGraph.{IsSettled, IsTried}
 
 none_kept : (p : ℕ → Bool) (xs : List ℕ) → ((x : ℕ) → Contains xs x → p x ≡ false) → filter p xs ≡ []
 none_kept p [] none = refl
@@ -61,19 +68,62 @@ objects_make s at image unit found objects well one is are same first =
     (λ i. (sym same i, sym first i, sym (are ∙ ap live_objects is) i))
     (well.defined 0 (subst (λ (n : ℕ). 0 < n) (sym one) (omega arith)))
 
--- ---- the last seat
-abbrev last_of : {A : Type 0} → A → List A → A
-last_of d [] = d
-last_of d (x ∷ xs) = last_of x xs
-
-last_pushed : {A : Type 0} (d : A) (xs : List A) (a : A) → last_of d (xs ++ a ∷ []) ≡ a
-last_pushed d [] a = refl
-last_pushed d (x ∷ xs) a = last_pushed x xs a
-
-pub last_seat : (h : HeapShown) (u : ℕ) (seats front : List UnitShown) (seat : UnitShown) → u + 1 ≡ units_of h.opening.layout
+-- ---- the seats
+pub last_apart : (h : HeapShown) (u : ℕ) (seats front : List UnitShown) (seat : UnitShown) → u + 1 ≡ units_of h.opening.layout
     → seats ≡ dealt_units h.table h.opening (units_of h.opening.layout) → seats ≡ front ++ seat ∷ []
-    → seat ≡ record { table = h.table; held = first_unit h.opening u }
-last_seat h u seats front seat last are is =
+    → (front ≡ dealt_units h.table h.opening u) × (seat ≡ record { table = h.table; held = first_unit h.opening u })
+last_apart h u seats front seat last are is =
     let next : units_of h.opening.layout ≡ suc u = omega arith in
-    sym (last_pushed seat front seat) ∙ ap (last_of seat) (sym is ∙ are ∙ ap (dealt_units h.table h.opening) next)
-    ∙ last_pushed seat (dealt_units h.table h.opening u) (record { table = h.table; held = first_unit h.opening u })
+    same_from_push front (dealt_units h.table h.opening u) seat (record { table = h.table; held = first_unit h.opening u })
+    (sym is ∙ are ∙ ap (dealt_units h.table h.opening) next)
+
+-- a seat that a heap may be stopped with
+IsBack : HeapShown → ℕ → UnitShown → Type 0
+IsBack heap u s = IsSeatOfUnit heap u s × (s.held.turn.out ≡ false)
+
+module _ (heap : HeapShown) where
+  count_dealt : (n : ℕ) → length (dealt_units heap.table heap.opening n) ≡ n
+  count_dealt zero = refl
+  count_dealt (suc n) =
+      let more = length_push (dealt_units heap.table heap.opening n) (record { table = heap.table; held = first_unit heap.opening n }) in
+      let fewer = count_dealt n in
+      omega (arith, more, fewer)
+
+  each_dealt : (n : ℕ) → EachAt (IsBack heap) (dealt_units heap.table heap.opening n)
+  each_dealt zero u s e = absurd (cc)
+  each_dealt (suc n) = each_push (IsBack heap) (dealt_units heap.table heap.opening n)
+      (record { table = heap.table; held = first_unit heap.opening n }) (each_dealt n)
+      (subst (λ (k : ℕ). IsBack heap k (record { table = heap.table; held = first_unit heap.opening n })) (sym (count_dealt n))
+      ((refl, refl), refl))
+
+-- with that of the graph behind those before it
+module _ (heap : HeapShown) (before : List UnitShown) (graph : PGraphShown) (advancer : AdvShown) (caller : CallerShown) (unit : ℕ)
+    (tried : IsTried heap before graph advancer caller unit) (agrees : Agrees graph.region)
+    (units : List UnitShown) (are : units ≡ before ++ graph.region.seat ∷ []) where
+  each_back : EachAt (IsBack heap) units
+  each_back = subst (EachAt (IsBack heap)) (sym (are ∙ ap (λ (l : List UnitShown). l ++ graph.region.seat ∷ []) tried.before_are))
+      (each_push (IsBack heap) (dealt_units heap.table heap.opening unit) graph.region.seat (each_dealt heap unit)
+      (subst (λ (k : ℕ). IsBack heap k graph.region.seat) (sym (count_dealt heap unit))
+      ((tried.stands.of_heap.table, sym agrees.0 ∙ tried.unit_is), tried.stands.home)))
+
+  pub all_back : (callers : List CallerShown) (a : AdvShown) → callers ≡ caller ∷ [] → a ≡ advancer
+      → AreAllSeats heap units a callers
+  all_back callers a is_caller is_advancer =
+      let count = ap length (are ∙ ap (λ (l : List UnitShown). l ++ graph.region.seat ∷ []) tried.before_are) in
+      let more = length_push (dealt_units heap.table heap.opening unit) graph.region.seat in
+      let fewer = count_dealt heap unit in
+      let last = tried.layout.last in
+      record {
+        unit_count = omega (arith, count, more, fewer, last);
+        each_unit = λ u s e. (each_back u s e).0;
+        the_advancer = ap (λ (x : AdvShown). x.table) is_advancer ∙ tried.of_advancer;
+        caller_count = ap length is_caller ∙ sym tried.callers;
+        each_caller = subst (EachAt (IsSeatOfCaller heap)) (sym is_caller) (one_caller tried.of_caller tried.number);
+      }
+    where
+      one_caller : caller.table ≡ heap.table → caller.held.caller ≡ 0 → EachAt (IsSeatOfCaller heap) (caller ∷ [])
+      one_caller of_table number zero q e = subst (IsSeatOfCaller heap 0) (same_Some caller q e) (of_table, number)
+      one_caller of_table number (suc i) q e = absurd (cc)
+
+  pub all_home : AreAtHome units
+  all_home = all_at (λ (s : UnitShown). s.held.turn.out ≡ false) units (λ u s e. (each_back u s e).1)

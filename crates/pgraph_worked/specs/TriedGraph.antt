@@ -4,7 +4,8 @@ use Rattle.mont_base.specs.declared.kinds.UnitKind.TheVariants as unit_kinds
 use Rattle.mont_base.specs.Layout.{Shape, kind_of, units_of}
 use Rattle.core_steps.specs.Opened.{slots_beyond}
 use Rattle.heap_rule.specs.Views.{are_clean, clean_at}
-use Rattle.heap.specs.HeapShown.{HeapShown, AdvShown, CallerShown}
+use Rattle.heap.specs.HeapShown.{HeapShown, UnitShown, AdvShown, CallerShown}
+use Rattle.heap.specs.Opens.{dealt_units}
 use Rattle.structure_call.specs.Standing.{IsStanding}
 use Rattle.heap_pass.specs.OfLayout.{IsOfLayout}
 use Rattle.pgraph.specs.PGraph.{PGraphShown}
@@ -20,12 +21,14 @@ pub record IsSettled (s : Shape) (image : List ℕ) : Type 0 where
   pub clean : IsTrue (are_clean (units_of s)
       (clean_at (record { layout = s; words = image; callers = 1 })))
 
--- the graph stands, and the seats of the advancer and of the caller are of the heap
+-- The graph stands, nothing is done with the units before it, and the seats of the advancer and of
+-- the caller are of the heap.
 pub record IsTried
-    (heap : HeapShown) (graph : PGraphShown) (advancer : AdvShown) (caller : CallerShown) (unit : ℕ)
-    : Type 0 where
+    (heap : HeapShown) (before : List UnitShown) (graph : PGraphShown) (advancer : AdvShown)
+    (caller : CallerShown) (unit : ℕ) : Type 0 where
   pub layout : IsLastGraph heap.opening.layout unit
   pub callers : heap.opening.callers ≡ 1
+  pub before_are : before ≡ dealt_units heap.table heap.opening unit
   pub stands : IsStanding heap graph.region
   pub unit_is : graph.region.books.unit ≡ unit
   pub of_advancer : advancer.table ≡ heap.table

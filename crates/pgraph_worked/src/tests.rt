@@ -3,7 +3,7 @@
 ghost use Rattle.std.specs.Prelude.{◌≡◌, ◌<◌, length, IfOk, OnOk, IsTrue};
 ghost use Rattle.mont_base.specs.Layout.{Shape, units_of, words_of};
 ghost use Rattle.mont_laws.specs.Effects.{IsOpOf};
-ghost use Rattle.heap.specs.Opens.{Opens};
+ghost use Rattle.heap.specs.Opens.{Opens, dealt_units};
 ghost use Rattle.heap_rule.specs.Views.{first_unit, first_advancer, first_caller};
 ghost use Rattle.pgraph_worked.specs.TriedGraph.{IsLastGraph, IsSettled, IsTried};
 
@@ -15,16 +15,17 @@ use mont_base::{
     UnitKind, Words,
 };
 use pgraph::PGraph;
-use plain::{GraphState, UnitState, build, is_well_formed, live_objects, records, same_state};
+use plain::{GraphState, UnitState, is_well_formed, live_objects, records, recover};
 use slots::Region;
 use std::alloc::Global;
 use std::sync::Wait;
 use std::test::Fail;
 
-// A store whose last unit is a graph, with one caller.
+// A store whose last unit is a graph, with one caller. Nothing is done with the units before it.
 #[derive(Drop)]
 struct Store {
     heap: Heap,
+    before: Vec<UnitSeat>,
     graph: PGraph,
     advancer: Advancer,
     pass: Pass<Steady>,
@@ -42,26 +43,42 @@ fn units(letters: &[u8], slots: u64) -> Result<(Layout, Unit), Fail>
     Ok((layout, last))
 }
 
-// The seats of the last unit, of the advancer and of the one caller.
-fn deal(heap: &Heap, seats: Seats, unit: Unit) -> Result<(UnitSeat, AdvSeat, Ticket), Fail>
+// The seats of a store by their use.
+#[derive(Drop)]
+struct Dealt {
+    before: Vec<UnitSeat>,
+    last: UnitSeat,
+    advancer: AdvSeat,
+    caller: Ticket,
+}
+
+// The seats of the units before the last one, of the last unit, of the advancer and of the caller.
+fn deal(heap: &Heap, seats: Seats, unit: Unit) -> Result<Dealt, Fail>
     requires opens { Opens heap.now.opening heap.now seats.units.items seats.advancer
         seats.callers.items }
     requires last { IsLastGraph heap.now.opening.layout unit }
     requires caller { heap.now.opening.callers ≡ 1 }
-    ensures unit { IfOk result (λ dealt. dealt.0
+    ensures before { IfOk result (λ d. d.before.items
+        ≡ dealt_units heap.now.table heap.now.opening unit) }
+    ensures last { IfOk result (λ d. d.last
         ≡ record { table = heap.now.table; held = first_unit heap.now.opening unit }) }
-    ensures advancer { IfOk result (λ dealt. dealt.1
+    ensures advancer { IfOk result (λ d. d.advancer
         ≡ record { table = heap.now.table; held = first_advancer heap.now.opening }) }
-    ensures caller { IfOk result (λ dealt. dealt.2
+    ensures caller { IfOk result (λ d. d.caller
         ≡ record { table = heap.now.table; held = first_caller heap.now.opening 0 }) }
 {
     let Seats {
-        mut units,
+        units: mut before,
         advancer,
         mut callers,
     } = seats;
-    match (units.pop(), callers.pop()) {
-        (Some(seat), Some(caller)) => Ok((seat, advancer, caller)),
+    match (before.pop(), callers.pop()) {
+        (Some(last), Some(caller)) => Ok(Dealt {
+            before,
+            last,
+            advancer,
+            caller,
+        }),
         _ => Err(Fail::new("no seats")),
     }
 }
@@ -69,23 +86,26 @@ fn deal(heap: &Heap, seats: Seats, unit: Unit) -> Result<(UnitSeat, AdvSeat, Tic
 // A store that was never used.
 fn open(alloc: Global, layout: Layout, unit: Unit) -> Result<Store, Fail>
     requires { IsLastGraph layout unit }
-    ensures { IfOk result (λ s. IsTried s.heap s.graph s.advancer s.pass.ticket unit) }
+    ensures { IfOk result (λ s. IsTried s.heap s.before.items s.graph s.advancer
+        s.pass.ticket unit) }
 {
     let (heap, seats) = Heap::fresh(alloc, layout, 1)?;
-    let (seat, advancer, caller) = deal(&heap, seats, unit)?;
-    let region = Region::fresh(alloc, layout, unit, seat)?;
+    let dealt = deal(&heap, seats, unit)?;
+    let region = Region::fresh(alloc, layout, unit, dealt.last)?;
     Ok(Store {
         heap,
+        before: dealt.before,
         graph: PGraph::fresh(alloc, region)?,
-        advancer: Advancer::new(layout, advancer, FIRST_CLOCK),
-        pass: Pass::new(alloc, caller, Steady),
+        advancer: Advancer::new(layout, dealt.advancer, FIRST_CLOCK),
+        pass: Pass::new(alloc, dealt.caller, Steady),
     })
 }
 
 // A store of one unit that is opened on the words of an image in which no slot was left open.
 fn reopen(alloc: Global, layout: Layout, image: &[u64]) -> Result<Store, Fail>
     requires { IsLastGraph layout 0 }
-    ensures { IfOk result (λ s. IsTried s.heap s.graph s.advancer s.pass.ticket 0) }
+    ensures { IfOk result (λ s. IsTried s.heap s.before.items s.graph s.advancer
+        s.pass.ticket 0) }
 {
     if !is_well_formed(alloc, layout, image)? {
         return Err(Fail::new("no store"));
@@ -94,15 +114,16 @@ fn reopen(alloc: Global, layout: Layout, image: &[u64]) -> Result<Store, Fail>
         return Err(Fail::new("lost slots"));
     }
     let (heap, seats) = Heap::of_words(alloc, layout, image, 1)?;
-    let (seat, advancer, caller) = deal(&heap, seats, 0)?;
+    let dealt = deal(&heap, seats, 0)?;
     let found = records(alloc, layout, image, 0)?;
     let objects = live_objects(alloc, &found)?;
-    let region = Region::recovered(alloc, layout, 0, seat, &found, &[])?;
+    let region = Region::recovered(alloc, layout, 0, dealt.last, &found, &[])?;
     Ok(Store {
         heap,
+        before: dealt.before,
         graph: PGraph::rebuild(alloc, region, &objects)?,
-        advancer: Advancer::new(layout, advancer, image[0]),
-        pass: Pass::new(alloc, caller, Steady),
+        advancer: Advancer::new(layout, dealt.advancer, image[0]),
+        pass: Pass::new(alloc, dealt.caller, Steady),
     })
 }
 
@@ -120,12 +141,15 @@ fn is_settled(layout: &Layout, image: &[u64]) -> bool
     true
 }
 
-// The words with which a store of one unit stops.
-fn close(alloc: Global, store: Store) -> Result<Words, Fail>
-    requires { IsTried store.heap store.graph store.advancer store.pass.ticket 0 }
+// The words with which a store stops.
+fn close(alloc: Global, store: Store, unit: Unit) -> Result<Words, Fail>
+    requires { IsTried store.heap store.before.items store.graph
+        store.advancer store.pass.ticket unit }
 {
+    let _unit = unit;
     let Store {
         heap,
+        before: mut units,
         graph,
         advancer,
         pass,
@@ -135,7 +159,6 @@ fn close(alloc: Global, store: Store) -> Result<Words, Fail>
         gate: _,
         receipts: _,
     } = pass;
-    let mut units = Vec::new(alloc);
     units.push(graph.into_region().into_seat())?;
     let mut callers = Vec::new(alloc);
     callers.push(ticket)?;
@@ -147,36 +170,50 @@ fn close(alloc: Global, store: Store) -> Result<Words, Fail>
     Ok(heap.stop(alloc, seats)?)
 }
 
-// Whether the first unit of an image holds what a plain graph does.
-fn holds(alloc: Global, layout: Layout, image: &[u64], plain: &GraphState) -> Result<bool, Fail> {
+// Whether an image has this clock, and this graph in its last unit.
+fn holds(
+    alloc: Global,
+    layout: Layout,
+    image: &[u64],
+    clock: Epoch,
+    graph: &GraphState,
+) -> Result<bool, Fail> {
     if !is_well_formed(alloc, layout, image)? {
-        return Err(Fail::new("no store"));
+        return Ok(false);
     }
-    let found = records(alloc, layout, image, 0)?;
-    let objects = live_objects(alloc, &found)?;
-    let Ok(built) = build(alloc, layout, 0, &objects) else {
-        return Err(Fail::new("no structure"));
-    };
-    let state = plain.clone()?;
-    Ok(same_state(&built, &UnitState::Graph { state }))
+    let contents = recover(alloc, layout, image)?;
+    match contents.units.get(layout.units() - 1) {
+        Some(UnitState::Graph { state }) => Ok(image[0] == clock && state.has_same_parts(graph)),
+        _ => Ok(false),
+    }
+}
+
+// Whether both memories of a store that was stopped have this clock, and this graph.
+fn leaves(alloc: Global, words: &Words, clock: Epoch, graph: &GraphState) -> Result<bool, Fail> {
+    Ok(
+        holds(alloc, words.layout, words.cur.as_slice(), clock, graph)?
+            && holds(alloc, words.layout, words.dur.as_slice(), clock, graph)?,
+    )
 }
 
 // A call of the graph.
 fn call(rt: &impl Wait, store: &mut Store, unit: Unit, op: &Op) -> Result<Receipt, CallRefusal>
-    requires tried { IsTried store.old.heap store.old.graph store.old.advancer
-        store.old.pass.ticket unit }
+    requires tried { IsTried store.old.heap store.old.before.items store.old.graph
+        store.old.advancer store.old.pass.ticket unit }
     requires op { IsOpOf store.old.heap.opening.layout unit op.now }
-    ensures { IsTried store.new.heap store.new.graph store.new.advancer store.new.pass.ticket unit }
+    ensures { IsTried store.new.heap store.new.before.items store.new.graph
+        store.new.advancer store.new.pass.ticket unit }
 {
     store.graph.apply(rt, &store.heap, &mut store.pass, op)
 }
 
 // What the graph answers.
 fn answer(rt: &impl Wait, store: &mut Store, unit: Unit, op: &Op) -> Result<Reply, Fail>
-    requires tried { IsTried store.old.heap store.old.graph store.old.advancer
-        store.old.pass.ticket unit }
+    requires tried { IsTried store.old.heap store.old.before.items store.old.graph
+        store.old.advancer store.old.pass.ticket unit }
     requires op { IsOpOf store.old.heap.opening.layout unit op.now }
-    ensures { IsTried store.new.heap store.new.graph store.new.advancer store.new.pass.ticket unit }
+    ensures { IsTried store.new.heap store.new.before.items store.new.graph
+        store.new.advancer store.new.pass.ticket unit }
 {
     match call(rt, store, unit, op) {
         Ok(receipt) => Ok(receipt.entry.reply),
@@ -184,15 +221,17 @@ fn answer(rt: &impl Wait, store: &mut Store, unit: Unit, op: &Op) -> Result<Repl
     }
 }
 
-// The clock moves on.
-fn tick(store: &mut Store, unit: Unit) -> Result<(), Fail>
-    requires { IsTried store.old.heap store.old.graph store.old.advancer
-        store.old.pass.ticket unit }
-    ensures { IsTried store.new.heap store.new.graph store.new.advancer store.new.pass.ticket unit }
+// The clock moves on, to this epoch.
+fn tick(store: &mut Store, unit: Unit, clock: Epoch) -> Result<(), Fail>
+    requires { IsTried store.old.heap store.old.before.items store.old.graph
+        store.old.advancer store.old.pass.ticket unit }
+    ensures { IsTried store.new.heap store.new.before.items store.new.graph
+        store.new.advancer store.new.pass.ticket unit }
 {
     let _unit = unit;
     match store.advancer.advance(&store.heap, &mut store.pass.gate) {
-        Ok(_) => Ok(()),
+        Ok(now) if now == clock => Ok(()),
+        Ok(_) => Err(Fail::new("another clock")),
         Err(_) => Err(Fail::new("no advance")),
     }
 }
@@ -221,10 +260,11 @@ fn op_at(unit: Unit, number: u64) -> Op
 
 // An operation on the store and on a plain graph, with the same reply.
 fn both(rt: &impl Wait, store: &mut Store, plain: &mut GraphState, op: &Op) -> Result<(), Fail>
-    requires tried { IsTried store.old.heap store.old.graph store.old.advancer
-        store.old.pass.ticket 0 }
+    requires tried { IsTried store.old.heap store.old.before.items store.old.graph
+        store.old.advancer store.old.pass.ticket 0 }
     requires op { IsOpOf store.old.heap.opening.layout 0 op.now }
-    ensures { IsTried store.new.heap store.new.graph store.new.advancer store.new.pass.ticket 0 }
+    ensures { IsTried store.new.heap store.new.before.items store.new.graph
+        store.new.advancer store.new.pass.ticket 0 }
 {
     if answer(rt, store, 0, op)? == plain.apply(op)? {
         Ok(())
@@ -237,11 +277,12 @@ fn both(rt: &impl Wait, store: &mut Store, plain: &mut GraphState, op: &Op) -> R
 // tenth, and then two more, so that all is within the cut.
 fn run(rt: &impl Wait, store: &mut Store, plain: &mut GraphState, hundred: u64) -> Result<(), Fail>
     requires few { hundred < 5 }
-    requires tried { IsTried store.old.heap store.old.graph store.old.advancer
-        store.old.pass.ticket 0 }
-    ensures { OnOk result (IsTried store.new.heap store.new.graph store.new.advancer
-        store.new.pass.ticket 0) }
+    requires tried { IsTried store.old.heap store.old.before.items store.old.graph
+        store.old.advancer store.old.pass.ticket 0 }
+    ensures { OnOk result (IsTried store.new.heap store.new.before.items store.new.graph
+        store.new.advancer store.new.pass.ticket 0) }
 {
+    let first = 2 + 12 * hundred;
     for ten in 0..10u64 {
         for place in 0..10u64 {
             both(
@@ -251,18 +292,18 @@ fn run(rt: &impl Wait, store: &mut Store, plain: &mut GraphState, hundred: u64) 
                 &op_at(0, 100 * hundred + 10 * ten + place),
             )?;
         }
-        tick(store, 0)?;
+        tick(store, 0, first + ten + 1)?;
     }
-    tick(store, 0)?;
-    tick(store, 0)
+    tick(store, 0, first + 11)?;
+    tick(store, 0, first + 12)
 }
 
 // The six vertices and their degrees are those of the plain graph.
 fn look(rt: &impl Wait, store: &mut Store, plain: &mut GraphState) -> Result<(), Fail>
-    requires { IsTried store.old.heap store.old.graph store.old.advancer
-        store.old.pass.ticket 0 }
-    ensures { OnOk result (IsTried store.new.heap store.new.graph store.new.advancer
-        store.new.pass.ticket 0) }
+    requires { IsTried store.old.heap store.old.before.items store.old.graph
+        store.old.advancer store.old.pass.ticket 0 }
+    ensures { OnOk result (IsTried store.new.heap store.new.before.items store.new.graph
+        store.new.advancer store.new.pass.ticket 0) }
 {
     let unit = 0;
     for vertex in 0..6u64 {
@@ -282,10 +323,9 @@ fn replies_are_those_of_a_plain_graph(rt: HostRuntime) -> Result<(), Fail> {
     let mut store = open(rt.alloc(), layout, unit)?;
     for hundred in 0..5u64 {
         run(&rt, &mut store, &mut plain, hundred)?;
-        let words = close(rt.alloc(), store)?;
-        let image = words.dur.as_slice();
-        assert!(rt; holds(rt.alloc(), layout, image, &plain)?);
-        store = reopen(rt.alloc(), layout, image)?;
+        let words = close(rt.alloc(), store, 0)?;
+        assert!(rt; leaves(rt.alloc(), &words, 14 + 12 * hundred, &plain)?);
+        store = reopen(rt.alloc(), layout, words.dur.as_slice())?;
         look(&rt, &mut store, &mut plain)?;
     }
     Ok(())
@@ -351,10 +391,10 @@ fn follow(
     unit: Unit,
     lines: &[(Asked, Told)],
 ) -> Result<(), Fail>
-    requires { IsTried store.old.heap store.old.graph store.old.advancer
-        store.old.pass.ticket unit }
-    ensures { OnOk result (IsTried store.new.heap store.new.graph store.new.advancer
-        store.new.pass.ticket unit) }
+    requires { IsTried store.old.heap store.old.before.items store.old.graph
+        store.old.advancer store.old.pass.ticket unit }
+    ensures { OnOk result (IsTried store.new.heap store.new.before.items store.new.graph
+        store.new.advancer store.new.pass.ticket unit) }
 {
     for (asked, told) in lines {
         if told_by(&call(rt, store, unit, &op_of(unit, *asked))) != *told {
@@ -380,18 +420,54 @@ static GOES: [(Asked, Told); 5] = [
     (Asked::DelV(1), Told::Was(10, 7, 4)),
     (Asked::Vertex(2), Told::Was(20, 8, 4)),
     (Asked::Degree(2), Told::Count(0, 9, 4)),
-    (Asked::DelE(1, 2), Told::Nothing(10, 4)),
-    (Asked::DelE(2, 3), Told::Nothing(11, 4)),
+    (Asked::DelE(2, 3), Told::Nothing(10, 4)),
+    (Asked::DelE(1, 2), Told::Nothing(11, 4)),
 ];
+
+static VERTICES: [(u64, u64); 4] = [(1, 10), (2, 20), (3, 30), (4, 40)];
+
+static EDGES: [((u64, u64), u64); 3] = [((1, 2), 12), ((1, 3), 13), ((1, 4), 14)];
+
+// The graph of these parts.
+fn graph_of(
+    alloc: Global,
+    vertices: &[(u64, u64)],
+    edges: &[((u64, u64), u64)],
+) -> Result<GraphState, Fail> {
+    let mut graph = GraphState::new(alloc);
+    for (vertex, attribute) in vertices {
+        graph.insert_vertex(*vertex, *attribute)?;
+    }
+    for (ends, attribute) in edges {
+        graph.insert_edge(*ends, *attribute)?;
+    }
+    Ok(graph)
+}
+
+// What is left of a star of which its first vertex went, so many advances later.
+fn after_star(rt: &impl Wait, alloc: Global, advances: u64) -> Result<Words, Fail>
+    requires { advances < 3 }
+{
+    let (layout, unit) = units(b"mqg", 16)?;
+    let mut store = open(alloc, layout, unit)?;
+    follow(rt, &mut store, unit, &STAR)?;
+    tick(&mut store, unit, 3)?;
+    tick(&mut store, unit, 4)?;
+    follow(rt, &mut store, unit, &GOES)?;
+    for done in 0..advances {
+        tick(&mut store, unit, 5 + done)?;
+    }
+    close(alloc, store, unit)
+}
 
 #[test]
 fn a_vertex_goes_with_its_edges_in_one_entry(rt: HostRuntime) -> Result<(), Fail> {
-    let (layout, unit) = units(b"mqg", 16)?;
-    let mut store = open(rt.alloc(), layout, unit)?;
-    follow(&rt, &mut store, unit, &STAR)?;
-    tick(&mut store, unit)?;
-    tick(&mut store, unit)?;
-    follow(&rt, &mut store, unit, &GOES)
+    let alloc = rt.alloc();
+    let words = after_star(&rt, alloc, 1)?;
+    assert!(rt; leaves(alloc, &words, 5, &graph_of(alloc, &VERTICES, &EDGES)?)?);
+    let words = after_star(&rt, alloc, 2)?;
+    assert!(rt; leaves(alloc, &words, 6, &graph_of(alloc, &VERTICES[1..], &[])?)?);
+    Ok(())
 }
 
 // The star has seven of eight slots: its vertex can't go, and is replaced once.

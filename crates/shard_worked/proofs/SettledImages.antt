@@ -18,7 +18,7 @@ use Rattle.heap_rule.specs.declared.rule.Opening.{Opening}
 use Rattle.heap_rule.specs.Views.{are_clean, clean_at}
 use Rattle.slots.specs.Beginning.{AreFound}
 use Rattle.region_laws.proofs.FoundImages.{images_are_found}
-use Rattle.shard_worked.specs.MapStores.{IsSettled}
+use Rattle.shard_worked.specs.MapStores.{IsSettled, two_open}
 
 none_kept : (p : ℕ → Bool) (xs : List ℕ) → ((x : ℕ) → Contains xs x → p x ≡ false) → filter p xs ≡ []
 none_kept p [] none = refl
@@ -58,24 +58,21 @@ all_clean o three none =
 pub settled : (s : Shape) (image : List ℕ) → units_of s ≡ 3 → ((k : ℕ) → k < 3 * s.slots → epoch_at image k ≤ cut_of image)
     → IsSettled s image
 settled s image three within = record {
-  none_lost = none_beyond s image within 0 (omega arith);
-  clean = all_clean (record { layout = s; words = image; callers = 2 }) three (none_beyond s image within);
+  none_lost = none_beyond s image within;
+  clean = all_clean (two_open s image) three (none_beyond s image within);
 }
 
 -- ---- what is found in such an image
-inside : (s : Shape) → units_of s ≡ 3 → 0 < units_of s
-inside s three = omega arith
+module _ (s : Shape) (image : List ℕ) (unit : ℕ) (well : IsWellFormed s image) (three : units_of s ≡ 3) (low : unit < 3) where
+  inside : unit < units_of s
+  inside = omega (arith, three, low)
 
-pub found_settled : (s : Shape) (image : List ℕ) (found : List Held) → IsWellFormed s image → units_of s ≡ 3 → IsSettled s image
-    → found ≡ records_of s image 0 → AreFound s 0 found []
-found_settled s image found well three settles is =
-    subst (λ (x : List Held × List ℕ). AreFound s 0 x.0 x.1) (λ i. (sym is i, settles.none_lost i))
-    (images_are_found s image 0 well (inside s three))
+  pub found_settled : (found : List Held) → IsSettled s image → found ≡ records_of s image unit → AreFound s unit found []
+  found_settled found settles is =
+      subst (λ (x : List Held × List ℕ). AreFound s unit x.0 x.1) (λ i. (sym is i, settles.none_lost unit low i))
+      (images_are_found s image unit well inside)
 
-pub objects_make : (s at : Shape) (image : List ℕ) (unit : ℕ) (found : List Held) (objects : List Object) → IsWellFormed s image
-    → units_of s ≡ 3 → found ≡ records_of s image 0 → objects ≡ live_objects found → at ≡ s → unit ≡ 0
-    → (state : State) × IsStructure at unit objects state
-objects_make s at image unit found objects well three is are same first =
-    subst (λ (x : Shape × ℕ × List Object). (state : State) × IsStructure x.0 x.1 x.2 state)
-    (λ i. (sym same i, sym first i, sym (are ∙ ap live_objects is) i))
-    (well.defined 0 (inside s three))
+  pub objects_make : (found : List Held) (objects : List Object) → found ≡ records_of s image unit → objects ≡ live_objects found
+      → (state : State) × IsStructure s unit objects state
+  objects_make found objects is are =
+      subst (λ (l : List Object). (state : State) × IsStructure s unit l state) (sym (are ∙ ap live_objects is)) (well.defined unit inside)

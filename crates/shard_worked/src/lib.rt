@@ -1,9 +1,11 @@
-//! Worked runs of a map unit, in a store with a queue and a graph beside it: its calls with what
-//! they leave, beside a plain map, and rebuilt from what its store leaves.
+//! Worked runs of a map unit, in a store with a queue and a graph beside it: calls with what they
+//! leave, beside a plain map, and rebuilt from what the store leaves.
 //!
-//! The crate has tests alone: they cross the crates of map units, callers, advances and recovery.
+//! The crate has tests alone: they cross the crates of maps, queues, callers, advances and recovery.
 #![tactic(auto)]
 
+#[cfg(test)]
+mod left_images;
 #[cfg(test)]
 mod many_operations;
 #[cfg(test)]

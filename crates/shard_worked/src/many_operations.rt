@@ -1,11 +1,11 @@
 // Many operations on a map unit, beside a plain map. Behind each tenth the clock moves on, and
 // behind each hundredth the store is stopped and opened again with what it left.
-use crate::map_lines::has_map;
+use crate::left_images::holds;
 use crate::map_openings::{open, open_again, stop};
 use crate::map_store::MapStore;
 use index_kit::Index;
 use mont_base::{Fuel, Op, Text};
-use plain::MapState;
+use plain::{MapState, QueueState};
 use std::alloc::Global;
 use std::sync::Wait;
 use std::test::Fail;
@@ -33,8 +33,8 @@ fn operation_of(seed: u64) -> Op {
     }
 }
 
-// A hundred operations for each further box, with which the store is then opened again. Behind all
-// of them each key is looked up.
+// A hundred operations for each further box, with which the store is then opened again, and each key
+// looked up.
 pub(crate) fn run<I: Index>(
     rt: &impl Wait,
     alloc: Global,
@@ -47,10 +47,10 @@ pub(crate) fn run<I: Index>(
     for index in more {
         seed = work(rt, &mut store, &mut plain, seed)?;
         store = opened_again(alloc, store, index, &plain)?;
-    }
-    for number in 0..KEYS {
-        let key = Text::of_number(number);
-        step(rt, &mut store, &mut plain, &Op::Get { key })?;
+        for number in 0..KEYS {
+            let key = Text::of_number(number);
+            step(rt, &mut store, &mut plain, &Op::Get { key })?;
+        }
     }
     Ok(())
 }
@@ -107,7 +107,7 @@ fn opened_again<I: Index>(
     tick(&mut store)?;
     let words = stop(alloc, store)?;
     let image = words.dur.as_slice();
-    if !has_map(alloc, words.layout, image, plain)? {
+    if !holds(alloc, words.layout, image, plain, &QueueState::new(alloc))? {
         return Err(Fail::new("other pairs"));
     }
     open_again(alloc, words.layout, image, index)

@@ -1,36 +1,46 @@
-// Runs of a map unit as lines: what is asked, and what comes of it. Keys and values are the digits
-// of numbers.
-use crate::map_store::MapStore;
+// Runs of a store as lines: what is asked of its map and its queue, and what comes of it. Keys and
+// values are the digits of numbers.
+use crate::map_store::{Caller, MapStore};
+use caller::SyncRefusal;
 use index_kit::Index;
-use mont_base::{CallRefusal, Epoch, Layout, Op, Receipt, Reply, Text, Words};
-use mont_image::pick;
-use plain::{MapState, UnitState, is_well_formed, recover};
+use mont_base::{CallRefusal, Epoch, Op, Receipt, Reply, Text, Unit};
 use std::alloc::Global;
 use std::sync::Wait;
 use std::test::Fail;
 
+// Of the first caller, where no other is said.
 #[derive(Clone, Copy, Debug)]
 pub(crate) enum Asked {
     Put(u64, u64),
     Get(u64),
     Del(u64),
-    // The first caller's sync.
+    Enq(u64),
+    Deq,
+    Len,
     Sync,
-    // The second caller puts, and tells the first one what it has seen.
-    PutSecond(u64, u64),
-    HearSecond,
+    // The first caller tells the second one what it has seen.
+    Tell,
+    GetSecond(u64),
+    EnqSecond(u64),
+    SyncSecond,
     Advance,
 }
 
 #[derive(Clone, Copy, Debug, PartialEq, Eq)]
 pub(crate) enum Told {
-    // An entry at a place, of an epoch: there was nothing, or a number.
+    // An entry at a place, of an epoch: there was nothing, or a number, or there are so many.
     Nothing(u64, Epoch),
     Was(u64, u64, Epoch),
+    Count(u64, u64, Epoch),
     // One slot is needed, so many are free, and this is the durable clock.
     Full(u64, Epoch),
     Memory,
+    Cut(Unit),
+    // The unit, and the caller that was cut in it.
+    Halted(Unit, u64),
     Clock(Epoch),
+    // The unit that a caller was cut in, and its epoch.
+    Stuck(Unit, Epoch),
     Heard,
     Else,
 }
@@ -62,40 +72,50 @@ pub(crate) fn ask<I: Index>(
 ) -> Result<(MapStore<I>, Told), Fail> {
     let mut store = store;
     let told = match asked {
-        Asked::Sync => {
-            let (after, answer) = store.sync(rt);
-            return Ok((after, clock_told(answer.ok())));
-        }
-        Asked::Advance => clock_told(store.advance().ok()),
-        Asked::HearSecond => {
-            store.hear_second(alloc)?;
+        Asked::Sync => return Ok(synced(rt, store, Caller::First)),
+        Asked::SyncSecond => return Ok(synced(rt, store, Caller::Second)),
+        Asked::Tell => {
+            store.tell_second(alloc)?;
             Told::Heard
         }
-        Asked::Put(key, value) => told_by(&store.call(rt, &putting(key, value))?),
-        Asked::PutSecond(key, value) => told_by(&store.call_second(rt, &putting(key, value))?),
-        Asked::Get(key) => {
-            let key = Text::of_number(key);
-            told_by(&store.call(rt, &Op::Get { key })?)
+        Asked::Advance => match store.advance() {
+            Ok(clock) => Told::Clock(clock),
+            Err(_) => Told::Else,
+        },
+        Asked::GetSecond(_) | Asked::EnqSecond(_) => {
+            told_by(&store.call_second(rt, &op_of(asked))?)
         }
-        Asked::Del(key) => {
-            let key = Text::of_number(key);
-            told_by(&store.call(rt, &Op::Del { key })?)
-        }
+        _ => told_by(&store.call(rt, &op_of(asked))?),
     };
     Ok((store, told))
 }
 
-fn putting(key: u64, value: u64) -> Op {
-    Op::Put {
-        key: Text::of_number(key),
-        value: Text::of_number(value),
-    }
+fn synced<I: Index>(rt: &impl Wait, store: MapStore<I>, caller: Caller) -> (MapStore<I>, Told) {
+    let (store, answer) = store.sync(rt, caller);
+    let told = match answer {
+        Ok(clock) => Told::Clock(clock),
+        Err(SyncRefusal::Stuck { unit, epoch }) => Told::Stuck(unit, epoch),
+        Err(_) => Told::Else,
+    };
+    (store, told)
 }
 
-fn clock_told(clock: Option<Epoch>) -> Told {
-    match clock {
-        Some(clock) => Told::Clock(clock),
-        None => Told::Else,
+// The operation that is asked for, of the unit 0 or 1.
+fn op_of(asked: Asked) -> Op {
+    match asked {
+        Asked::Put(key, value) => Op::Put {
+            key: Text::of_number(key),
+            value: Text::of_number(value),
+        },
+        Asked::Get(key) | Asked::GetSecond(key) => Op::Get {
+            key: Text::of_number(key),
+        },
+        Asked::Del(key) => Op::Del {
+            key: Text::of_number(key),
+        },
+        Asked::Enq(item) | Asked::EnqSecond(item) => Op::Enq { unit: 1, item },
+        Asked::Deq => Op::Deq { unit: 1 },
+        _ => Op::Len { unit: 1 },
     }
 }
 
@@ -110,16 +130,21 @@ fn told_by(answer: &Result<Receipt, CallRefusal>) -> Told {
             },
         ) => Told::Full(*free, *clock),
         Err(CallRefusal::Memory) => Told::Memory,
+        Err(CallRefusal::Cut { unit }) => Told::Cut(*unit),
+        Err(CallRefusal::Halted { unit, by }) => Told::Halted(*unit, *by),
         Err(_) => Told::Else,
     }
 }
 
 fn told_of(receipt: &Receipt) -> Told {
-    let entry = &receipt.entry;
+    let Receipt { place, entry, .. } = receipt;
+    let (place, epoch) = (*place, entry.epoch);
     match &entry.reply {
-        Reply::Nothing => Told::Nothing(receipt.place, entry.epoch),
+        Reply::Nothing => Told::Nothing(place, epoch),
+        Reply::Was { value } => Told::Was(*value, place, epoch),
+        Reply::Count { number } => Told::Count(*number, place, epoch),
         Reply::WasText { value } => match number_of(value) {
-            Some(number) => Told::Was(number, receipt.place, entry.epoch),
+            Some(number) => Told::Was(number, place, epoch),
             None => Told::Else,
         },
         _ => Told::Else,
@@ -134,62 +159,4 @@ fn number_of(text: &Text) -> Option<u64> {
         number = number.checked_mul(10)?.checked_add(digit as u64)?;
     }
     Some(number)
-}
-
-// The map of these pairs.
-pub(crate) fn map_of(alloc: Global, pairs: &[(u64, u64)]) -> Result<MapState, Fail> {
-    let mut map = MapState::new(alloc);
-    for (key, value) in pairs {
-        map.insert(Text::of_number(*key), Text::of_number(*value))?;
-    }
-    Ok(map)
-}
-
-// Words that are all durable, all current, and each the one or the other.
-static MASKS: [u64; 6] = [
-    0,
-    u64::MAX,
-    0x5555_5555_5555_5555,
-    0xaaaa_aaaa_aaaa_aaaa,
-    1,
-    0xffff_0000_ffff_0000,
-];
-
-// Whether each image that a mask picks of the words has this clock, and this map in the first unit.
-pub(crate) fn leaves(
-    alloc: Global,
-    words: &Words,
-    clock: Epoch,
-    map: &MapState,
-) -> Result<bool, Fail> {
-    if !is_well_formed(alloc, words.layout, words.cur.as_slice())? {
-        return Ok(false);
-    }
-    if !is_well_formed(alloc, words.layout, words.dur.as_slice())? {
-        return Ok(false);
-    }
-    for mask in &MASKS {
-        let image = pick(alloc, words, *mask)?;
-        if image.clock() != clock || !has_map(alloc, words.layout, image.words.as_slice(), map)? {
-            return Ok(false);
-        }
-    }
-    Ok(true)
-}
-
-// Whether recovery from an image gives this map in the first unit.
-pub(crate) fn has_map(
-    alloc: Global,
-    layout: Layout,
-    image: &[u64],
-    map: &MapState,
-) -> Result<bool, Fail> {
-    if !is_well_formed(alloc, layout, image)? {
-        return Ok(false);
-    }
-    let contents = recover(alloc, layout, image)?;
-    match contents.units.get(0) {
-        Some(UnitState::Map { state }) => Ok(state.has_same_pairs(map)),
-        _ => Ok(false),
-    }
 }

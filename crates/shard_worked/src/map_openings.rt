@@ -1,42 +1,47 @@
 // How a store of a map, a queue and a graph begins, is stopped, and begins again with what it left.
-ghost use Rattle.std.specs.Prelude.{◌≡◌, ◌≤◌, length, IfOk, IsTrue};
+ghost use Rattle.std.specs.Prelude.{◌≡◌, ◌<◌, ◌≤◌, [], length, IfOk, IsTrue};
 ghost use Rattle.mont_base.specs.declared.constants.TheConstants.{LAST};
+ghost use Rattle.mont_base.specs.Image.{IsWellFormed, records_of};
 ghost use Rattle.mont_base.specs.Layout.{units_of, words_of};
-ghost use Rattle.heap_rule.specs.Views.{are_clean, clean_at};
+ghost use Rattle.mont_base.specs.State.{State};
+ghost use Rattle.mont_base.specs.Structure.{IsStructure};
+ghost use Rattle.mont_base.specs.Versions.{live_objects};
+ghost use Rattle.heap_rule.specs.Views.{are_clean, clean_at, first_unit};
 ghost use Rattle.heap.specs.Opens.{Opens};
+ghost use Rattle.slots.specs.Beginning.{first_books};
 ghost use Rattle.slots.specs.Books.{Agrees};
-ghost use Rattle.shard_worked.specs.MapStores.{AreDealt, IsOneOfEach, IsSettled};
+ghost use Rattle.shard_worked.specs.MapStores.{AreDealt, IsBookedFor, IsOneOfEach, IsSettled, two_open};
 
 use crate::map_store::MapStore;
 use advance::Advancer;
 use heap::{AdvSeat, Heap, Seats, Ticket, UnitSeat};
 use heap_pass::Pass;
 use index_kit::Index;
-use mont_base::{Epoch, FIELDS, FIRST_CLOCK, Fuel, Kinds, Layout, UnitKind, Words};
+use mont_base::{Epoch, FIELDS, FIRST_CLOCK, Fuel, Kinds, Layout, Object, Unit, UnitKind, Words};
 use plain::{is_well_formed, live_objects, records};
+use pqueue::PQueue;
 use shard_map::MapShard;
 use slots::Region;
 use std::alloc::Global;
 use std::test::Fail;
 
-// The seats of a heap of three units and two callers, without the first unit's.
+// The seats of a heap of three units and two callers, without those of the first two units.
 #[derive(Drop)]
 struct Others {
-    queue: UnitSeat,
     graph: UnitSeat,
     advancer: AdvSeat,
     first: Ticket,
     second: Ticket,
 }
 
-// The first unit's seat, and the others.
-fn deal(heap: &Heap, seats: Seats) -> Result<(UnitSeat, Others), Fail>
+// The seats of the first two units, and the others.
+fn deal(heap: &Heap, seats: Seats) -> Result<(UnitSeat, UnitSeat, Others), Fail>
     requires opens { Opens heap.now.opening heap.now seats.units.items seats.advancer
         seats.callers.items }
     requires three { units_of heap.now.opening.layout ≡ 3 }
     requires callers { heap.now.opening.callers ≡ 2 }
-    ensures { IfOk result (λ d. AreDealt heap.now d.0 d.1.queue d.1.graph d.1.advancer d.1.first
-        d.1.second) }
+    ensures { IfOk result (λ d. AreDealt heap.now d.0 d.1 d.2.graph d.2.advancer d.2.first
+        d.2.second) }
 {
     let Seats {
         mut units,
@@ -50,31 +55,32 @@ fn deal(heap: &Heap, seats: Seats) -> Result<(UnitSeat, Others), Fail>
         return Err(Fail::new("no callers"));
     };
     let others = Others {
-        queue,
         graph,
         advancer,
         first,
         second,
     };
-    Ok((map, others))
+    Ok((map, queue, others))
 }
 
-// The store of a heap in which nothing was done yet, with its map. The first caller has this gate.
+// The store of a heap in which nothing was done yet, with its map and its queue. The first caller
+// has this gate.
 fn begin<I: Index>(
     alloc: Global,
     heap: Heap,
     shard: MapShard<I>,
+    queue: PQueue,
     others: Others,
     clock: Epoch,
     gate: Fuel,
 ) -> MapStore<I>
-    requires dealt { AreDealt heap shard.region.seat others.queue others.graph others.advancer
-        others.first others.second }
+    requires dealt { AreDealt heap shard.region.seat queue.region.seat others.graph
+        others.advancer others.first others.second }
     requires three { units_of heap.opening.layout ≡ 3 }
     requires callers { heap.opening.callers ≡ 2 }
-    requires layout { shard.region.books.layout ≡ heap.opening.layout }
-    requires unit { shard.region.books.unit ≡ 0 }
+    requires map { IsBookedFor heap 0 shard.region }
     requires agrees { Agrees shard.region }
+    requires queue { IsBookedFor heap 1 queue.region }
     requires clean { IsTrue (are_clean (units_of heap.opening.layout) (clean_at heap.opening)) }
     requires clock { clock ≡ others.advancer.held.clock }
     requires last { clock ≤ LAST }
@@ -85,7 +91,7 @@ fn begin<I: Index>(
     MapStore {
         heap,
         shard,
-        queue: others.queue,
+        queue,
         graph: others.graph,
         advancer,
         first,
@@ -105,10 +111,12 @@ pub(crate) fn open<I: Index>(
         return Err(Fail::new("other units, or a full index"));
     }
     let (heap, seats) = Heap::fresh(alloc, layout, 2)?;
-    let (map, others) = deal(&heap, seats)?;
-    let region = Region::fresh(alloc, layout, 0, map)?;
-    let shard = MapShard::fresh(layout, region, index);
-    Ok(begin(alloc, heap, shard, others, FIRST_CLOCK, gate))
+    let (map, queue, others) = deal(&heap, seats)?;
+    let map = Region::fresh(alloc, layout, 0, map)?;
+    let queue = Region::fresh(alloc, layout, 1, queue)?;
+    let shard = MapShard::fresh(layout, map, index);
+    let queue = PQueue::fresh(alloc, queue)?;
+    Ok(begin(alloc, heap, shard, queue, others, FIRST_CLOCK, gate))
 }
 
 // The store that begins with an image in which no slot is open beyond the cut.
@@ -125,19 +133,47 @@ pub(crate) fn open_again<I: Index>(
         return Err(Fail::new("no such image"));
     }
     let (heap, seats) = Heap::of_words(alloc, layout, image, 2)?;
-    let (map, others) = deal(&heap, seats)?;
-    let found = records(alloc, layout, image, 0)?;
-    let objects = live_objects(alloc, &found)?;
-    let region = Region::recovered(alloc, layout, 0, map, &found, &[])?;
-    let shard = MapShard::rebuild(layout, region, &objects, index)?;
-    Ok(begin(alloc, heap, shard, others, image[0], Fuel::endless()))
+    let (map, queue, others) = deal(&heap, seats)?;
+    let (map, pairs) = recovered(alloc, layout, image, 0, map)?;
+    let (queue, items) = recovered(alloc, layout, image, 1, queue)?;
+    let shard = MapShard::rebuild(layout, map, &pairs, index)?;
+    let queue = PQueue::rebuild(alloc, queue, &items)?;
+    let gate = Fuel::endless();
+    Ok(begin(alloc, heap, shard, queue, others, image[0], gate))
 }
 
-// Whether a layout has a map and two units more.
+// The region of a unit as such an image has it, and its live objects.
+fn recovered(
+    alloc: Global,
+    layout: Layout,
+    image: &[u64],
+    unit: Unit,
+    seat: UnitSeat,
+) -> Result<(Region, Vec<Object>), Fail>
+    requires well { IsWellFormed layout image.now }
+    requires three { units_of layout ≡ 3 }
+    requires settles { IsSettled layout image.now }
+    requires inside { unit < 3 }
+    requires seat { seat.held ≡ first_unit (two_open layout image.now) unit }
+    ensures seat { IfOk result (λ r. r.0.seat ≡ seat) }
+    ensures books { IfOk result (λ r. r.0.books
+        ≡ first_books layout unit (records_of layout image.now unit) []) }
+    ensures agrees { IfOk result (λ r. Agrees r.0) }
+    ensures objects { IfOk result (λ r. r.1.items ≡ live_objects r.0.seat.held.part.records) }
+    ensures structure { IfOk result (λ r. (state : State)
+        × IsStructure layout unit r.1.items state) }
+{
+    let found = records(alloc, layout, image, unit)?;
+    let objects = live_objects(alloc, &found)?;
+    let region = Region::recovered(alloc, layout, unit, seat, &found, &[])?;
+    Ok((region, objects))
+}
+
+// Whether a layout has a map, a queue and one unit more.
 fn is_one_of_each(layout: Layout) -> bool
     ensures { IsTrue result → IsOneOfEach layout }
 {
-    layout.units() == 3 && layout.kind(0) == UnitKind::Map
+    layout.units() == 3 && layout.kind(0) == UnitKind::Map && layout.kind(1) == UnitKind::Queue
 }
 
 // Whether no slot has an epoch beyond the cut.
@@ -167,7 +203,7 @@ pub(crate) fn stop<I: Index>(alloc: Global, store: MapStore<I>) -> Result<Words,
     } = store;
     let mut units = Vec::new(alloc);
     units.push(shard.into_region().into_seat())?;
-    units.push(queue)?;
+    units.push(queue.into_region().into_seat())?;
     units.push(graph)?;
     let mut callers = Vec::new(alloc);
     callers.push(first.ticket)?;

@@ -8,26 +8,33 @@ use caller::{SyncRefusal, hear, sync, tell};
 use heap::{Heap, UnitSeat};
 use heap_pass::{HeapName, Named, Pass};
 use index_kit::Index;
-use mont_base::{CallRefusal, Epoch, Fuel, Layout, Op, Receipt, Steady};
+use mont_base::{CallRefusal, Epoch, Fuel, Layout, Op, Receipt, Steady, Unit};
+use pqueue::PQueue;
 use shard_map::MapShard;
 use std::alloc::{AllocError, Global};
 use std::marker::{Brand, Model};
 use std::sync::{Mutex, Wait};
 use std::test::Fail;
 
-// A heap of a map, a queue and a graph: the map unit, the seats of the other two, the advancer, and
+// A heap of a map, a queue and a graph: the map unit, the queue, the graph's seat, the advancer, and
 // the passes of two callers.
 //
-// Between any two calls the map stands, and all seats are there. Contracts see the heap alone.
+// Between any two calls map and queue stand, and all seats are there. Contracts see the heap alone.
 #[derive(Drop)]
 pub(crate) struct MapStore<I: Index> {
     pub(crate) heap: Heap,
     pub(crate) shard: MapShard<I>,
-    pub(crate) queue: UnitSeat,
+    pub(crate) queue: PQueue,
     pub(crate) graph: UnitSeat,
     pub(crate) advancer: Advancer,
     pub(crate) first: Pass<Fuel>,
     pub(crate) second: Pass<Fuel>,
+}
+
+#[derive(Clone, Copy, Debug)]
+pub(crate) enum Caller {
+    First,
+    Second,
 }
 
 impl<I: Index> Model for MapStore<I> {
@@ -38,8 +45,8 @@ impl<I: Index> Model for MapStore<I> {
 
     ghost view = { λ m. m.heap };
 
-    ghost invariant = { λ m. IsAtWork m.heap m.shard.region m.queue m.graph m.advancer
-        m.first.ticket m.second.ticket };
+    ghost invariant = { λ m. IsAtWork m.heap m.shard.region m.queue.region m.graph
+        m.advancer m.first.ticket m.second.ticket };
 }
 
 impl<I: Index> MapStore<I> {
@@ -49,10 +56,13 @@ impl<I: Index> MapStore<I> {
         rt: &impl Wait,
         op: &Op,
     ) -> Result<Result<Receipt, CallRefusal>, Fail> {
-        if !is_of_map(self.heap.layout(), op) {
-            return Err(Fail::new("another unit's"));
+        if is_of(self.heap.layout(), 0, op) {
+            return Ok(self.shard.apply(rt, &self.heap, &mut self.first, op));
         }
-        Ok(self.shard.apply(rt, &self.heap, &mut self.first, op))
+        if is_of(self.heap.layout(), 1, op) {
+            return Ok(self.queue.apply(rt, &self.heap, &mut self.first, op));
+        }
+        Err(Fail::new("a graph's"))
     }
 
     // The second caller's call.
@@ -61,16 +71,19 @@ impl<I: Index> MapStore<I> {
         rt: &impl Wait,
         op: &Op,
     ) -> Result<Result<Receipt, CallRefusal>, Fail> {
-        if !is_of_map(self.heap.layout(), op) {
-            return Err(Fail::new("another unit's"));
+        if is_of(self.heap.layout(), 0, op) {
+            return Ok(self.shard.apply(rt, &self.heap, &mut self.second, op));
         }
-        Ok(self.shard.apply(rt, &self.heap, &mut self.second, op))
+        if is_of(self.heap.layout(), 1, op) {
+            return Ok(self.queue.apply(rt, &self.heap, &mut self.second, op));
+        }
+        Err(Fail::new("a graph's"))
     }
 
-    // The second caller tells the first one what it has seen.
-    pub(crate) fn hear_second(&mut self, alloc: Global) -> Result<(), AllocError> {
-        let news = tell(alloc, &self.heap, &mut self.second)?;
-        hear(&self.heap, &mut self.first, news);
+    // The first caller tells the second one what it has seen.
+    pub(crate) fn tell_second(&mut self, alloc: Global) -> Result<(), AllocError> {
+        let news = tell(alloc, &self.heap, &mut self.first)?;
+        hear(&self.heap, &mut self.second, news);
         Ok(())
     }
 
@@ -79,8 +92,12 @@ impl<I: Index> MapStore<I> {
         self.advancer.advance(&self.heap, &mut Steady)
     }
 
-    // The first caller waits until all that it has seen is durable.
-    pub(crate) fn sync(self, rt: &impl Wait) -> (MapStore<I>, Result<Epoch, SyncRefusal>) {
+    // One of the callers waits until all that it has seen is durable.
+    pub(crate) fn sync(
+        self,
+        rt: &impl Wait,
+        caller: Caller,
+    ) -> (MapStore<I>, Result<Epoch, SyncRefusal>) {
         let MapStore {
             heap,
             shard,
@@ -88,9 +105,12 @@ impl<I: Index> MapStore<I> {
             graph,
             advancer,
             mut first,
-            second,
+            mut second,
         } = self;
-        let (advancer, answer) = sync_named::<Brand>(rt, &heap, advancer, &mut first);
+        let (advancer, answer) = match caller {
+            Caller::First => sync_named::<Brand>(rt, &heap, advancer, &mut first),
+            Caller::Second => sync_named::<Brand>(rt, &heap, advancer, &mut second),
+        };
         let store = MapStore {
             heap,
             shard,
@@ -123,11 +143,11 @@ fn sync_named<N: HeapName>(
     (advancer.into_inner().into_part(), answer)
 }
 
-// Whether an operation is one of the map.
-fn is_of_map(layout: Layout, op: &Op) -> bool
-    ensures { IsTrue result → IsOpOf layout 0 op.now }
+// Whether an operation is one of a unit.
+fn is_of(layout: Layout, unit: Unit, op: &Op) -> bool
+    ensures { IsTrue result → IsOpOf layout unit op.now }
 {
-    are_texts(op) && op.unit(layout) == Some(0)
+    are_texts(op) && op.unit(layout) == Some(unit)
 }
 
 // Whether the key and the value that an operation carries are texts.

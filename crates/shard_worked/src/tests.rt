@@ -1,23 +1,23 @@
 // What worked runs leave. Each expected value was worked out by hand from the rules of slots,
-// epochs and maps.
+// epochs, maps and queues.
+use crate::left_images::{Left, leaves};
 use crate::many_operations::run;
-use crate::map_lines::{Asked, Told, ask, follow, leaves, map_of};
+use crate::map_lines::{Asked, Told, ask, follow};
 use crate::map_openings::{open, stop};
 use crate::refusing_index::RefusingIndex;
 use index_kit::{Index, ProbeIndex, SortedIndex};
-use mont_base::{CallRefusal, Epoch, Fuel, Op, Text};
+use mont_base::{Epoch, Fuel};
 use std::alloc::Global;
 use std::sync::Wait;
 use std::test::Fail;
 
-// A run on eight slots, and the clock and the pairs of each image that it leaves.
+// A run on eight slots, and what it leaves.
 struct Row {
     lines: &'static [(Asked, Told)],
-    clock: Epoch,
-    pairs: &'static [(u64, u64)],
+    left: Left,
 }
 
-static ROWS: [Row; 7] = [
+static ROWS: [Row; 8] = [
     // One key twice in one epoch.
     Row {
         lines: &[
@@ -25,8 +25,11 @@ static ROWS: [Row; 7] = [
             (Asked::Put(1, 11), Told::Was(10, 1, 2)),
             (Asked::Sync, Told::Clock(4)),
         ],
-        clock: 4,
-        pairs: &[(1, 11)],
+        left: Left {
+            clock: 4,
+            pairs: &[(1, 11)],
+            items: &[],
+        },
     },
     // A key that is removed two epochs later.
     Row {
@@ -36,8 +39,11 @@ static ROWS: [Row; 7] = [
             (Asked::Del(1), Told::Was(10, 1, 4)),
             (Asked::Sync, Told::Clock(6)),
         ],
-        clock: 6,
-        pairs: &[],
+        left: Left {
+            clock: 6,
+            pairs: &[],
+            items: &[],
+        },
     },
     // Its removal isn't durable yet.
     Row {
@@ -47,8 +53,11 @@ static ROWS: [Row; 7] = [
             (Asked::Del(1), Told::Was(10, 1, 4)),
             (Asked::Get(1), Told::Nothing(2, 4)),
         ],
-        clock: 4,
-        pairs: &[(1, 10)],
+        left: Left {
+            clock: 4,
+            pairs: &[(1, 10)],
+            items: &[],
+        },
     },
     // A key that was never there.
     Row {
@@ -56,14 +65,20 @@ static ROWS: [Row; 7] = [
             (Asked::Del(9), Told::Nothing(0, 2)),
             (Asked::Sync, Told::Clock(4)),
         ],
-        clock: 4,
-        pairs: &[],
+        left: Left {
+            clock: 4,
+            pairs: &[],
+            items: &[],
+        },
     },
     // Nothing is to become durable.
     Row {
         lines: &[(Asked::Sync, Told::Clock(2))],
-        clock: 2,
-        pairs: &[],
+        left: Left {
+            clock: 2,
+            pairs: &[],
+            items: &[],
+        },
     },
     // What isn't durable is lost.
     Row {
@@ -71,18 +86,39 @@ static ROWS: [Row; 7] = [
             (Asked::Put(1, 10), Told::Nothing(0, 2)),
             (Asked::Advance, Told::Clock(3)),
         ],
-        clock: 3,
-        pairs: &[],
+        left: Left {
+            clock: 3,
+            pairs: &[],
+            items: &[],
+        },
     },
-    // One caller syncs what another one has told it.
+    // The second caller syncs what the first one has told it.
     Row {
         lines: &[
-            (Asked::PutSecond(1, 10), Told::Nothing(0, 2)),
-            (Asked::HearSecond, Told::Heard),
+            (Asked::Put(1, 10), Told::Nothing(0, 2)),
+            (Asked::Tell, Told::Heard),
+            (Asked::SyncSecond, Told::Clock(4)),
+        ],
+        left: Left {
+            clock: 4,
+            pairs: &[(1, 10)],
+            items: &[],
+        },
+    },
+    // Items of the queue.
+    Row {
+        lines: &[
+            (Asked::Enq(5), Told::Nothing(0, 2)),
+            (Asked::Enq(6), Told::Nothing(1, 2)),
+            (Asked::Deq, Told::Was(5, 2, 2)),
+            (Asked::Len, Told::Count(1, 3, 2)),
             (Asked::Sync, Told::Clock(4)),
         ],
-        clock: 4,
-        pairs: &[(1, 10)],
+        left: Left {
+            clock: 4,
+            pairs: &[],
+            items: &[6],
+        },
     },
 ];
 
@@ -113,16 +149,20 @@ static REMOVAL: [(Asked, Told); 4] = [
     (Asked::Get(1), Told::Was(10, 8, 4)),
 ];
 
-static EIGHT_PAIRS: [(u64, u64); 8] = [
-    (1, 10),
-    (2, 10),
-    (3, 10),
-    (4, 10),
-    (5, 10),
-    (6, 10),
-    (7, 10),
-    (8, 10),
-];
+static EIGHT_LEFT: Left = Left {
+    clock: 4,
+    pairs: &[
+        (1, 10),
+        (2, 10),
+        (3, 10),
+        (4, 10),
+        (5, 10),
+        (6, 10),
+        (7, 10),
+        (8, 10),
+    ],
+    items: &[],
+};
 
 // An index that makes room once and then refuses it: what needs none goes on.
 static REFUSED: [(Asked, Told); 6] = [
@@ -142,7 +182,7 @@ fn follow_rows<I: Index>(rt: &impl Wait, alloc: Global, boxes: Vec<I>) -> Result
         let store = open(alloc, 8, index, Fuel::endless())?;
         let store = follow(rt, alloc, store, row.lines)?;
         let words = stop(alloc, store)?;
-        if !leaves(alloc, &words, row.clock, &map_of(alloc, row.pairs)?)? {
+        if !leaves(alloc, &words, row.left)? {
             return Ok(false);
         }
     }
@@ -171,7 +211,7 @@ fn leaves_full<I: Index>(
     let store = follow(rt, alloc, store, &EIGHT)?;
     let store = follow(rt, alloc, store, lines)?;
     let words = stop(alloc, store)?;
-    leaves(alloc, &words, 4, &map_of(alloc, &EIGHT_PAIRS)?)
+    leaves(alloc, &words, EIGHT_LEFT)
 }
 
 #[test]
@@ -181,6 +221,13 @@ fn eight_keys_fill_eight_slots(rt: HostRuntime) -> Result<(), Fail> {
     assert!(rt; leaves_full(&rt, alloc, SortedIndex::new(alloc), &REMOVAL)?);
     Ok(())
 }
+
+// The last but one of a hundred values is durable.
+static HUNDRED_LEFT: Left = Left {
+    clock: 30,
+    pairs: &[(1, 99)],
+    items: &[],
+};
 
 // A hundred puts of one key in eight slots: where the unit is full, the caller syncs.
 fn put_hundred<I: Index>(rt: &impl Wait, alloc: Global, index: I) -> Result<bool, Fail> {
@@ -206,8 +253,9 @@ fn put_hundred<I: Index>(rt: &impl Wait, alloc: Global, index: I) -> Result<bool
             return Ok(false);
         }
     }
-    let (_store, last) = ask(rt, alloc, store, Asked::Get(1))?;
-    Ok(last == Told::Was(100, 100, 30))
+    let (store, last) = ask(rt, alloc, store, Asked::Get(1))?;
+    let words = stop(alloc, store)?;
+    Ok(last == Told::Was(100, 100, 30) && leaves(alloc, &words, HUNDRED_LEFT)?)
 }
 
 #[test]
@@ -217,46 +265,64 @@ fn one_key_takes_each_slot_again(rt: HostRuntime) -> Result<(), Fail> {
     Ok(())
 }
 
-// Whether a put that is cut before a step halts the unit, so that the other caller is refused and
-// nothing is left.
+// A put that is cut halts the unit for the other caller.
+static CUT: [(Asked, Told); 2] = [
+    (Asked::Put(1, 10), Told::Cut(0)),
+    (Asked::GetSecond(1), Told::Halted(0, 0)),
+];
+
+// Cut within its epoch it lets other units go on, but nobody sync: the clock moves on once.
+static STUCK: [(Asked, Told); 2] = [
+    (Asked::EnqSecond(5), Told::Nothing(0, 2)),
+    (Asked::SyncSecond, Told::Stuck(0, 2)),
+];
+
+// Whether a put is cut before a step, and behind these lines nothing is left, at this clock.
 fn is_cut_before<I: Index>(
     rt: &impl Wait,
     alloc: Global,
     index: I,
     steps: u64,
+    lines: &[(Asked, Told)],
+    clock: Epoch,
 ) -> Result<bool, Fail> {
-    let mut store = open(alloc, 8, index, Fuel::new(steps))?;
-    let key = Text::of_number(1);
-    let value = Text::of_number(10);
-    let cut = store.call(rt, &Op::Put { key, value })?;
-    let refused = store.call_second(rt, &Op::Get { key })?;
+    let store = open(alloc, 8, index, Fuel::new(steps))?;
+    let store = follow(rt, alloc, store, &CUT)?;
+    let store = follow(rt, alloc, store, lines)?;
     let words = stop(alloc, store)?;
-    Ok(
-        matches!(cut, Err(CallRefusal::Cut { unit: 0 }))
-            && matches!(refused, Err(CallRefusal::Halted { unit: 0, by: 0 }))
-            && leaves(alloc, &words, 2, &map_of(alloc, &[])?)?,
-    )
+    let left = Left {
+        clock,
+        pairs: &[],
+        items: &[],
+    };
+    leaves(alloc, &words, left)
 }
 
 #[test]
 fn cut_callers_halt_the_unit(rt: HostRuntime) -> Result<(), Fail> {
     let alloc = rt.alloc();
     for steps in [0, 6, 15] {
-        assert!(rt; is_cut_before(&rt, alloc, SortedIndex::new(alloc), steps)?);
+        let index = SortedIndex::new(alloc);
+        assert!(rt; is_cut_before(&rt, alloc, index, steps, &[], 2)?);
+    }
+    for steps in [6, 15] {
+        let index = SortedIndex::new(alloc);
+        assert!(rt; is_cut_before(&rt, alloc, index, steps, &STUCK, 3)?);
     }
     Ok(())
 }
 
-// Follows lines on eight slots.
-fn follow_one<I: Index>(
+// Whether lines come as they were worked, and so many of them leave a receipt.
+fn leaves_receipts<I: Index>(
     rt: &impl Wait,
     alloc: Global,
     index: I,
     lines: &[(Asked, Told)],
-) -> Result<(), Fail> {
+    receipts: usize,
+) -> Result<bool, Fail> {
     let store = open(alloc, 8, index, Fuel::endless())?;
-    let _store = follow(rt, alloc, store, lines)?;
-    Ok(())
+    let store = follow(rt, alloc, store, lines)?;
+    Ok(store.first.receipts.len() == receipts)
 }
 
 #[test]
@@ -267,7 +333,8 @@ fn refused_room_changes_nothing(rt: HostRuntime) -> Result<(), Fail> {
         left: 1,
     };
     let index: Box<dyn Index + Send> = Box::new(alloc, refusing)?;
-    follow_one(&rt, alloc, index, &REFUSED)
+    assert!(rt; leaves_receipts(&rt, alloc, index, &REFUSED, 4)?);
+    Ok(())
 }
 
 // Six boxes are those of five hundred operations.
