@@ -44,8 +44,10 @@ none_beyond s image within = none_kept (λ (slot : ℕ). nat_lt (cut_of image) (
     at slot low = grind (arith, nat_tests)
 
 -- so the unit is clean
-only_clean : (o : Opening) → units_of o.layout ≡ 1 → slots_beyond o.layout o.words 0 ≡ [] → IsTrue (are_clean (units_of o.layout) (clean_at o))
-only_clean o one none = subst (λ (n : ℕ). IsTrue (are_clean n (filter (λ (u : ℕ). is_empty (slots_beyond o.layout o.words u)) (range_with_len 0 n))))
+only_clean : (o : Opening) → units_of o.layout ≡ 1 → slots_beyond o.layout o.words 0 ≡ []
+    → IsTrue (are_clean (units_of o.layout) (clean_at o))
+only_clean o one none =
+    subst (λ (n : ℕ). IsTrue (are_clean n (filter (λ (u : ℕ). is_empty (slots_beyond o.layout o.words u)) (range_with_len 0 n))))
     (sym one) (ap (λ (l : List ℕ). are_clean 1 (cond (is_empty l) (0 ∷ []) [])) none)
 
 pub settled : (s : Shape) (image : List ℕ) → units_of s ≡ 1 → ((k : ℕ) → k < s.slots → epoch_at image k ≤ cut_of image) → IsSettled s image
@@ -61,8 +63,8 @@ found_settled s image found well one settles is =
     subst (λ (x : List Held × List ℕ). AreFound s 0 x.0 x.1) (λ i. (sym is i, settles.none_lost i))
     (images_are_found s image 0 well (subst (λ (n : ℕ). 0 < n) (sym one) (omega arith)))
 
-pub objects_make : (s at : Shape) (image : List ℕ) (unit : ℕ) (found : List Held) (objects : List Object) → IsWellFormed s image → units_of s ≡ 1
-    → found ≡ records_of s image 0 → objects ≡ live_objects found → at ≡ s → unit ≡ 0 → (state : State) × IsStructure at unit objects state
+pub objects_make : (s at : Shape) (image : List ℕ) (unit : ℕ) (found : List Held) (objects : List Object)
+    → IsWellFormed s image → units_of s ≡ 1 → found ≡ records_of s image 0 → objects ≡ live_objects found → at ≡ s → unit ≡ 0 → (state : State) × IsStructure at unit objects state
 objects_make s at image unit found objects well one is are same first =
     subst (λ (x : Shape × ℕ × List Object). (state : State) × IsStructure x.0 x.1 x.2 state)
     (λ i. (sym same i, sym first i, sym (are ∙ ap live_objects is) i))
@@ -78,7 +80,7 @@ last_apart h u seats front seat last are is =
     (sym is ∙ are ∙ ap (dealt_units h.table h.opening) next)
 
 -- a seat that a heap may be stopped with
-IsBack : HeapShown → ℕ → UnitShown → Type 0
+abbrev IsBack : HeapShown → ℕ → UnitShown → Type 0
 IsBack heap u s = IsSeatOfUnit heap u s × (s.held.turn.out ≡ false)
 
 module _ (heap : HeapShown) where
@@ -90,7 +92,7 @@ module _ (heap : HeapShown) where
       omega (arith, more, fewer)
 
   each_dealt : (n : ℕ) → EachAt (IsBack heap) (dealt_units heap.table heap.opening n)
-  each_dealt zero u s e = absurd (cc)
+  each_dealt zero = λ u s e. absurd (cc)
   each_dealt (suc n) = each_push (IsBack heap) (dealt_units heap.table heap.opening n)
       (record { table = heap.table; held = first_unit heap.opening n }) (each_dealt n)
       (subst (λ (k : ℕ). IsBack heap k (record { table = heap.table; held = first_unit heap.opening n })) (sym (count_dealt n))
@@ -99,31 +101,37 @@ module _ (heap : HeapShown) where
 -- with that of the graph behind those before it
 module _ (heap : HeapShown) (before : List UnitShown) (graph : PGraphShown) (advancer : AdvShown) (caller : CallerShown) (unit : ℕ)
     (tried : IsTried heap before graph advancer caller unit) (agrees : Agrees graph.region)
-    (units : List UnitShown) (are : units ≡ before ++ graph.region.seat ∷ []) where
+    (seat : UnitShown) (is : seat ≡ graph.region.seat) (units : List UnitShown) (are : units ≡ before ++ seat ∷ []) where
+  gathered : units ≡ dealt_units heap.table heap.opening unit ++ graph.region.seat ∷ []
+  gathered = are ∙ ap (λ (x : List UnitShown × UnitShown). x.0 ++ x.1 ∷ []) (λ i. (tried.before_are i, is i))
+
   each_back : EachAt (IsBack heap) units
-  each_back = subst (EachAt (IsBack heap)) (sym (are ∙ ap (λ (l : List UnitShown). l ++ graph.region.seat ∷ []) tried.before_are))
+  each_back = subst (EachAt (IsBack heap)) (sym gathered)
       (each_push (IsBack heap) (dealt_units heap.table heap.opening unit) graph.region.seat (each_dealt heap unit)
       (subst (λ (k : ℕ). IsBack heap k graph.region.seat) (sym (count_dealt heap unit))
       ((tried.stands.of_heap.table, sym agrees.0 ∙ tried.unit_is), tried.stands.home)))
 
-  pub all_back : (callers : List CallerShown) (a : AdvShown) → callers ≡ caller ∷ [] → a ≡ advancer
-      → AreAllSeats heap units a callers
-  all_back callers a is_caller is_advancer =
-      let count = ap length (are ∙ ap (λ (l : List UnitShown). l ++ graph.region.seat ∷ []) tried.before_are) in
+  counted : length units ≡ units_of heap.opening.layout
+  counted =
+      let count = ap length gathered in
       let more = length_push (dealt_units heap.table heap.opening unit) graph.region.seat in
       let fewer = count_dealt heap unit in
       let last = tried.layout.last in
-      record {
-        unit_count = omega (arith, count, more, fewer, last);
-        each_unit = λ u s e. (each_back u s e).0;
-        the_advancer = ap (λ (x : AdvShown). x.table) is_advancer ∙ tried.of_advancer;
-        caller_count = ap length is_caller ∙ sym tried.callers;
-        each_caller = subst (EachAt (IsSeatOfCaller heap)) (sym is_caller) (one_caller tried.of_caller tried.number);
-      }
-    where
-      one_caller : caller.table ≡ heap.table → caller.held.caller ≡ 0 → EachAt (IsSeatOfCaller heap) (caller ∷ [])
-      one_caller of_table number zero q e = subst (IsSeatOfCaller heap 0) (same_Some caller q e) (of_table, number)
-      one_caller of_table number (suc i) q e = absurd (cc)
+      omega (arith, count, more, fewer, last)
+
+  one_caller : EachAt (IsSeatOfCaller heap) (caller ∷ [])
+  one_caller zero q e = subst (IsSeatOfCaller heap 0) (same_Some caller q e) (tried.of_caller, tried.number)
+  one_caller (suc i) q e = absurd (cc)
+
+  pub all_back : (callers : List CallerShown) (a : AdvShown) → callers ≡ caller ∷ [] → a ≡ advancer
+      → AreAllSeats heap units a callers
+  all_back callers a is_caller is_advancer = record {
+    unit_count = counted;
+    each_unit = λ u s e. (each_back u s e).0;
+    the_advancer = ap (λ (x : AdvShown). x.table) is_advancer ∙ tried.of_advancer;
+    caller_count = ap length is_caller ∙ sym tried.callers;
+    each_caller = subst (EachAt (IsSeatOfCaller heap)) (sym is_caller) one_caller;
+  }
 
   pub all_home : AreAtHome units
   all_home = all_at (λ (s : UnitShown). s.held.turn.out ≡ false) units (λ u s e. (each_back u s e).1)
