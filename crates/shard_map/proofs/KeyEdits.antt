@@ -7,13 +7,11 @@ use Rattle.std.specs.Map.{update}
 use Rattle.std.specs.Ordering.{eq_by_cmp}
 use Rattle.std.proofs.Math.Path.{fun_ext}
 use Rattle.std.proofs.lemmas.Bool.Decides.{nat_tests}
-use Rattle.std.proofs.lemmas.Option.{same_Some}
 use Rattle.mont_base.specs.declared.effect.Effect.TheVariants.{Inserts, Replaces, Removes}
 use Rattle.mont_base.specs.declared.effect.Thing.TheVariants.{Pair}
 use Rattle.mont_base.specs.declared.operation.Op.{Op}
 use Rattle.mont_base.specs.declared.operation.Op.TheVariants as ops
 use Rattle.mont_base.specs.declared.record.Held.{Held}
-use Rattle.mont_base.specs.declared.record.Kind.TheVariants as kinds
 use Rattle.mont_base.specs.Bodies.{pair_body}
 use Rattle.mont_base.specs.Layout.{Shape}
 use Rattle.mont_base.specs.State.{Key, Value, Pairs, key_cmp, set_effects, map_step, map_del}

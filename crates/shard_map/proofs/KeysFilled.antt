@@ -1,7 +1,6 @@
 -- An index with the keys of the live objects has the live keys.
-use Rattle.std.proofs.Common.{◌≡◌, ℕ, ◌+◌, ◌<◌, List, [], ◌∷◌, ◌++◌, length, take, get_or, map, sym, refl, ap, ◌∙◌, subst, arith, Bool, true, false, cond, inl, inr, ◌⊎◌}
-use Rattle.std.specs.Prelude.{◌≢◌, Option, Some, None, is_some}
-use Rattle.std.specs.Bool.{Decides}
+use Rattle.std.proofs.Common.{◌≡◌, ℕ, ◌+◌, ◌<◌, List, [], ◌∷◌, ◌++◌, length, take, get_or, map, sym, refl, ap, ◌∙◌, subst, Bool, true, false, cond, inl, inr}
+use Rattle.std.specs.Prelude.{Some, None, is_some}
 use Rattle.std.specs.Cmp.Lexicographic.{nat_list_cmp_total}
 use Rattle.std.specs.FinMap as finite
 use Rattle.std.specs.List.{Contains}
@@ -17,9 +16,9 @@ use Rattle.mont_base.specs.State.{Key, Value, Pairs, key_cmp}
 use Rattle.mont_base.specs.Structure.{pair_at, is_in_unit}
 use Rattle.mont_base.specs.Versions.{object_of, live_objects}
 use Rattle.mont_laws.specs.Records.{AreApart, live_of}
-use Rattle.mont_laws.specs.Shows.{live_things, Shows}
+use Rattle.mont_laws.specs.Shows.{live_things}
 use Rattle.mont_laws.specs.Structures.{pair_for, HasPairs}
-use Rattle.mont_laws.proofs.Holders.{fitted, sure_fit, live_holder, held_live}
+use Rattle.mont_laws.proofs.Holders.{fitted, sure_fit, held_live}
 use Rattle.mont_laws.proofs.Keys.{one_text, some_there}
 use Rattle.mont_laws.proofs.LiveObjects.{live_records, live_record, record_live}
 use Rattle.mont_laws.proofs.Members.{no_element, first_element, later_element, element_cases}

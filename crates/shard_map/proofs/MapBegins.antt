@@ -1,16 +1,16 @@
 -- A map unit as it begins.
-use Rattle.std.proofs.Common.{◌≡◌, ℕ, List, [], sym, ap, ◌∙◌, subst}
+use Rattle.std.proofs.Common.{◌≡◌, ℕ, List, sym, subst}
 use Rattle.std.specs.Prelude.{Some, None}
 use Rattle.std.specs.FinMap as finite
 use Rattle.mont_base.specs.declared.kinds.UnitKind.TheVariants as unit_kinds
 use Rattle.mont_base.specs.declared.record.Held.{Held}
 use Rattle.mont_base.specs.declared.record.Object.{Object}
 use Rattle.mont_base.specs.Layout.{Shape, kind_of}
-use Rattle.mont_base.specs.State.{State, MapOf, Pairs}
+use Rattle.mont_base.specs.State.{State}
 use Rattle.mont_base.specs.Structure.{IsStructure}
 use Rattle.mont_base.specs.Versions.{live_objects}
 use Rattle.mont_laws.specs.Records.{AreApart, live_of}
-use Rattle.mont_laws.specs.Structures.{HasPairs, HasStructure}
+use Rattle.mont_laws.specs.Structures.{HasStructure}
 use Rattle.mont_laws.proofs.Agreement.{agrees}
 use Rattle.index_kit.specs.Index.{Places}
 use Rattle.slots.specs.Books.{RegionShown, Agrees}

@@ -1,14 +1,12 @@
 -- What a map unit is behind each answer of a call.
-use Rattle.std.proofs.Common.{◌≡◌, ℕ, ◌≤◌, List, [], ◌∷◌, ◌++◌, sym, refl, ap, ◌∙◌, subst, arith, Bool, true, false, inl, inr, ◌⊎◌}
+use Rattle.std.proofs.Common.{◌≡◌, ℕ, ◌≤◌, List, [], ◌∷◌, ◌++◌, sym, refl, ap, ◌∙◌, subst, arith, Bool, true, false}
 use Rattle.std.specs.Prelude.{Option, Some, None, length, is_some, option_to_list, MatchOption}
 use Rattle.std.specs.FinMap as finite
 use Rattle.std.specs.List.{AllZip, list_any}
 use Rattle.std.proofs.Math.Path.{fun_ext}
 use Rattle.std.proofs.lemmas.Slice.Zip.{AllZip-long}
-use Rattle.mont_base.specs.declared.effect.Effect.{Effect}
-use Rattle.mont_base.specs.declared.effect.Effect.TheVariants.{Inserts, Replaces, Removes}
+use Rattle.mont_base.specs.declared.effect.Effect.TheVariants.{Inserts}
 use Rattle.mont_base.specs.declared.effect.Thing.TheVariants.{Pair}
-use Rattle.mont_base.specs.declared.kinds.UnitKind.{UnitKind}
 use Rattle.mont_base.specs.declared.kinds.UnitKind.TheVariants as unit_kinds
 use Rattle.mont_base.specs.declared.operation.Op.{Op}
 use Rattle.mont_base.specs.declared.operation.Op.TheVariants as ops
@@ -21,16 +19,14 @@ use Rattle.mont_base.specs.declared.refusal.CallRefusal.{CallRefusal}
 use Rattle.mont_base.specs.declared.refusal.CallRefusal.TheVariants.{Full, Cut}
 use Rattle.mont_base.specs.Layout.{Shape, kind_of}
 use Rattle.mont_base.specs.State.{State, MapOf, Key, Value, Pairs, set_effects, map_step, map_del, step}
-use Rattle.mont_laws.specs.Effects.{IsEffect, AreEffects, IsOpOf}
+use Rattle.mont_laws.specs.Effects.{AreEffects}
 use Rattle.mont_laws.specs.Records.{live_of}
 use Rattle.mont_laws.specs.Shows.{held_in, Shows}
-use Rattle.mont_laws.specs.Structures.{pair_for, HasPairs, HasStructure}
-use Rattle.mont_laws.proofs.Edits.{no_zip, one_zip}
-use Rattle.mont_laws.proofs.Maps.{pairs_once}
+use Rattle.mont_laws.specs.Structures.{pair_for, HasPairs}
 use Rattle.heap.specs.HeapShown.{HeapShown, CallerShown}
 use Rattle.index_kit.specs.Index.{Places}
-use Rattle.slots.specs.Books.{BooksShown, RegionShown, IsRegionOf}
-use Rattle.slots.specs.Changes.{has_serial, record_by}
+use Rattle.slots.specs.Books.{RegionShown, IsRegionOf}
+use Rattle.slots.specs.Changes.{has_serial}
 use Rattle.structure_call.specs.Calling.{HasAnsweredCall}
 use Rattle.structure_call.specs.Carrying.{HasCarried, LeavesUncarried, records_by, last_of}
 use Rattle.structure_call.specs.Planning.{IsPlan, Makes}

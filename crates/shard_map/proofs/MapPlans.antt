@@ -1,10 +1,9 @@
 -- The plan of a map operation is one: the reply is the plain step's, and the change makes its effect.
-use Rattle.std.proofs.Common.{◌≡◌, ℕ, List, [], ◌∷◌, sym, refl, ap, ◌∙◌, subst, Bool, true, false}
+use Rattle.std.proofs.Common.{◌≡◌, ℕ, List, [], ◌∷◌, sym, ap, ◌∙◌, subst, Bool}
 use Rattle.std.specs.Prelude.{Option, Some, None, is_some, IfSome}
 use Rattle.std.specs.FinMap as finite
 use Rattle.std.specs.List.{AllZip}
 use Rattle.std.proofs.lemmas.Option.{same_Some}
-use Rattle.mont_base.specs.declared.effect.Effect.{Effect}
 use Rattle.mont_base.specs.declared.effect.Thing.TheVariants.{Pair}
 use Rattle.mont_base.specs.declared.operation.Op.{Op}
 use Rattle.mont_base.specs.declared.operation.Op.TheVariants as ops
@@ -17,7 +16,7 @@ use Rattle.mont_base.specs.Structure.{pairs_of, is_in_unit}
 use Rattle.mont_base.specs.Versions.{live_objects}
 use Rattle.mont_laws.specs.Effects.{IsOpOf}
 use Rattle.mont_laws.specs.Records.{live_of}
-use Rattle.mont_laws.specs.Structures.{HasPairs, HasStructure}
+use Rattle.mont_laws.specs.Structures.{HasPairs}
 use Rattle.mont_laws.proofs.Holders.{fitted}
 use Rattle.index_kit.specs.Index.{Places}
 use Rattle.slots.specs.Books.{RegionShown, record_in}

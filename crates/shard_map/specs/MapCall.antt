@@ -1,5 +1,5 @@
 -- How the index of a map unit follows an operation that was carried out.
-use Rattle.std.specs.Prelude.{ℕ, Option, Some, None}
+use Rattle.std.specs.Prelude.{ℕ, Option, Some}
 use Rattle.mont_base.specs.declared.record.Change.{Change}
 use Rattle.mont_base.specs.declared.record.Change.TheVariants.{Insert}
 use Rattle.std.specs.FinMap as finite

@@ -1,4 +1,4 @@
-use Rattle.std.proofs.Common.{◌≡◌, sym, ◌∙◌, subst, take}
+use Rattle.std.proofs.Common.{sym, ◌∙◌, subst, take}
 use Rattle.shard_map.specs.MapBeginning.{HasKeysOf}
 use Rattle.shard_map.proofs.KeysFilled.{no_keys, next_past, next_with}
 use Rattle.shard_map.proofs.map_beginning.filled.Goals.{in-Some, in_default}

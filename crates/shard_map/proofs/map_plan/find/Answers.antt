@@ -1,4 +1,4 @@
-use Rattle.std.proofs.Common.{◌≡◌, None, Some, sym, ◌∙◌}
+use Rattle.std.proofs.Common.{sym, ◌∙◌}
 use Rattle.shard_map.proofs.MapPlans.{no_record, no_pair, found_value, found_named}
 use Rattle.shard_map.proofs.map_plan.find.Goals as goal
 

@@ -1,4 +1,3 @@
-use Rattle.std.proofs.Common.{◌≡◌, ap, sym, ◌∙◌}
 use Rattle.shard_map.proofs.MapPlans.{put_plan, get_plan, del_plan}
 use Rattle.shard_map.proofs.map_plan.plan.Goals as goal
 

@@ -1,4 +1,4 @@
-use Rattle.std.proofs.Common.{◌≡◌, List, sym, ap, ◌∙◌, subst}
+use Rattle.std.proofs.Common.{List, sym, ap, subst}
 use Rattle.std.specs.Prelude.{option_to_list}
 use Rattle.mont_base.specs.declared.record.Change.{Change}
 use Rattle.slots.specs.Books.{RegionShown}
