@@ -72,9 +72,9 @@ module _ (heap : HeapShown) (before behind : RegionShown) (q r : CallerShown) (o
   continues = record {
     behind = λ front at.
         let index = get_or_from_slice_get q.held.part.fronts receipt.unit front 0 at in
-        let low = a.not_before in
-        let moved = ap (slice_index q.held.part.fronts) unit_is in
-        omega (arith, index, low, moved);
+        let low = a.seen.front in
+        let moved = ap (slice_index q.held.part.fronts) held_is in
+        omega (arith, index, low, moved, place_is);
     later = a.reached.not_before;
     fronts = fronts_are;
     newest = ap (λ (x : CallerShown). x.held.part.newest) a.caller;

@@ -1,8 +1,8 @@
 -- What is told of a unit that leaves once its list was given back, as the region had it before.
-use Rattle.std.proofs.Common.{◌≡◌, ℕ, ◌≤◌, ap, sym, ◌∙◌, subst, length, List, take}
+use Rattle.std.proofs.Common.{◌≡◌, ℕ, ◌≤◌, sym, subst, length, List, take}
 use Rattle.std.specs.Prelude.{Some, slice_get, slice_index}
 use Rattle.mont_base.specs.declared.operation.Entry.{Entry}
-use Rattle.heap.specs.HeapShown.{HeapShown, UnitShown, CallerShown}
+use Rattle.heap.specs.HeapShown.{HeapShown, UnitShown}
 use Rattle.heap_rule.specs.Plays.{IsNotBeyond}
 use Rattle.heap_rule.specs.SoundUnits.{IsSoundUnit}
 use Rattle.heap_rule.specs.Views.{unit_gave}
@@ -52,7 +52,7 @@ module _ (heap : HeapShown) (old : RegionShown) (lent : UnitShown) (is : lent �
   pub seen_gave : (q : CallerHeld) → IsNotBeyond q lent.held → IsNotBeyond q old.seat.held
   seen_gave q k =
       let given = subst (λ (x : UnitShown). IsNotBeyond q x.held) is k in
-      record { front = given.front; entries = given.entries; }
+      record { front = given.front; entries = given.entries }
 
 -- and behind the answer
 pub sound_after : (heap : HeapShown) (new : RegionShown) (seat : UnitShown) → new.seat ≡ seat
