@@ -22,20 +22,23 @@ use Rattle.core_steps.specs.declared.parts.UnitPart.{UnitPart}
 use Rattle.core_steps.specs.declared.parts.CallerPart.{CallerPart}
 use Rattle.core_steps.specs.declared.parts.Mark.{Mark}
 use Rattle.core_steps.specs.CallerClauses.{receipts_of, view_of, HasReceipt}
-use Rattle.core_steps.specs.Clock.{durable_clock}
+use Rattle.core_steps.specs.Clock.{clock, durable_clock}
 use Rattle.core_steps.specs.Cuts.{HoldsCut}
 use Rattle.core_steps.specs.Notes.{histories_of, cuts_of, IsTrueMark}
 use Rattle.core_steps.specs.Opened.{opened_at}
 use Rattle.core_steps.specs.Places.{RowHas}
 use Rattle.core_steps.specs.Sound.{Base, base_state, IsSound}
+use Rattle.core_steps.specs.Stages.{limit_of, passed_of}
 use Rattle.core_steps.proofs.CallerReceipts.{callers_order}
 use Rattle.core_steps.proofs.CutLaws.{images_hold_cuts, images_hold_synced}
+use Rattle.core_steps.proofs.NoteLaws.{limit_reached}
 use Rattle.core_steps.proofs.RowFacts.{all_at, row_of_map, row_in_map, row_gives, item_at, same_item}
+use Rattle.core_steps.proofs.UnitFrames.{reached_later}
 use Rattle.heap_rule.specs.declared.rule.Opening.{Opening}
 use Rattle.heap_rule.specs.Rule.{seen_in}
 use Rattle.heap.specs.HeapShown.{UnitShown, AdvShown, CallerShown}
 use Rattle.heap.specs.Stops.{StopsAt}
-use Rattle.store_stop.specs.Headline.{IsBaseOf, AreLegal, HasSeen, AreClocks, IsCutAsMarked, IsSyncedIn, HoldsHistories, IsStopped, parts_shown}
+use Rattle.store_stop.specs.Headline.{IsBaseOf, AreLegal, HasSeen, AreClocks, AreEpochsReached, IsCutAsMarked, IsSyncedIn, HoldsHistories, IsStopped, parts_shown}
 use Rattle.store_stop.specs.ToldHistories.{HoldsEntryOf, HasReceiptAt, TellAll}
 use Rattle.store_stop.proofs.CutStates.{rebuilds}
 use Rattle.store_stop.proofs.Items.{all_gives}
@@ -92,6 +95,20 @@ module _ (o : Opening) (units : List UnitShown) (advancer : AdvShown) (callers :
 
   pub legal : AreLegal o.layout base_clock states histories
   legal = record { based = base.recovered.0; units = unit_count; each = legal_at }
+
+  -- no unit has an entry of a later epoch than the clock's
+  reached_at : (unit : ℕ) (h : List Entry) → slice_get histories unit ≡ Some h
+      → All (λ (e : Entry). e.epoch ≤ clock_of words.cur) h
+  reached_at unit h at =
+      let p = row_of_map (λ (p : UnitPart). p.history) core.units unit h at in
+      let limit = limit_reached opened.clock (clock core) (unit < passed_of (length core.units) core.advancer) p.0.stage
+      (sound.registration unit p.0 p.1) in
+      let fits = (sound.units unit p.0 p.1).reached in
+      let reached = (reached_later (limit_of (clock core) p.0.stage) (clock core) p.0.records p.0.history limit fits).of_entries in
+      subst (λ (x : List Entry × List ℕ). All (λ (e : Entry). e.epoch ≤ clock_of x.1) x.0) (λ i. (p.2 i, sym stops.current i)) reached
+
+  pub reached : AreEpochsReached (clock_of words.cur) histories
+  reached = all_at (λ (h : List Entry). All (λ (e : Entry). e.epoch ≤ clock_of words.cur) h) histories reached_at
 
   -- ---- callers
   pub order : IsCallersOrder histories (map receipts_of (parts_shown callers)) (map view_of (parts_shown callers))
@@ -221,6 +238,7 @@ module _ (o : Opening) (units : List UnitShown) (advancer : AdvShown) (callers :
         order = order;
         seen = seen;
         clocks = clocks;
+        reached = reached;
         marks = marks;
         images = holds_histories;
       })

@@ -57,6 +57,11 @@ pub record AreClocks (base : ℕ) (callers : List CallerPart) (now durable : ℕ
   pub behind : durable ≤ now
   pub last : now ≤ LAST
 
+-- No entry is of an epoch that the clock hasn't reached.
+abbrev pub AreEpochsReached : ℕ → List (List Entry) → Type 0
+AreEpochsReached now histories =
+    All (λ (h : List Entry). All (λ (e : Entry). e.epoch ≤ now) h) histories
+
 -- ---- marks
 -- The caller that a mark names was cut in its unit, and knows it; where it names none, some caller
 -- was.
@@ -112,6 +117,7 @@ pub record IsStopped
       (map receipts_of (parts_shown callers)) (map view_of (parts_shown callers))
   pub seen : All (λ (q : CallerShown). HasSeen t.histories q.held) callers
   pub clocks : AreClocks clock (parts_shown callers) (clock_of t.words.cur) (clock_of t.words.dur)
+  pub reached : AreEpochsReached (clock_of t.words.cur) t.histories
   pub marks : All (λ (q : CallerPart). All (IsCutAsMarked (parts_shown callers)) q.marks)
       (parts_shown callers)
   pub images :
