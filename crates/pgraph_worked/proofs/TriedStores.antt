@@ -64,7 +64,8 @@ found_settled s image found well one settles is =
     (images_are_found s image 0 well (subst (λ (n : ℕ). 0 < n) (sym one) (omega arith)))
 
 pub objects_make : (s at : Shape) (image : List ℕ) (unit : ℕ) (found : List Held) (objects : List Object)
-    → IsWellFormed s image → units_of s ≡ 1 → found ≡ records_of s image 0 → objects ≡ live_objects found → at ≡ s → unit ≡ 0 → (state : State) × IsStructure at unit objects state
+    → IsWellFormed s image → units_of s ≡ 1 → found ≡ records_of s image 0 → objects ≡ live_objects found → at ≡ s → unit ≡ 0
+    → (state : State) × IsStructure at unit objects state
 objects_make s at image unit found objects well one is are same first =
     subst (λ (x : Shape × ℕ × List Object). (state : State) × IsStructure x.0 x.1 x.2 state)
     (λ i. (sym same i, sym first i, sym (are ∙ ap live_objects is) i))
