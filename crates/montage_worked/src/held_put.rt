@@ -140,7 +140,9 @@ fn put<R: Wait, N: HeapName, I: Index>(
 ) -> Answer {
     let key = Text::of_number(1);
     let value = Text::of_number(10);
-    match caller.call(rt, store, &Op::Put { key, value }) {
+    let op = Op::Put { key, value };
+    let called = caller.call(rt, store, &op);
+    match called {
         Ok(Ok(receipt)) => Answer::Put {
             reply: receipt.entry.reply,
             epoch: receipt.entry.epoch,
@@ -154,7 +156,9 @@ fn count<R: Wait, N: HeapName, I: Index>(
     store: &Store<N, I>,
     caller: &mut Caller<N, Holding>,
 ) -> Answer {
-    match caller.call(rt, store, &Op::Len { unit: 1 }) {
+    let op = Op::Len { unit: 1 };
+    let called = caller.call(rt, store, &op);
+    match called {
         Ok(Ok(receipt)) => Answer::Counted {
             reply: receipt.entry.reply,
         },
