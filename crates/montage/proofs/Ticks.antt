@@ -92,10 +92,10 @@ ticked_by heap found shown behind q told r answer of_heap shows same noted done 
     let held = ap (λ (a : AdvShown). a.held) shows in
     has_ticked heap found behind q r
     (noted
-        ∙ ap (λ (t : CallerShown). let x : CallerShown = record {
-          table = t.table;
-          held = caller_heard t.held (note_of_advancer (length t.held.part.fronts) behind.held);
-        } in x) same)
+    ∙ ap (λ (t : CallerShown). let x : CallerShown = record {
+      table = t.table;
+      held = caller_heard t.held (note_of_advancer (length t.held.part.fronts) behind.held);
+    } in x) same)
     answer of_heap
     (subst (λ (a : AdvHeld). Advances a behind.held answer) held (advances_by shown.held behind.held answer done left why))
     (subst (λ (a : AdvHeld). IsAtEnd a → answer ≡ Err ClockEnd) held at_end)

@@ -22,8 +22,7 @@ pub struct Caller<N: HeapName, G: Gate> {
     number: u64,
     pass: Pass<G>,
     of: PhantomData<N>,
-    ghost seat: { IsSeatOfCaller N.heap number pass.ticket }
-        by { IsSeatOfCaller-prop N.heap number pass.ticket },
+    ghost seat: { IsSeatOfCaller N.heap number pass.ticket } by { IsSeatOfCaller-prop N.heap number pass.ticket },
 }
 
 impl<N: HeapName, G: Gate> Caller<N, G> {
@@ -97,11 +96,7 @@ impl<N: HeapName, G: Gate> Caller<N, G> {
     }
 
     /// What it has seen.
-    pub fn tell<I: Index>(
-        &mut self,
-        alloc: Global,
-        store: &Store<N, I>,
-    ) -> Result<News, AllocError>
+    pub fn tell<I: Index>(&mut self, alloc: Global, store: &Store<N, I>) -> Result<News, AllocError>
         ensures same { self.new.number ≡ self.old.number }
         ensures news { IfOk result (λ news. news.table ≡ N.heap.table) }
     {

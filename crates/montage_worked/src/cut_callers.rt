@@ -20,6 +20,7 @@ use std::sync::Wait;
 use std::test::Fail;
 
 const QUEUE: Unit = 1;
+
 const GRAPH: Unit = 2;
 
 // The first caller is cut in a put. The map is halted for good; the queue still answers, and what
@@ -43,7 +44,14 @@ fn cut_in_a_put<N: HeapName, I: Index>(
     let value = Text::of_number(10);
     let cut = first.call(rt, &store, &Op::Put { key, value })?;
     let halted = second.call(rt, &store, &Op::Get { key })?;
-    let receipt = second.call(rt, &store, &Op::Enq { unit: QUEUE, item: 5 })??;
+    let receipt = second.call(
+        rt,
+        &store,
+        &Op::Enq {
+            unit: QUEUE,
+            item: 5,
+        },
+    )??;
     let synced = second.sync(rt, &store);
     if cut != Err(CallRefusal::Cut { unit: 0 })
         || halted != Err(CallRefusal::Halted { unit: 0, by: 0 })
@@ -65,7 +73,9 @@ fn a_cut_halts_its_unit_alone(rt: HostRuntime) -> Result<(), Fail> {
 
 // How many stores are tried, each of whose three callers is cut before some step.
 const STORES: u64 = 12;
+
 const MOST_STEPS: u64 = 900;
+
 const TURNS: u64 = 60;
 
 // The callers take turns until each is cut or has had its turns.
@@ -85,7 +95,7 @@ fn cut_somewhere<N: HeapName, I: Index>(
     let gates = vec![in alloc;
         Fuel::new(draws.below(MOST_STEPS)),
         Fuel::new(draws.below(MOST_STEPS)),
-        Fuel::new(draws.below(MOST_STEPS))
+        Fuel::new(draws.below(MOST_STEPS)),
     ]?;
     let (store, mut callers) = open::<N, I, Fuel>(alloc, heap, seats, indexes, gates)?;
     let mut third = callers.pop().ok_or("no caller")?;

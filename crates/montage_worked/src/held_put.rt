@@ -13,9 +13,8 @@ use mont_base::{Cut, Epoch, Gate, Op, Reply, Text};
 use montage::Store;
 use std::alloc::Global;
 use std::marker::Brand;
-use std::sync::Arc;
-use std::sync::Wait;
 use std::sync::atomic::{AtomicU64, Ordering};
+use std::sync::{Arc, Wait};
 use std::test::Fail;
 use std::thread;
 use std::thread::Threads;
@@ -179,26 +178,46 @@ fn hold_a_put<R: Threads + Wait + Sync, N: HeapName + Send + Sync, I: Index + Se
 {
     let signals = Arc::new(alloc, Signals::new())?;
     let gates = vec![in alloc;
-        Holding { signals: Arc::try_clone(&signals)?, left: Some(STEPS) },
-        Holding { signals: Arc::try_clone(&signals)?, left: None },
-        Holding { signals: Arc::try_clone(&signals)?, left: None }
+        Holding {
+            signals: Arc::try_clone(&signals)?,
+            left: Some(STEPS)
+        },
+        Holding {
+            signals: Arc::try_clone(&signals)?,
+            left: None
+        },
+        Holding {
+            signals: Arc::try_clone(&signals)?,
+            left: None
+        },
     ]?;
     let (store, callers) = open::<N, I, Holding>(alloc, heap, seats, indexes, gates)?;
     let shared = &store;
     let told: &Signals = &signals;
-    let answers = thread::map_vec(rt, callers, &|caller: Caller<N, Holding>| {
-        take_part(rt, shared, told, caller)
-    })?;
+    let answers = thread::map_vec(
+        rt,
+        callers,
+        &|caller: Caller<N, Holding>| { take_part(rt, shared, told, caller) },
+    )?;
     if signals.late.load(Ordering::SeqCst) != 0 {
         return Err(Fail::new("the others didn't answer while the put was held"));
     }
     let wanted = [
-        Answer::Put { reply: Reply::Nothing, epoch: 2 },
+        Answer::Put {
+            reply: Reply::Nothing,
+            epoch: 2,
+        },
         Answer::Ticked {
             first: Ok(3),
-            second: Err(AdvanceRefusal::NotYet { unit: 0, epoch: 2, cut: false }),
+            second: Err(AdvanceRefusal::NotYet {
+                unit: 0,
+                epoch: 2,
+                cut: false,
+            }),
         },
-        Answer::Counted { reply: Reply::Count { number: 0 } },
+        Answer::Counted {
+            reply: Reply::Count { number: 0 },
+        },
     ];
     if answers.as_slice() != wanted.as_slice() {
         return Err(Fail::new("another answer"));

@@ -21,8 +21,11 @@ use std::thread;
 use std::thread::Threads;
 
 const WORKERS: u64 = 4;
+
 const CALLS: u64 = 5_000;
+
 const QUEUE: Unit = 4;
+
 const GRAPH: Unit = 5;
 
 // The first callers work, the last moves the clock on until they have done so. Tells whether all
@@ -103,9 +106,11 @@ fn work_beside<R: Threads + Wait + Sync, N: HeapName + Send + Sync, I: Index + S
     let shared = &store;
     let done = AtomicU64::new(0);
     let counted = &done;
-    let ran = thread::map_vec(rt, callers, &|caller: Caller<N, Steady>| {
-        take_part(rt, shared, counted, caller)
-    })?;
+    let ran = thread::map_vec(
+        rt,
+        callers,
+        &|caller: Caller<N, Steady>| { take_part(rt, shared, counted, caller) },
+    )?;
     let mut callers = Vec::new(alloc);
     for (caller, well) in ran {
         if !well {

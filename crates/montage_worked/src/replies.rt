@@ -13,6 +13,7 @@ use std::sync::Wait;
 use std::test::Fail;
 
 const QUEUE: Unit = 1;
+
 const GRAPH: Unit = 2;
 
 // A map of one key: it is put, found, taken out, and gone.
