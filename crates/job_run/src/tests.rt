@@ -1,11 +1,9 @@
 // Callers who wait for one another, on a store that answers by what their passes are told to have.
-ghost use Rattle.std.specs.Prelude.{◌≡◌, All, IfOk};
+ghost use Rattle.std.specs.Prelude.{◌≡◌, All, IfOk, Some, true};
 ghost use Rattle.mont_base.specs.declared.kinds.UnitKind.TheVariants.{Queue};
 ghost use Rattle.mont_base.specs.Layout.{kind_of};
 ghost use Rattle.job_text.specs.declared.job.Line.{Line as LineModel};
-ghost use Rattle.job_worker.specs.Alone.{held_alone, IsAlone};
 ghost use Rattle.job_worker.specs.Ending.{MayBeAsked};
-ghost use Rattle.job_run.specs.Run.{IsFresh};
 
 use crate::{Advances, Ran, run_job};
 use advance::AdvanceRefusal;
@@ -36,7 +34,7 @@ struct Guest {
 }
 
 impl Asks<Guest> for Hall {
-    ghost use Rattle.std.specs.Prelude.{true, []};
+    ghost use Rattle.std.specs.Prelude.{[]};
     ghost use Rattle.job_worker.specs.Alone.{alone_opening, held_alone as shows, IsAlone as Stands};
 
     ghost opening = { λ h. alone_opening h.layout };
