@@ -1,7 +1,7 @@
 -- A job's report tells of each caller what the caller had seen, and so finds its lines answered.
-use Rattle.std.proofs.Common.{◌≡◌, ℕ, zero, suc, ◌-◌, ◌<◌, ◌≤◌, true, List, [], ◌∷◌, ◌++◌, length, map, take, drop, refl, sym, ap, ◌∙◌, subst, arith}
-use Rattle.std.specs.Prelude.{◌&&◌, ◌==◌, slice_get, sum_by, count_by, All, Option, Some, None}
-use Rattle.std.specs.List.{Contains, list_any}
+use Rattle.std.proofs.Common.{◌≡◌, ℕ, zero, suc, ◌-◌, ◌≤◌, true, List, [], ◌∷◌, ◌++◌, length, map, take, drop, refl, sym, ap, ◌∙◌, subst, arith}
+use Rattle.std.specs.Prelude.{◌==◌, slice_get, count_by, All, Option, Some, None}
+use Rattle.std.specs.List.{Contains}
 use Rattle.std.proofs.lemmas.List.{length-map, take-append-drop}
 use Rattle.std.proofs.lemmas.List.Folds.{Any-from_list_any}
 use Rattle.std.proofs.lemmas.List.Elements.{All-get_or}
@@ -13,7 +13,7 @@ use Rattle.mont_base.specs.Faults.{Rose}
 use Rattle.mont_base.specs.History.{IsLegal, state_after, cut_at}
 use Rattle.mont_base.specs.Image.{clock_of, cut_of}
 use Rattle.mont_base.specs.Layout.{Shape, units_of}
-use Rattle.mont_base.specs.Seen.{FitsHistories, IsEntryAt, names_place}
+use Rattle.mont_base.specs.Seen.{FitsHistories, names_place}
 use Rattle.mont_base.specs.State.{State}
 use Rattle.plain.specs.States.{states_of}
 use Rattle.core_steps.specs.declared.parts.CallerPart.{CallerPart}
@@ -27,7 +27,6 @@ use Rattle.heap.specs.HeapShown.{CallerShown}
 use Rattle.caller.specs.Telling.{has_mark}
 use Rattle.job_text.specs.declared.job.Job.{Job}
 use Rattle.job_text.specs.declared.outcome.Outcome.{Outcome}
-use Rattle.job_text.specs.declared.outcome.Outcome.TheVariants.{CutIn}
 use Rattle.job_text.specs.AnsweredLines.{AnswersLines}
 use Rattle.job_text.specs.Causes.{WasCutIn}
 use Rattle.job_text.specs.Faithful.{HasStop, IsFaithful, LegalAt, CutAt, AnsweredAt, AllNamedAt}
@@ -38,9 +37,9 @@ use Rattle.job_worker.specs.Continuing.{Continues, StandsFirst}
 use Rattle.job_worker.specs.Continuing as continuing
 use Rattle.job_worker.specs.Ending.{units_cut}
 use Rattle.store_stop.specs.declared.headline.Stopped.{Stopped}
-use Rattle.store_stop.specs.Headline.{IsStopped, HasSeen, IsCutAsMarked, parts_shown, cut_states}
+use Rattle.store_stop.specs.Headline.{HasSeen, IsCutAsMarked, parts_shown, cut_states}
 use Rattle.store_stop.proofs.Items.{all_gives}
-use Rattle.job_report.specs.Reported.{HasRun, WasRun}
+use Rattle.job_report.specs.Reported.{WasRun}
 use Rattle.job_report.proofs.Answering.{lines_for}
 use Rattle.job_report.proofs.Naming.{named_alike, sums_alike, cut_named}
 

@@ -3,7 +3,5 @@
 #![tactic(auto)]
 
 mod reported;
-#[cfg(test)]
-mod tests;
 
 pub use reported::make_report;
