@@ -1,5 +1,5 @@
 -- What a run leaves of each caller.
-use Rattle.std.specs.Prelude.{◌≡◌, ℕ, Bool, false, List, [], length, map, slice_get, Option, Some, None, IfSome}
+use Rattle.std.specs.Prelude.{◌≡◌, ℕ, Bool, false, List, length, slice_get, Option, Some, None, IfSome}
 use Rattle.std.specs.List.{list_any}
 use Rattle.mont_base.specs.Faults.{Rose}
 use Rattle.heap_rule.specs.declared.rule.Opening.{Opening}
