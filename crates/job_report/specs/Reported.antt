@@ -1,0 +1,48 @@
+-- What is known of a job that was run on a store, once the store was stopped and an image of it was
+-- read.
+use Rattle.std.specs.Prelude.{◌≡◌, ℕ, List, [], length, slice_get, Some}
+use Rattle.mont_base.specs.Faults.{Rose}
+use Rattle.mont_base.specs.Image.{IsPermitted, IsRecovered, clock_of}
+use Rattle.mont_base.specs.State.{State}
+use Rattle.plain.specs.States.{states_of}
+use Rattle.heap_rule.specs.declared.rule.Opening.{Opening}
+use Rattle.heap_rule.specs.declared.views.CallerHeld.{CallerHeld}
+use Rattle.heap.specs.HeapShown.{CallerShown}
+use Rattle.job_text.specs.declared.job.Job.{Job}
+use Rattle.job_text.specs.declared.outcome.Outcome.{Outcome}
+use Rattle.job_text.specs.Faithful.{HasStop}
+use Rattle.job_text.specs.Report.{lines_of}
+use Rattle.job_worker.specs.Worked.{HasWorked}
+use Rattle.store_stop.specs.declared.headline.Stopped.{Stopped}
+use Rattle.store_stop.specs.Headline.{IsBaseOf, IsStopped}
+
+-- A caller of the job was left with this. It wasn't cut before it began, its gate showed these
+-- counts before its lines and behind them, and it cuts no caller that the job doesn't stop.
+pub record HasRun (j : Job) (o : Opening) (caller : ℕ) (left : CallerHeld)
+    (outcomes : List Outcome) : Type 0 where
+  pub begun : CallerHeld
+  pub number : begun.caller ≡ caller
+  pub uncut : begun.part.cuts ≡ []
+  pub first : ℕ
+  pub last : ℕ
+  pub stops : Rose first last → HasStop j caller
+  pub worked : HasWorked o (Rose first last) begun left (lines_of j caller) outcomes
+
+-- Each caller of the job ran its lines on a store that opened so. The store was stopped with what
+-- the tickets of the callers then showed, and this is an image that a crash permits of its words,
+-- with its clock, and with what recovery rebuilds of it.
+pub record WasRun (j : Job) (o : Opening) (callers : List CallerShown)
+    (outcomes : List (List Outcome)) (t : Stopped) (image : List ℕ) (image_clock : ℕ)
+    (contents : List State) : Type 0 where
+  pub layout : o.layout ≡ j.layout
+  pub opened : IsBaseOf o t.base_clock (states_of t.base)
+  pub callers_are : length callers ≡ j.callers
+  pub answered : length outcomes ≡ j.callers
+  pub each :
+      (caller : ℕ) (left : CallerShown) (of_caller : List Outcome)
+      → slice_get callers caller ≡ Some left → slice_get outcomes caller ≡ Some of_caller
+      → HasRun j o caller left.held of_caller
+  pub stopped : IsStopped o.layout t.base_clock t.base callers t
+  pub permitted : IsPermitted t.words.cur t.words.dur image
+  pub clock : image_clock ≡ clock_of image
+  pub recovered : IsRecovered o.layout image contents
