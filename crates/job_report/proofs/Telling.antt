@@ -33,7 +33,8 @@ use Rattle.job_text.specs.Faithful.{HasStop, IsFaithful, LegalAt, CutAt, Answere
 use Rattle.job_text.specs.Outcomes.{names_entry}
 use Rattle.job_text.specs.Report.{Report, lines_of}
 use Rattle.job_worker.specs.Asking.{opened_records}
-use Rattle.job_worker.specs.Continuing.{Continues, StandsFirst}
+use Rattle.heap_rule.specs.SeenEntries.{StandsFirst}
+use Rattle.job_worker.specs.Continuing.{Continues}
 use Rattle.job_worker.specs.Continuing as continuing
 use Rattle.job_worker.specs.Ending.{units_cut}
 use Rattle.store_stop.specs.declared.headline.Stopped.{Stopped}
