@@ -1,0 +1,2 @@
+mod SettledImages
+mod StoreEnds
