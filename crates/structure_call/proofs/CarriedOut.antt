@@ -34,11 +34,12 @@ use Rattle.op_guard.specs.Answered.{HasCommitted, HasRead}
 use Rattle.op_guard.specs.Guarding.{HasBegun, IsReachedBy}
 use Rattle.op_guard.specs.Regions.{IsReady}
 use Rattle.op_guard.proofs.Committed.{seen_at}
-use Rattle.structure_call.specs.Calling.{HasAnsweredCall, is_insertion}
+use Rattle.structure_call.specs.Calling.{HasAnsweredCall, is_insertion, is_enqueuing}
 use Rattle.structure_call.specs.Carrying.{CanPutAll, HasWrittenAll, HasCarried, records_by, serial_behind}
 use Rattle.structure_call.specs.Planning.{IsPlan, Makes, adds_item, first_at_end}
 use Rattle.structure_call.proofs.ChangeEffects.{step_fits, effects_by, queue_of, inserts_are, none_made}
 use Rattle.structure_call.proofs.ChangeNumbers.{AreLeft, numbers_left, all_live, versions_left, serials_left}
+use Rattle.structure_call.proofs.SerialsGiven.{serial_given}
 use Rattle.structure_call.proofs.SoundHistories.{sound_shows, shows_before}
 use Rattle.structure_call.proofs.KeptPlans.{structure_kept, next_kept, all_kept}
 
@@ -236,6 +237,11 @@ module _ (heap : HeapShown) (old : RegionShown) (q : CallerShown) (op : Op) (rep
         same_seat : done.seat.held.unit ≡ old.seat.held.unit
         same_seat = sym w.under_way.runs.agrees.0 ∙ same_unit ∙ ready.runs.agrees.0
 
+        serial_behind_all : new.books.serial ≡ serial_behind old.books.layout old.books.unit old.books.serial changes
+        serial_behind_all =
+            ap (λ (b : BooksShown). b.serial) k.answered.books ∙ w.serial
+            ∙ (λ i. serial_behind (same_layout i) (begun.keeps.of_unit i) (begun.keeps.serial i) changes)
+
         -- what it leaves
         pub answered_call : HasAnsweredCall heap old new q r op receipt
         answered_call = record {
@@ -279,6 +285,7 @@ module _ (heap : HeapShown) (old : RegionShown) (q : CallerShown) (op : Op) (rep
               ap (λ (b : BooksShown). b.identity) k.answered.books
               ∙ (let here = w.identity in let before = begun.keeps.identity in
               let many = inserts_are old.books kept effects changes makes in omega arith);
+          serial = serial_behind_all ∙ serial_given old.books kept plan.state op changes of_kind makes;
           of_unit = ap (λ (b : BooksShown). b.unit) k.answered.books ∙ same_unit;
           ready = k.answered.ready;
           sound = k.answered.sound;
@@ -295,9 +302,7 @@ module _ (heap : HeapShown) (old : RegionShown) (q : CallerShown) (op : Op) (rep
           identity =
               ap (λ (b : BooksShown). b.identity) k.answered.books
               ∙ (let here = w.identity in let before = begun.keeps.identity in omega arith);
-          serial =
-              ap (λ (b : BooksShown). b.serial) k.answered.books ∙ w.serial
-              ∙ (λ i. serial_behind (same_layout i) (begun.keeps.of_unit i) (begun.keeps.serial i) changes);
+          serial = serial_behind_all;
         }
 
   -- ---- an operation that changes nothing
@@ -367,6 +372,9 @@ module _ (heap : HeapShown) (old : RegionShown) (q : CallerShown) (op : Op) (rep
         identity =
             let many : count_by is_insertion effects ≡ 0 = ap (count_by is_insertion) no_effects in
             let same = same_identity in omega arith;
+        serial =
+            let many : count_by is_enqueuing effects ≡ 0 = ap (count_by is_enqueuing) no_effects in
+            let same : new.books.serial ≡ old.books.serial = ap (λ (b : BooksShown). b.serial) k.answered.books in omega arith;
         of_unit = ap (λ (b : BooksShown). b.unit) k.answered.books;
         ready = k.answered.ready;
         sound = k.answered.sound;

@@ -5,6 +5,7 @@ pub mod ChangeEffects
 pub mod ChangeNumbers
 pub mod ChangeRecords
 pub mod WrittenChanges
+pub mod SerialsGiven
 pub mod CarriedOut
 pub mod Stands
 pub mod Refusals

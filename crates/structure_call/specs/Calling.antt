@@ -3,6 +3,7 @@ use Rattle.std.specs.Prelude.{◌≡◌, ℕ, ◌+◌, Bool, true, false, List, 
 use Rattle.std.specs.declared.result.Result.{Result}
 use Rattle.mont_base.specs.declared.effect.Effect.{Effect}
 use Rattle.mont_base.specs.declared.effect.Effect.TheVariants.{Inserts}
+use Rattle.mont_base.specs.declared.effect.Thing.TheVariants.{Item}
 use Rattle.mont_base.specs.declared.operation.Op.{Op}
 use Rattle.mont_base.specs.declared.operation.Receipt.{Receipt}
 use Rattle.mont_base.specs.declared.operation.Reply.{Reply}
@@ -44,6 +45,11 @@ abbrev pub is_insertion : Effect → Bool
 is_insertion (Inserts thing) = true
 is_insertion _ = false
 
+-- an effect adds an item to a queue
+abbrev pub is_enqueuing : Effect → Bool
+is_enqueuing (Inserts (Item item)) = true
+is_enqueuing _ = false
+
 -- The unit has one entry more, behind all that the caller had seen of it, which stood first there.
 -- Its reply is the plain step's on the state that the unit's records showed, and to which its
 -- history had led.
@@ -70,6 +76,8 @@ pub record HasAnsweredCall
       (step judged.state op).state
   pub identity : new.books.identity
       ≡ old.books.identity + count_by is_insertion (step judged.state op).effects
+  pub serial : new.books.serial
+      ≡ old.books.serial + count_by is_enqueuing (step judged.state op).effects
   pub of_unit : new.books.unit ≡ old.books.unit
   pub ready : IsReady heap new
   pub sound : IsSound heap new
