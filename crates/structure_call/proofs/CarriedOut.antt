@@ -44,7 +44,7 @@ use Rattle.structure_call.proofs.SoundHistories.{sound_shows, shows_before}
 use Rattle.structure_call.proofs.KeptPlans.{structure_kept, next_kept, all_kept}
 
 -- the kind of a state
-kind_is : (state : State) → is_of_kind (Some (kind_of_state state)) unit_kinds.Queue ≡ is_state_of unit_kinds.Queue state
+pub kind_is : (state : State) → is_of_kind (Some (kind_of_state state)) unit_kinds.Queue ≡ is_state_of unit_kinds.Queue state
 kind_is (MapOf pairs) = refl
 kind_is (QueueOf items) = refl
 kind_is (GraphOf graph) = refl

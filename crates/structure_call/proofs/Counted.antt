@@ -1,96 +1,284 @@
--- A call keeps the count of the identities that were given.
-use Rattle.std.proofs.Common.{◌≡◌, ℕ, ◌+◌, ◌-◌, ◌<◌, Bool, true, false, cond, List, refl, sym, ap, ◌∙◌, subst, arith}
-use Rattle.std.specs.Prelude.{◌&&◌, nat_lt, Some, None, count_by}
-use Rattle.std.specs.List.{list_any}
+-- A call keeps the count of the numbers that were given.
+use Rattle.std.proofs.Common.{◌≡◌, ℕ, ◌+◌, ◌-◌, ◌<◌, Bool, true, false, cond, List, [], ◌∷◌, ◌++◌, length, refl, sym, ap, ◌∙◌, subst, arith}
+use Rattle.std.specs.Prelude.{◌&&◌, nat_lt, Option, Some, None, count_by}
+use Rattle.std.specs.List.{AllZip, list_any}
 use Rattle.std.proofs.lemmas.Bool.Decides.{nat_tests}
+use Rattle.std.proofs.lemmas.Option.{same_Some}
 use Rattle.mont_base.specs.declared.constants.TheConstants.{LAST}
+use Rattle.mont_base.specs.declared.effect.Effect.{Effect}
+use Rattle.mont_base.specs.declared.kinds.UnitKind.{UnitKind}
+use Rattle.mont_base.specs.declared.kinds.UnitKind.TheVariants as kinds
+use Rattle.mont_base.specs.declared.operation.Entry.{Entry}
+use Rattle.mont_base.specs.declared.operation.Op.{Op}
 use Rattle.mont_base.specs.declared.operation.Receipt.{Receipt}
+use Rattle.mont_base.specs.declared.operation.Reply.{Reply}
+use Rattle.mont_base.specs.declared.record.Change.{Change}
+use Rattle.mont_base.specs.declared.record.Held.{Held}
 use Rattle.mont_base.specs.declared.refusal.CallRefusal.TheVariants.{Halted, CountEnd, Memory, Full, Cut}
+use Rattle.mont_base.specs.declared.refusal.Which.{Which}
 use Rattle.mont_base.specs.declared.refusal.Which.TheVariants as ends
 use Rattle.mont_base.specs.History.{state_after}
-use Rattle.mont_base.specs.Layout.{Shape}
-use Rattle.mont_base.specs.State.{State, step}
-use Rattle.mont_laws.specs.Structures.{HasStructure}
+use Rattle.mont_base.specs.Image.{IsRecovered}
+use Rattle.mont_base.specs.Layout.{Shape, kind_of, is_of_kind}
+use Rattle.mont_base.specs.State.{State, MapOf, QueueOf, GraphOf, is_state_of, step}
+use Rattle.mont_laws.specs.Records.{live_of}
+use Rattle.mont_laws.specs.Structures.{HasStructure, kind_of_state}
 use Rattle.mont_laws.proofs.Shown.{one_state}
-use Rattle.heap.specs.HeapShown.{HeapShown}
-use Rattle.slots.specs.Books.{RegionShown}
+use Rattle.core_steps.specs.declared.parts.CallerPart.{CallerPart}
+use Rattle.heap.specs.HeapShown.{HeapShown, CallerShown}
+use Rattle.op_guard.specs.Regions.{KeepsUnit}
+use Rattle.slots.specs.Beginning.{BeginsWith, greatest, identities_in, live_serials, serial_at_first}
+use Rattle.slots.specs.Books.{BooksShown, RegionShown}
 use Rattle.slots.specs.Changes.{ends_version, inserts}
-use Rattle.structure_call.specs.Calling.{is_insertion}
-use Rattle.structure_call.specs.Counting.{HasCounted, OpenedAreCounted, AnswersAreCounted, RefusalsAreCounted, IdentitiesEnd, insertions, greatest_opened, opened_with}
-use Rattle.structure_call.specs.Planning.{adds_item}
+use Rattle.slots.specs.Serials.{is_queue}
+use Rattle.structure_call.specs.Calling.{HasAnsweredCall, HasEnd, is_insertion, is_enqueuing}
+use Rattle.structure_call.specs.Counting.{HasCounted, IsCountedFrom, AreVersionsWithin, FreshAreCounted, RecoveredAreCounted, AnswersAreCounted, RefusalsAreCounted, LacksIdentity, LacksVersions, LacksSerial, LacksNumber, NumbersEnd, sum_over, insertions, enqueued, changes_made, greatest_opened, objects_opened, opened_with, records_opened}
+use Rattle.structure_call.specs.Planning.{IsPlan, Makes, adds_item, first_at_end}
 use Rattle.structure_call.specs.Standing.{ShowsHistory}
-use Rattle.structure_call.proofs.ChangeEffects.{inserts_are}
-use Rattle.structure_call.proofs.Insertions.{few_inserted, insertions_more}
+use Rattle.structure_call.proofs.CarriedOut.{kind_is}
+use Rattle.structure_call.proofs.ChangeEffects.{inserts_are, queue_of, step_fits}
+use Rattle.structure_call.proofs.Insertions.{few_inserted}
+use Rattle.structure_call.proofs.NamedThings.{step_names}
+use Rattle.structure_call.proofs.SerialsGiven.{some_enqueued}
+use Rattle.structure_call.proofs.Summed.{sum_more}
+use Rattle.structure_call.proofs.VersionsWithin.{first_versions, kept_versions, more_versions, versions_end}
 
--- the count of a unit with these numbers and entries
-abbrev is_counted : HeapShown → List State → RegionShown → ℕ → Type 0
-is_counted heap states r unit =
-    r.books.identity ≡ greatest_opened heap unit + insertions (opened_with heap states unit) r.seat.held.part.history + 1
+-- ---- at first
+module _ (heap : HeapShown) (r : RegionShown) where
+  abbrev opened : List Held
+  opened = records_opened heap r.books.unit
 
-pub opened_are_counted : OpenedAreCounted
-opened_are_counted heap r first none = λ running states recovered.
-    let base = opened_with heap states r.books.unit in
-    let nothing : insertions base r.seat.held.part.history ≡ 0 = ap (insertions base) none in omega arith
+  -- a unit has the records that it was opened with, has answered nothing, and its next numbers are those behind the records
+  counted_at_first : r.books.identity ≡ greatest_opened heap r.books.unit + 1
+      → r.books.serial ≡ serial_at_first heap.opening.layout r.books.unit opened → r.seat.held.part.records ≡ opened
+      → r.seat.held.part.history ≡ [] → HasCounted heap r
+  counted_at_first identity serial records none = λ running states recovered.
+      let base = opened_with heap states r.books.unit in
+      let inserted : insertions base r.seat.held.part.history ≡ 0 = ap (insertions base) none in
+      let added : enqueued base r.seat.held.part.history ≡ 0 = ap (enqueued base) none in
+      record {
+        identity = omega (arith, identity, inserted);
+        versions =
+            subst (λ (x : ℕ × List Held). AreVersionsWithin heap.opening.layout r.books.unit (objects_opened heap r.books.unit) x.0 x.1)
+            (λ i. (sym (ap (changes_made base) none) i, sym records i)) (first_versions heap.opening.layout r.books.unit opened);
+        serial = omega (arith, serial, added);
+      }
+
+serial_of_none : (s : Shape) (unit : ℕ) → serial_at_first s unit [] ≡ 1
+serial_of_none s unit = by (is_queue s unit)
+  where
+    by : (t : Bool) → cond t (greatest (live_serials []) + 1) 1 ≡ 1
+    by true = refl
+    by false = refl
+
+pub fresh_are_counted : FreshAreCounted
+fresh_are_counted heap r empty books begins =
+    counted_at_first heap r
+    (ap (λ (b : BooksShown). b.identity) books ∙ sym (ap (λ (rs : List Held). greatest (identities_in rs) + 1) empty))
+    (ap (λ (b : BooksShown). b.serial) books ∙ sym (serial_of_none heap.opening.layout r.books.unit)
+    ∙ sym (ap (serial_at_first heap.opening.layout r.books.unit) empty))
+    (begins.records_are ∙ sym empty) begins.history
+
+pub recovered_are_counted : RecoveredAreCounted
+recovered_are_counted heap r lost books begins =
+    counted_at_first heap r (ap (λ (b : BooksShown). b.identity) books) (ap (λ (b : BooksShown). b.serial) books)
+    begins.records_are begins.history
+
+-- ---- after a call
+-- a region is the unit's still
+module _ (heap : HeapShown) (new : RegionShown) (unit : ℕ) (same : new.books.unit ≡ unit) (states : List State) where
+  counted_in : new.books.identity ≡ greatest_opened heap unit + insertions (opened_with heap states unit) new.seat.held.part.history + 1
+      → AreVersionsWithin heap.opening.layout unit (objects_opened heap unit)
+      (changes_made (opened_with heap states unit) new.seat.held.part.history) new.seat.held.part.records
+      → new.books.serial ≡ serial_at_first heap.opening.layout unit (records_opened heap unit)
+      + enqueued (opened_with heap states unit) new.seat.held.part.history
+      → IsCountedFrom heap new (opened_with heap states new.books.unit)
+  counted_in identity versions serial = record {
+    identity = subst (λ (u : ℕ). new.books.identity
+        ≡ greatest_opened heap u + insertions (opened_with heap states u) new.seat.held.part.history + 1) (sym same) identity;
+    versions = subst (λ (u : ℕ). AreVersionsWithin heap.opening.layout u (objects_opened heap u)
+        (changes_made (opened_with heap states u) new.seat.held.part.history) new.seat.held.part.records) (sym same) versions;
+    serial = subst (λ (u : ℕ). new.books.serial ≡ serial_at_first heap.opening.layout u (records_opened heap u)
+        + enqueued (opened_with heap states u) new.seat.held.part.history) (sym same) serial;
+  }
+
+module _ (heap : HeapShown) (old new : RegionShown) (q r : CallerShown) (op : Op) (receipt : Receipt)
+    (a : HasAnsweredCall heap old new q r op receipt) (states : List State)
+    (recovered : IsRecovered heap.opening.layout heap.opening.words states) where
+  abbrev base : State
+  base = opened_with heap states old.books.unit
+
+  abbrev history : List Entry
+  history = old.seat.held.part.history
+
+  -- the state on which it was judged is the one to which the entries had led
+  judged_behind : a.judged.state ≡ state_after base history
+  judged_behind =
+      one_state heap.opening.layout old.books.unit old.seat.held.part.records a.judged.state (state_after base history)
+      a.judged.shown (a.showed states recovered)
+
+  -- and what is counted of its effects is counted of one entry more
+  counted_more : (count : List Effect → ℕ)
+      → sum_over count base new.seat.held.part.history ≡ sum_over count base history + count (step a.judged.state op).effects
+  counted_more count =
+      let asked : receipt.entry.op ≡ op = ap (λ (x : Receipt). x.entry.op) a.receipt_is in
+      ap (sum_over count base) a.history ∙ sum_more count base history receipt.entry
+      ∙ (λ i. sum_over count base history + count (step (sym judged_behind i) (asked i)).effects)
+
+  versions_after : AreVersionsWithin heap.opening.layout old.books.unit (objects_opened heap old.books.unit) (changes_made base history)
+      old.seat.held.part.records
+      → AreVersionsWithin heap.opening.layout old.books.unit (objects_opened heap old.books.unit)
+      (changes_made base new.seat.held.part.history) new.seat.held.part.records
+  versions_after within =
+      subst (λ (x : ℕ × List Held). AreVersionsWithin heap.opening.layout old.books.unit (objects_opened heap old.books.unit) x.0 x.1)
+      (λ i. (sym (counted_more length) i, sym a.wrote.records_are i))
+      (more_versions heap.opening.layout old.books.unit (objects_opened heap old.books.unit) (changes_made base history) a.wrote.kept
+      (kept_versions heap.opening.layout old.books.unit (objects_opened heap old.books.unit) (changes_made base history)
+      old.seat.held.part.records a.wrote.kept a.wrote.live within)
+      (kind_of_state a.judged.state) a.judged.shown.of_unit (step a.judged.state op).effects a.wrote.written a.wrote.are_effects
+      (step_names a.judged.state op a.judged.of_unit.texts))
+
+  answer_counted : IsCountedFrom heap old base → IsCountedFrom heap new (opened_with heap states new.books.unit)
+  answer_counted before =
+      let identity = before.identity in
+      let serial = before.serial in
+      let inserted = counted_more (count_by is_insertion) in
+      let added = counted_more (count_by is_enqueuing) in
+      let given = a.identity in
+      let next = a.serial in
+      counted_in heap new old.books.unit a.of_unit states (omega (arith, identity, inserted, given)) (versions_after before.versions)
+      (omega (arith, serial, added, next))
 
 pub answers_are_counted : AnswersAreCounted
 answers_are_counted heap old new q r op receipt running a counted = λ runs states recovered.
-    let base = opened_with heap states old.books.unit in
-    let history = old.seat.held.part.history in
+    answer_counted heap old new q r op receipt a states recovered (counted running states recovered)
+
+-- the same records are live, and the same numbers are next
+kept_counted : (heap : HeapShown) (old new : RegionShown) → old.books.halted ≡ None → KeepsUnit old new → HasCounted heap old
+    → HasCounted heap new
+kept_counted heap old new running keeps counted = λ runs states recovered.
     let before = counted running states recovered in
-    let same : a.judged.state ≡ state_after base history =
-    one_state heap.opening.layout old.books.unit old.seat.held.part.records a.judged.state (state_after base history)
-    a.judged.shown (a.showed states recovered) in
-    let asked : receipt.entry.op ≡ op = ap (λ (x : Receipt). x.entry.op) a.receipt_is in
-    let more : count_by is_insertion (step (state_after base history) receipt.entry.op).effects
-    ≡ count_by is_insertion (step a.judged.state op).effects =
-    λ i. count_by is_insertion (step (sym same i) (asked i)).effects in
-    let here = ap (insertions base) a.history ∙ insertions_more base history receipt.entry in
-    let given = a.identity in
-    subst (is_counted heap states new) (sym a.of_unit) (omega arith)
+    let base = opened_with heap states old.books.unit in
+    let same = keeps.history in
+    let identity = before.identity in
+    let serial = before.serial in
+    let given = keeps.identity in
+    let next = keeps.serial in
+    let inserted : insertions base new.seat.held.part.history ≡ insertions base old.seat.held.part.history = ap (insertions base) same in
+    let added : enqueued base new.seat.held.part.history ≡ enqueued base old.seat.held.part.history = ap (enqueued base) same in
+    counted_in heap new old.books.unit keeps.of_unit states (omega (arith, identity, given, inserted))
+    (subst (λ (n : ℕ). AreVersionsWithin heap.opening.layout old.books.unit (objects_opened heap old.books.unit) n
+    new.seat.held.part.records) (sym (ap (changes_made base) same))
+    (kept_versions heap.opening.layout old.books.unit (objects_opened heap old.books.unit)
+    (changes_made base old.seat.held.part.history) old.seat.held.part.records new.seat.held.part.records
+    (λ identity. keeps.live identity) before.versions))
+    (omega (arith, serial, next, added))
 
 pub refusals_are_counted : RefusalsAreCounted
 refusals_are_counted heap old new q r op (Halted unit by) running k counted = subst (HasCounted heap) (sym k.2.same) counted
 refusals_are_counted heap old new q r op (CountEnd which) running k counted = subst (HasCounted heap) (sym k.ends.1.same) counted
 refusals_are_counted heap old new q r op Memory running k counted = subst (HasCounted heap) (sym k.0) counted
-refusals_are_counted heap old new q r op (Full need free clock) running k counted = λ runs states recovered.
-    let keeps = k.leaves.1.keeps in
-    let base = opened_with heap states old.books.unit in
-    let before = counted running states recovered in
-    let same = ap (insertions base) keeps.history in
-    let given = keeps.identity in
-    subst (is_counted heap states new) (sym keeps.of_unit) (omega arith)
+refusals_are_counted heap old new q r op (Full need free clock) running k counted =
+    kept_counted heap old new running k.leaves.1.keeps counted
 refusals_are_counted heap old new q r op (Cut unit) running k counted = λ runs. let by = k.leaves.1.by in absurd (cc)
 
 -- ---- at the end
-third : (a b c d e : Bool)
-    → cond a (Some ends.Call) (cond b (Some ends.Place) (cond c (Some ends.Identity) (cond d (Some ends.Version)
-    (cond e (Some ends.Serial) None)))) ≡ Some ends.Identity → c ≡ true
-third true b c d e h = absurd (cc)
-third false true c d e h = absurd (cc)
-third false false true d e h = refl
-third false false false true e h = absurd (cc)
-third false false false false true h = absurd (cc)
-third false false false false false h = absurd (cc)
+-- the first number at its end
+abbrev IsAtEnd : CallerPart → RegionShown → List Change → Which → Type 0
+IsAtEnd q r cs ends.Call = LAST < q.calls
+IsAtEnd q r cs ends.Place = LAST < r.books.places
+IsAtEnd q r cs ends.Identity = LAST + 1 - r.books.identity < inserts cs
+IsAtEnd q r cs ends.Version = list_any (ends_version r.seat.held.part.records) cs ≡ true
+IsAtEnd q r cs ends.Serial = (adds_item r.books cs ≡ true) × (LAST < r.books.serial)
+
+here_or_later : (P : Which → Type 0) (b : Bool) (w : Which) (rest : Option Which) (which : Which) → (b ≡ true → P w)
+    → (rest ≡ Some which → P which) → cond b (Some w) rest ≡ Some which → P which
+here_or_later P true w rest which here later e = subst P (same_Some w which e) (here refl)
+here_or_later P false w rest which here later e = later e
 
 is_below : (m n : ℕ) → nat_lt m n ≡ true → m < n
 is_below m n e = grind (arith, nat_tests)
 
-pub identities_end : IdentitiesEnd
-identities_end heap old new q r op layout k counted states recovered =
-    let base = opened_with heap states old.books.unit in
-    let history = old.seat.held.part.history in
-    let records = old.seat.held.part.records in
-    let before = counted k.running states recovered in
-    let shows = subst (ShowsHistory heap) k.ends.1.same k.ends.1.showed in
-    let same : k.plan.state ≡ state_after base history =
-    one_state heap.opening.layout old.books.unit records k.plan.state (state_after base history)
-    (subst (λ (s : Shape). HasStructure s old.books.unit records k.plan.state) layout k.plan.shown) (shows states recovered) in
-    let asked : count_by is_insertion (step (state_after base history) op).effects ≡ inserts k.changes =
-    (λ i. count_by is_insertion (step (sym same i) op).effects)
-    ∙ inserts_are old.books records (step k.plan.state op).effects k.changes k.plan.makes in
-    let few = few_inserted (state_after base history) op in
-    let ends_there = third (nat_lt LAST q.held.part.calls) (nat_lt LAST old.books.places)
-    (nat_lt (LAST + 1 - old.books.identity) (inserts k.changes)) (list_any (ends_version records) k.changes)
-    (adds_item old.books k.changes && nat_lt LAST old.books.serial) k.ends.0 in
-    let above = is_below (LAST + 1 - old.books.identity) (inserts k.changes) ends_there in
-    record { inserts = omega arith; none_left = omega arith }
+serial_ends : (adds : Bool) (serial : ℕ) → (adds && nat_lt LAST serial) ≡ true → (adds ≡ true) × (LAST < serial)
+serial_ends true serial e = (refl, is_below LAST serial e)
+serial_ends false serial e = absurd (cc)
+
+pub at_end : (q : CallerPart) (r : RegionShown) (cs : List Change) (which : Which) → first_at_end q r cs ≡ Some which → IsAtEnd q r cs which
+at_end q r cs which =
+    here_or_later (IsAtEnd q r cs) (nat_lt LAST q.calls) ends.Call _ which (is_below LAST q.calls)
+    (here_or_later (IsAtEnd q r cs) (nat_lt LAST r.books.places) ends.Place _ which (is_below LAST r.books.places)
+    (here_or_later (IsAtEnd q r cs) (nat_lt (LAST + 1 - r.books.identity) (inserts cs)) ends.Identity _ which
+    (is_below (LAST + 1 - r.books.identity) (inserts cs))
+    (here_or_later (IsAtEnd q r cs) (list_any (ends_version r.seat.held.part.records) cs) ends.Version _ which (λ t. t)
+    (here_or_later (IsAtEnd q r cs) (adds_item r.books cs && nat_lt LAST r.books.serial) ends.Serial None which
+    (serial_ends (adds_item r.books cs) r.books.serial) (λ none. absurd (cc))))))
+
+kind_is_queue : (state : State) → is_of_kind (Some (kind_of_state state)) kinds.Queue ≡ true → kind_of_state state ≡ kinds.Queue
+kind_is_queue (MapOf pairs) e = absurd (cc)
+kind_is_queue (QueueOf items) e = refl
+kind_is_queue (GraphOf graph) e = absurd (cc)
+
+module _ (heap : HeapShown) (old : RegionShown) (q : CallerPart) (op : Op) (reply : Reply) (changes : List Change)
+    (layout : old.books.layout ≡ heap.opening.layout) (plan : IsPlan old op reply changes) (states : List State)
+    (shown : HasStructure heap.opening.layout old.books.unit old.seat.held.part.records
+    (state_after (opened_with heap states old.books.unit) old.seat.held.part.history))
+    (counted : IsCountedFrom heap old (opened_with heap states old.books.unit)) where
+  abbrev opened_base : State
+  opened_base = opened_with heap states old.books.unit
+
+  abbrev reached : State
+  reached = state_after opened_base old.seat.held.part.history
+
+  planned : plan.state ≡ reached
+  planned =
+      one_state heap.opening.layout old.books.unit old.seat.held.part.records plan.state reached
+      (subst (λ (s : Shape). HasStructure s old.books.unit old.seat.held.part.records plan.state) layout plan.shown) shown
+
+  makes : AllZip (Makes old.books old.seat.held.part.records) (step reached op).effects changes
+  makes = subst (λ (s : State). AllZip (Makes old.books old.seat.held.part.records) (step s op).effects changes) planned plan.makes
+
+  lacks_identity : LAST + 1 - old.books.identity < inserts changes → LacksIdentity heap old op opened_base
+  lacks_identity above =
+      let many = inserts_are old.books old.seat.held.part.records (step reached op).effects changes makes in
+      let few = few_inserted reached op in
+      let here = counted.identity in
+      record { inserts = omega (arith, above, many); none_left = omega (arith, above, many, few, here) }
+
+  lacks_versions : list_any (ends_version old.seat.held.part.records) changes ≡ true → LacksVersions heap old op opened_base
+  lacks_versions ends =
+      versions_end heap.opening.layout old.books.unit (objects_opened heap old.books.unit)
+      (changes_made opened_base old.seat.held.part.history) old.seat.held.part.records counted.versions (kind_of_state reached)
+      shown.of_unit old.books (step reached op).effects changes makes (step_names reached op plan.of_unit.texts) ends
+
+  lacks_serial : adds_item old.books changes ≡ true → LAST < old.books.serial → LacksSerial heap old op opened_base
+  lacks_serial adds above =
+      let queue : is_queue old.books.layout old.books.unit ≡ true = queue_of old.books.layout old.books.unit changes adds in
+      let here : is_queue heap.opening.layout old.books.unit ≡ true
+          = ap (λ (s : Shape). is_queue s old.books.unit) (sym layout) ∙ queue in
+      let first : serial_at_first heap.opening.layout old.books.unit (records_opened heap old.books.unit)
+          ≡ greatest (live_serials (records_opened heap old.books.unit)) + 1
+          = ap (λ (t : Bool). cond t (greatest (live_serials (records_opened heap old.books.unit)) + 1) 1) here in
+      let serial = counted.serial in
+      record {
+        of_queue = shown.of_unit ∙ ap Some (kind_is_queue reached
+            (ap (λ (o : Option UnitKind). is_of_kind o kinds.Queue) (sym shown.of_unit) ∙ here));
+        adds =
+            some_enqueued old.books old.seat.held.part.records (is_state_of kinds.Queue reached)
+            (ap (λ (s : Shape). is_queue s old.books.unit) layout
+            ∙ ap (λ (o : Option UnitKind). is_of_kind o kinds.Queue) shown.of_unit ∙ kind_is reached)
+            (step reached op).effects changes (step_fits reached op) makes adds;
+        none_left = omega (arith, above, serial, first);
+      }
+
+  pub lacks_number : (which : Which) → IsAtEnd q old changes which → LacksNumber heap old q op opened_base which
+  lacks_number ends.Call k = k
+  lacks_number ends.Place k = k
+  lacks_number ends.Identity k = lacks_identity k
+  lacks_number ends.Version k = lacks_versions k
+  lacks_number ends.Serial k = lacks_serial k.0 k.1
+
+pub numbers_end : NumbersEnd
+numbers_end heap old new q r op which layout k counted states recovered =
+    lacks_number heap old q.held.part op k.reply k.changes layout k.plan states
+    (subst (ShowsHistory heap) k.ends.1.same k.ends.1.showed states recovered) (counted k.running states recovered) which
+    (at_end q.held.part old k.changes which k.ends.0)

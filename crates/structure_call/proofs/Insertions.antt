@@ -7,13 +7,10 @@ use Rattle.mont_base.specs.declared.effect.Effect.{Effect}
 use Rattle.mont_base.specs.declared.effect.Effect.TheVariants.{Inserts, Replaces, Removes}
 use Rattle.mont_base.specs.declared.effect.Thing.{Thing}
 use Rattle.mont_base.specs.declared.effect.Thing.TheVariants.{Pair, Item, Vertex}
-use Rattle.mont_base.specs.declared.operation.Entry.{Entry}
 use Rattle.mont_base.specs.declared.operation.Op.{Op}
 use Rattle.mont_base.specs.declared.operation.Op.TheVariants as ops
-use Rattle.mont_base.specs.History.{state_after}
 use Rattle.mont_base.specs.State.{State, MapOf, QueueOf, GraphOf, Graph, Ends, Pairs, Key, Value, step, set_effects, map_del, queue_deq, del_vertex, add_edge, del_edge, edge_thing, edges_at, can_join}
 use Rattle.structure_call.specs.Calling.{is_insertion}
-use Rattle.structure_call.specs.Counting.{insertions}
 
 counted_cons : (e : Effect) (es : List Effect) → count_by is_insertion (e ∷ es) ≡ cond (is_insertion e) 1 0 + count_by is_insertion es
 counted_cons e es = sum_by-cons (λ (x : Effect). cond (is_insertion x) 1 0) e es
@@ -68,9 +65,3 @@ few_inserted (GraphOf g) (ops.DelV unit vertex) = none_isolated g vertex (finite
 few_inserted (GraphOf g) (ops.AddE unit from to attribute) = one_joined g (from, to) attribute (can_join g.vertices (from, to))
 few_inserted (GraphOf g) (ops.DelE unit from to) = none_cut g (from, to) (finite.get g.edges (from, to))
 few_inserted (GraphOf g) _ = omega arith
-
--- one entry more
-pub insertions_more : (s : State) (es : List Entry) (e : Entry)
-    → insertions s (es ++ e ∷ []) ≡ insertions s es + count_by is_insertion (step (state_after s es) e.op).effects
-insertions_more s [] e = omega arith
-insertions_more s (d ∷ es) e = let more = insertions_more (step s d.op).state es e in omega arith

@@ -1,7 +1,7 @@
 -- Each item that comes into a queue is given one serial.
 use Rattle.std.proofs.Common.{◌≡◌, ℕ, ◌+◌, ◌≤◌, Bool, true, false, cond, List, [], ◌∷◌, refl, sym, ap, ◌∙◌, arith}
-use Rattle.std.specs.Prelude.{◌&&◌, count_by}
-use Rattle.std.specs.List.{AllZip}
+use Rattle.std.specs.Prelude.{◌&&◌, ◌||◌, count_by}
+use Rattle.std.specs.List.{AllZip, list_any}
 use Rattle.std.proofs.lemmas.List.Sums.{sum_by-cons}
 use Rattle.mont_base.specs.declared.effect.Effect.{Effect}
 use Rattle.mont_base.specs.declared.effect.Effect.TheVariants.{Inserts, Replaces, Removes}
@@ -80,6 +80,21 @@ module _ (b : BooksShown) (kept : List Held) (queue : Bool) (of_kind : is_of_kin
   next_given (Replaces thing) c h is = absurd (cc)
   next_given (Removes thing) c h is = absurd (cc)
   next_given _ _ h is = absurd h
+
+  -- an item comes in where a change is given a serial
+  pub some_enqueued : (es : List Effect) (cs : List Change) → AllFit queue es → AllZip (Makes b kept) es cs
+      → list_any has cs ≡ true → 1 ≤ count_by is_enqueuing es
+  some_enqueued [] [] fit h adds = absurd (cc)
+  some_enqueued [] (c ∷ cs) fit h adds = absurd h
+  some_enqueued (e ∷ es) [] fit h adds = absurd h
+  some_enqueued (e ∷ es) (c ∷ cs) fit h adds =
+      by (is_enqueuing e) (enqueuing_has e c fit.0 h.0) (counted_first is_enqueuing e es) (some_enqueued es cs fit.1 h.1)
+    where
+      by : (t : Bool) → has c ≡ t → count_by is_enqueuing (e ∷ es) ≡ cond t 1 0 + count_by is_enqueuing es
+          → (list_any has cs ≡ true → 1 ≤ count_by is_enqueuing es) → 1 ≤ count_by is_enqueuing (e ∷ es)
+      by true is many rest = omega (arith, many)
+      by false is many rest =
+          let low = rest (sym (ap (λ (t : Bool). t || list_any has cs) is) ∙ adds) in omega (arith, many, low)
 
   -- the serial that comes next behind the first change
   next_behind : (next : ℕ) (e : Effect) (c : Change) (cs : List Change) (t : Bool) → FitsKind queue e → Makes b kept e c

@@ -1,56 +1,143 @@
--- How far the identities of a unit have come since its store was opened.
-use Rattle.std.specs.Prelude.{◌≡◌, ℕ, ◌+◌, ◌≤◌, List, [], ◌∷◌, count_by, None}
+-- How far the numbers of a unit have come since its store was opened.
+use Rattle.std.specs.Prelude.{◌≡◌, ℕ, ◌+◌, ◌<◌, ◌≤◌, Bool, true, false, List, [], ◌∷◌, map, length, Any, count_by, Some, None, if◌then◌else◌}
+use Rattle.std.proofs.Props.{props}
+use Rattle.std.specs.Coded.{Coded-set, coded_ℕ}
 use Rattle.mont_base.specs.declared.constants.TheConstants.{LAST}
+use Rattle.mont_base.specs.declared.effect.Effect.{Effect}
+use Rattle.mont_base.specs.declared.effect.Effect.TheVariants.{Inserts, Replaces, Removes}
+use Rattle.mont_base.specs.declared.effect.Thing.{Thing}
+use Rattle.mont_base.specs.declared.effect.Thing.TheVariants.{Pair, Item, Vertex, Edge}
+use Rattle.mont_base.specs.declared.kinds.UnitKind.{UnitKind}
+use Rattle.mont_base.specs.declared.kinds.UnitKind.TheVariants as kinds
 use Rattle.mont_base.specs.declared.operation.Entry.{Entry}
 use Rattle.mont_base.specs.declared.operation.Op.{Op}
 use Rattle.mont_base.specs.declared.operation.Receipt.{Receipt}
+use Rattle.mont_base.specs.declared.record.Held.{Held}
+use Rattle.mont_base.specs.declared.record.Object.{Object}
 use Rattle.mont_base.specs.declared.refusal.CallRefusal.{CallRefusal}
 use Rattle.mont_base.specs.declared.refusal.CallRefusal.TheVariants.{CountEnd}
+use Rattle.mont_base.specs.declared.refusal.Which.{Which}
 use Rattle.mont_base.specs.declared.refusal.Which.TheVariants as ends
 use Rattle.mont_base.specs.History.{state_after}
 use Rattle.mont_base.specs.Image.{clock_of, records_of, IsRecovered}
+use Rattle.mont_base.specs.Layout.{Shape, kind_of}
 use Rattle.mont_base.specs.State.{State, step}
+use Rattle.mont_base.specs.Structure.{has_key, has_vertex, has_edge}
+use Rattle.mont_base.specs.Versions.{live_objects, object_of}
+use Rattle.mont_laws.specs.Records.{live_of}
+use Rattle.core_steps.specs.declared.parts.CallerPart.{CallerPart}
 use Rattle.core_steps.specs.Opened.{opened_at}
 use Rattle.core_steps.specs.Sound.{base_state}
 use Rattle.heap.specs.HeapShown.{HeapShown, CallerShown}
-use Rattle.slots.specs.Beginning.{greatest, identities_in}
+use Rattle.slots.specs.Beginning.{BeginsWith, greatest, identities_in, live_serials, serial_at_first, fresh_books, first_books}
 use Rattle.slots.specs.Books.{RegionShown}
-use Rattle.structure_call.specs.Calling.{HasAnsweredCall, HasEnd, LeavesCall, is_insertion}
+use Rattle.structure_call.specs.Calling.{HasAnsweredCall, HasEnd, LeavesCall, is_insertion, is_enqueuing}
 
--- so many objects were inserted by entries, from a state on
+-- ---- what the entries of a unit did
+-- the sum of what is counted of the effects of each entry, from a state on
+abbrev pub sum_over : (List Effect → ℕ) → State → List Entry → ℕ
+sum_over count s [] = 0
+sum_over count s (e ∷ es) =
+    count (step s e.op).effects + sum_over count (step s e.op).state es
+
 abbrev pub insertions : State → List Entry → ℕ
-insertions s [] = 0
-insertions s (e ∷ es) =
-    count_by is_insertion (step s e.op).effects + insertions (step s e.op).state es
+insertions base history = sum_over (count_by is_insertion) base history
 
--- the greatest identity of the records that the unit was opened with, and 0 without one
+abbrev pub enqueued : State → List Entry → ℕ
+enqueued base history = sum_over (count_by is_enqueuing) base history
+
+abbrev pub changes_made : State → List Entry → ℕ
+changes_made base history = sum_over length base history
+
+-- what an operation would do behind them
+abbrev pub effects_behind : State → List Entry → Op → List Effect
+effects_behind base history op = (step (state_after base history) op).effects
+
+-- ---- what the unit was opened with
+abbrev pub records_opened : HeapShown → ℕ → List Held
+records_opened heap unit = records_of heap.opening.layout heap.opening.words unit
+
+abbrev pub objects_opened : HeapShown → ℕ → List Object
+objects_opened heap unit = live_objects (records_opened heap unit)
+
+-- the greatest identity of the records, and 0 without one
 abbrev pub greatest_opened : HeapShown → ℕ → ℕ
-greatest_opened heap unit =
-    greatest (identities_in (records_of heap.opening.layout heap.opening.words unit))
+greatest_opened heap unit = greatest (identities_in (records_opened heap unit))
 
--- the state that the unit was opened with
 abbrev pub opened_with : HeapShown → List State → ℕ → State
 opened_with heap states unit = base_state (opened_at (clock_of heap.opening.words) states) unit
 
--- Unless a caller was cut in the unit, it has given one identity to each object that an entry
--- inserted, and none besides.
+-- ---- versions of a thing
+abbrev pub kind_of_thing : Thing → UnitKind
+kind_of_thing (Pair key value) = kinds.Map
+kind_of_thing (Item item) = kinds.Queue
+kind_of_thing (Vertex vertex attribute) = kinds.Graph
+kind_of_thing (Edge from to attribute) = kinds.Graph
+
+-- the object is a version of the thing; in a queue any item will do
+abbrev pub is_version_of : Thing → Object → Bool
+is_version_of (Pair key value) o = has_key key o
+is_version_of (Item item) o = true
+is_version_of (Vertex vertex attribute) o = has_vertex vertex o
+is_version_of (Edge from to attribute) o = has_edge (from, to) o
+
+abbrev pub version_if : Thing → Object → ℕ
+version_if thing o = if is_version_of thing o then o.version else 0
+
+-- the version that the thing has among objects, and 0 where it has none
+abbrev pub version_among : List Object → Thing → ℕ
+version_among objects thing = greatest (map (version_if thing) objects)
+
+-- A live record's version is above that which its thing had at first by so many at most.
+abbrev pub AreVersionsWithin : Shape → ℕ → List Object → ℕ → List Held → Type 0
+AreVersionsWithin s unit objects changes records =
+    (thing : Thing) → kind_of s unit ≡ Some (kind_of_thing thing)
+    → (identity : ℕ) (r : Held) → live_of identity records ≡ Some r
+    → is_version_of thing (object_of r) ≡ true
+    → r.label.version ≤ version_among objects thing + changes
+
+-- ---- the numbers of a unit
+-- Each object that an entry inserted was given an identity, and each item a serial, and none
+-- besides; and each change made a version later by one.
+pub record IsCountedFrom (heap : HeapShown) (r : RegionShown) (base : State) : Type 0 where
+  pub identity : r.books.identity
+      ≡ greatest_opened heap r.books.unit + insertions base r.seat.held.part.history + 1
+  pub versions : AreVersionsWithin heap.opening.layout r.books.unit
+      (objects_opened heap r.books.unit) (changes_made base r.seat.held.part.history)
+      r.seat.held.part.records
+  pub serial : r.books.serial
+      ≡ serial_at_first heap.opening.layout r.books.unit (records_opened heap r.books.unit)
+      + enqueued base r.seat.held.part.history
+
+-- Unless a caller was cut in the unit, its numbers are counted from the state that it was opened
+-- with, by whatever states recovery gives.
 abbrev pub HasCounted : HeapShown → RegionShown → Type 0
 HasCounted heap r =
     r.books.halted ≡ None → (states : List State)
     → IsRecovered heap.opening.layout heap.opening.words states
-    → r.books.identity
-    ≡ greatest_opened heap r.books.unit
-    + insertions (opened_with heap states r.books.unit) r.seat.held.part.history + 1
+    → IsCountedFrom heap r (opened_with heap states r.books.unit)
+
+-- they are in one way at most
+pub counted_once : (heap : HeapShown) (r : RegionShown) → IsProp (HasCounted heap r)
+counted_once heap r = hlevel (props, Coded-set coded_ℕ)
 
 -- ---- laws
--- it has, where nothing was answered yet
-abbrev pub OpenedAreCounted : Type 0
-OpenedAreCounted =
+-- a unit that begins with nothing, or with what recovery found, has counted
+abbrev pub FreshAreCounted : Type 0
+FreshAreCounted =
     (heap : HeapShown) (r : RegionShown)
-    → r.books.identity ≡ greatest_opened heap r.books.unit + 1 → r.seat.held.part.history ≡ []
+    → records_opened heap r.books.unit ≡ []
+    → r.books ≡ fresh_books heap.opening.layout r.books.unit → BeginsWith r.seat.held.part [] []
     → HasCounted heap r
 
--- and after each call
+abbrev pub RecoveredAreCounted : Type 0
+RecoveredAreCounted =
+    (heap : HeapShown) (r : RegionShown) (lost : List ℕ)
+    → r.books
+    ≡ first_books heap.opening.layout r.books.unit (records_opened heap r.books.unit) lost
+    → BeginsWith r.seat.held.part (records_opened heap r.books.unit) lost → HasCounted heap r
+
+-- and so it has after each call
 abbrev pub AnswersAreCounted : Type 0
 AnswersAreCounted =
     (heap : HeapShown) (old new : RegionShown) (q r : CallerShown) (op : Op) (receipt : Receipt)
@@ -63,18 +150,48 @@ RefusalsAreCounted =
     → old.books.halted ≡ None → LeavesCall heap old new q r op why → HasCounted heap old
     → HasCounted heap new
 
+-- ---- numbers at their end
 -- The operation would insert an object, and there is no identity for it.
 pub record LacksIdentity (heap : HeapShown) (r : RegionShown) (op : Op) (base : State)
     : Type 0 where
-  pub inserts : 1 ≤ count_by is_insertion
-      (step (state_after base r.seat.held.part.history) op).effects
+  pub inserts : 1 ≤ count_by is_insertion (effects_behind base r.seat.held.part.history op)
   pub none_left : LAST
       ≤ greatest_opened heap r.books.unit + insertions base r.seat.held.part.history
 
-abbrev pub IdentitiesEnd : Type 0
-IdentitiesEnd =
-    (heap : HeapShown) (old new : RegionShown) (q r : CallerShown) (op : Op)
+-- the effect would make a later version of its thing, and there is none
+abbrev pub LacksVersion : List Object → ℕ → Effect → Type 0
+LacksVersion objects changes (Inserts thing) = ⊥
+LacksVersion objects changes (Replaces thing) = LAST ≤ version_among objects thing + changes
+LacksVersion objects changes (Removes thing) = LAST ≤ version_among objects thing + changes
+
+abbrev pub LacksVersions : HeapShown → RegionShown → Op → State → Type 0
+LacksVersions heap r op base =
+    Any
+    (LacksVersion (objects_opened heap r.books.unit)
+    (changes_made base r.seat.held.part.history))
+    (effects_behind base r.seat.held.part.history op)
+
+-- The operation would add an item, and there is no serial for it.
+pub record LacksSerial (heap : HeapShown) (r : RegionShown) (op : Op) (base : State)
+    : Type 0 where
+  pub of_queue : kind_of heap.opening.layout r.books.unit ≡ Some kinds.Queue
+  pub adds : 1 ≤ count_by is_enqueuing (effects_behind base r.seat.held.part.history op)
+  pub none_left : LAST
+      ≤ greatest (live_serials (records_opened heap r.books.unit))
+      + enqueued base r.seat.held.part.history
+
+-- what a caller or its unit lacks
+abbrev pub LacksNumber : HeapShown → RegionShown → CallerPart → Op → State → Which → Type 0
+LacksNumber heap r q op base ends.Call = LAST < q.calls
+LacksNumber heap r q op base ends.Place = LAST < r.books.places
+LacksNumber heap r q op base ends.Identity = LacksIdentity heap r op base
+LacksNumber heap r q op base ends.Version = LacksVersions heap r op base
+LacksNumber heap r q op base ends.Serial = LacksSerial heap r op base
+
+abbrev pub NumbersEnd : Type 0
+NumbersEnd =
+    (heap : HeapShown) (old new : RegionShown) (q r : CallerShown) (op : Op) (which : Which)
     → old.books.layout ≡ heap.opening.layout
-    → HasEnd heap old new q r op (CountEnd ends.Identity) → HasCounted heap old
+    → HasEnd heap old new q r op (CountEnd which) → HasCounted heap old
     → (states : List State) → IsRecovered heap.opening.layout heap.opening.words states
-    → LacksIdentity heap old op (opened_with heap states old.books.unit)
+    → LacksNumber heap old q.held.part op (opened_with heap states old.books.unit) which

@@ -1,12 +1,18 @@
-// Each call counts the identities that it gives.
-ghost use Rattle.structure_call.specs.Counting.{OpenedAreCounted, AnswersAreCounted, RefusalsAreCounted, IdentitiesEnd};
+// Each call counts the numbers that it gives.
+ghost use Rattle.structure_call.specs.Counting.{FreshAreCounted, RecoveredAreCounted, AnswersAreCounted, RefusalsAreCounted, NumbersEnd};
 
-/// A unit that has answered nothing has given no identity.
-pub fn opened_units_are_counted()
-    ensures { OpenedAreCounted }
+/// A unit of a store that was never used has given no number.
+pub fn fresh_units_are_counted()
+    ensures { FreshAreCounted }
 {}
 
-/// A call that is answered gives one identity to each object that it inserts.
+/// The next numbers of a unit that was recovered are those behind the records that were found.
+pub fn recovered_units_are_counted()
+    ensures { RecoveredAreCounted }
+{}
+
+/// A call that is answered gives one identity to each object that it inserts, one serial to each
+/// item that it adds, and one version to each thing that it changes.
 pub fn answers_are_counted()
     ensures { AnswersAreCounted }
 {}
@@ -16,8 +22,8 @@ pub fn refusals_are_counted()
     ensures { RefusalsAreCounted }
 {}
 
-/// Where identities are at their end, the records that the store was opened with and the entries
-/// since then have used all of them.
-pub fn identities_end()
-    ensures { IdentitiesEnd }
+/// Where a number is at its end, what the store was opened with and the entries since then have
+/// used all of them.
+pub fn numbers_end()
+    ensures { NumbersEnd }
 {}

@@ -10,5 +10,6 @@ mod refusing;
 pub use carrying::{Carried, carry_out};
 pub use checking::{check_numbers, check_running};
 pub use counting::{
-    answers_are_counted, identities_end, opened_units_are_counted, refusals_are_counted,
+    answers_are_counted, fresh_units_are_counted, numbers_end, recovered_units_are_counted,
+    refusals_are_counted,
 };
