@@ -1,5 +1,5 @@
 -- A call keeps the count of the numbers that were given.
-use Rattle.std.proofs.Common.{◌≡◌, ℕ, ◌+◌, ◌-◌, ◌<◌, Bool, true, false, cond, List, [], ◌∷◌, ◌++◌, length, refl, sym, ap, ◌∙◌, subst, arith}
+use Rattle.std.proofs.Common.{◌≡◌, ℕ, ◌+◌, ◌-◌, ◌<◌, Bool, true, false, cond, List, [], length, refl, sym, ap, ◌∙◌, subst, arith}
 use Rattle.std.specs.Prelude.{◌&&◌, nat_lt, Option, Some, None, count_by}
 use Rattle.std.specs.List.{AllZip, list_any}
 use Rattle.std.proofs.lemmas.Bool.Decides.{nat_tests}
@@ -19,19 +19,18 @@ use Rattle.mont_base.specs.declared.refusal.Which.{Which}
 use Rattle.mont_base.specs.declared.refusal.Which.TheVariants as ends
 use Rattle.mont_base.specs.History.{state_after}
 use Rattle.mont_base.specs.Image.{IsRecovered}
-use Rattle.mont_base.specs.Layout.{Shape, kind_of, is_of_kind}
+use Rattle.mont_base.specs.Layout.{Shape, is_of_kind}
 use Rattle.mont_base.specs.State.{State, MapOf, QueueOf, GraphOf, is_state_of, step}
-use Rattle.mont_laws.specs.Records.{live_of}
 use Rattle.mont_laws.specs.Structures.{HasStructure, kind_of_state}
 use Rattle.mont_laws.proofs.Shown.{one_state}
 use Rattle.core_steps.specs.declared.parts.CallerPart.{CallerPart}
 use Rattle.heap.specs.HeapShown.{HeapShown, CallerShown}
 use Rattle.op_guard.specs.Regions.{KeepsUnit}
-use Rattle.slots.specs.Beginning.{BeginsWith, greatest, identities_in, live_serials, serial_at_first}
+use Rattle.slots.specs.Beginning.{greatest, identities_in, live_serials, serial_at_first}
 use Rattle.slots.specs.Books.{BooksShown, RegionShown}
 use Rattle.slots.specs.Changes.{ends_version, inserts}
 use Rattle.slots.specs.Serials.{is_queue}
-use Rattle.structure_call.specs.Calling.{HasAnsweredCall, HasEnd, is_insertion, is_enqueuing}
+use Rattle.structure_call.specs.Calling.{HasAnsweredCall, is_insertion, is_enqueuing}
 use Rattle.structure_call.specs.Counting.{HasCounted, IsCountedFrom, AreVersionsWithin, FreshAreCounted, RecoveredAreCounted, AnswersAreCounted, RefusalsAreCounted, LacksIdentity, LacksVersions, LacksSerial, LacksNumber, NumbersEnd, sum_over, insertions, enqueued, changes_made, greatest_opened, objects_opened, opened_with, records_opened}
 use Rattle.structure_call.specs.Planning.{IsPlan, Makes, adds_item, first_at_end}
 use Rattle.structure_call.specs.Standing.{ShowsHistory}
@@ -254,10 +253,10 @@ module _ (heap : HeapShown) (old : RegionShown) (q : CallerPart) (op : Op) (repl
   lacks_serial adds above =
       let queue : is_queue old.books.layout old.books.unit ≡ true = queue_of old.books.layout old.books.unit changes adds in
       let here : is_queue heap.opening.layout old.books.unit ≡ true
-          = ap (λ (s : Shape). is_queue s old.books.unit) (sym layout) ∙ queue in
+      = ap (λ (s : Shape). is_queue s old.books.unit) (sym layout) ∙ queue in
       let first : serial_at_first heap.opening.layout old.books.unit (records_opened heap old.books.unit)
-          ≡ greatest (live_serials (records_opened heap old.books.unit)) + 1
-          = ap (λ (t : Bool). cond t (greatest (live_serials (records_opened heap old.books.unit)) + 1) 1) here in
+      ≡ greatest (live_serials (records_opened heap old.books.unit)) + 1
+      = ap (λ (t : Bool). cond t (greatest (live_serials (records_opened heap old.books.unit)) + 1) 1) here in
       let serial = counted.serial in
       record {
         of_queue = shown.of_unit ∙ ap Some (kind_is_queue reached

@@ -1,5 +1,5 @@
 -- The things that effects name are versions of those that their records hold.
-use Rattle.std.proofs.Common.{◌≡◌, ℕ, Bool, true, false, cond, List, [], ◌∷◌, ◌++◌, map, refl, sym, ap, ◌∙◌, subst, arith}
+use Rattle.std.proofs.Common.{◌≡◌, ℕ, Bool, true, false, cond, List, [], ◌∷◌, ◌++◌, map, refl, sym, ap, ◌∙◌, arith}
 use Rattle.std.specs.Prelude.{◌&&◌, ◌==◌, Option, Some, None, slice_index}
 use Rattle.std.specs.Ordering.{nat_cmp, eq_by_cmp}
 use Rattle.std.specs.FinMap as finite
@@ -14,7 +14,7 @@ use Rattle.mont_base.specs.declared.kinds.UnitKind.TheVariants as kinds
 use Rattle.mont_base.specs.declared.operation.Op.{Op}
 use Rattle.mont_base.specs.declared.operation.Op.TheVariants as ops
 use Rattle.mont_base.specs.declared.record.Held.{Held}
-use Rattle.mont_base.specs.Bodies.{pair_in, vertex_in, edge_in, pair_body, vertex_body, edge_body, is_vertex_body, is_edge_body, is_clean}
+use Rattle.mont_base.specs.Bodies.{pair_in, vertex_in, edge_in, is_vertex_body, is_edge_body, is_clean}
 use Rattle.mont_base.specs.State.{State, MapOf, QueueOf, GraphOf, Graph, Ends, Pairs, Key, Value, key_cmp, edge_cmp, step, set_effects, map_del, queue_deq, del_vertex, add_edge, del_edge, edge_thing, edges_at, can_join}
 use Rattle.mont_base.specs.Structure.{names}
 use Rattle.mont_base.specs.Texts.{IsText}

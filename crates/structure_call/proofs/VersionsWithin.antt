@@ -1,5 +1,5 @@
 -- Each change makes a version later by one at most.
-use Rattle.std.proofs.Common.{◌≡◌, ℕ, ◌+◌, ◌≤◌, ◌<◌, ◌⊎◌, inl, inr, Bool, true, false, cond, suc, List, [], ◌∷◌, ◌++◌, length, map, get_or, refl, sym, ap, ◌∙◌, subst, arith}
+use Rattle.std.proofs.Common.{◌≡◌, ℕ, ◌+◌, ◌≤◌, ◌⊎◌, inl, inr, Bool, true, false, cond, suc, List, [], ◌∷◌, ◌++◌, length, map, refl, sym, ap, ◌∙◌, subst, arith}
 use Rattle.std.specs.Prelude.{◌||◌, nat_lt, nat_le, max, fold, Any, Option, Some, None}
 use Rattle.std.specs.List.{AllZip, Contains, list_any}
 use Rattle.std.proofs.lemmas.Bool.Decides.{nat_tests}
@@ -12,12 +12,11 @@ use Rattle.mont_base.specs.declared.kinds.UnitKind.{UnitKind}
 use Rattle.mont_base.specs.declared.record.Change.{Change}
 use Rattle.mont_base.specs.declared.record.Change.TheVariants.{Insert, Replace, Remove}
 use Rattle.mont_base.specs.declared.record.Held.{Held}
-use Rattle.mont_base.specs.declared.record.Kind.{Kind}
 use Rattle.mont_base.specs.declared.record.Object.{Object}
 use Rattle.mont_base.specs.Layout.{Shape, kind_of}
 use Rattle.mont_base.specs.Versions.{is_delete, later_of, live_objects, newest_of, object_of}
 use Rattle.mont_laws.specs.Effects.{IsEffect, AreEffects}
-use Rattle.mont_laws.specs.Records.{live_of, live_if}
+use Rattle.mont_laws.specs.Records.{live_of}
 use Rattle.mont_laws.proofs.Edits.{live_facts, live_from}
 use Rattle.mont_laws.proofs.LiveObjects.{live_records, record_live}
 use Rattle.mont_laws.proofs.Members.{no_element, first_element, later_element, element_cases}
