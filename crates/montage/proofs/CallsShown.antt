@@ -14,13 +14,13 @@ use Rattle.mont_base.specs.declared.refusal.CallRefusal.{CallRefusal}
 use Rattle.mont_base.specs.declared.refusal.CallRefusal.TheVariants.{Halted, CountEnd, Memory, Full, Cut}
 use Rattle.mont_base.specs.declared.refusal.Which.{Which}
 use Rattle.mont_base.specs.Image.{clock_of, IsRecovered}
-use Rattle.mont_base.specs.Layout.{Shape, kind_of}
+use Rattle.mont_base.specs.Layout.{Shape}
 use Rattle.mont_base.specs.Room.{room_of}
 use Rattle.mont_base.specs.Seen.{ContinuesView}
 use Rattle.mont_base.specs.State.{State, step, unit_of_op}
 use Rattle.mont_base.specs.History.{state_after}
 use Rattle.mont_laws.specs.Effects.{IsOpOf}
-use Rattle.mont_laws.specs.Structures.{HasStructure, kind_of_state}
+use Rattle.mont_laws.specs.Structures.{HasStructure}
 use Rattle.mont_laws.proofs.Shown.{one_state}
 use Rattle.job_text.specs.Causes.{effects_then}
 use Rattle.core_steps.specs.declared.parts.CallerPart.{CallerPart}
@@ -37,14 +37,16 @@ use Rattle.slots.specs.Books.{RegionShown}
 use Rattle.op_guard.specs.Guarding.{HasNoted, IsFull}
 use Rattle.structure_call.specs.Calling.{HasAnsweredCall, HasEnd, IsUncarried, LeavesCall, was_checked}
 use Rattle.structure_call.specs.Checking.{WasNoted, MayBeCalled}
+use Rattle.structure_call.specs.Counting.{HasCounted}
 use Rattle.structure_call.specs.Planning.{IsPlan, Makes}
 use Rattle.structure_call.specs.Standing.{IsStanding, ShowsHistory}
+use Rattle.structure_call.proofs.Counted.{numbers_end}
 use Rattle.structure_call.proofs.SoundHistories.{sound_shows, shows_before}
 use Rattle.caller.specs.Telling.{has_mark}
 use Rattle.caller.proofs.TakenNotes.{joined_has, or_right}
 use Rattle.montage.specs.StoreCalls.{RepliesBehind, HasContinued, IsAnswered, KeepsAnswers, NeedsRoom, NeedsNumber, HasLearntWhy, IsRefused}
 use Rattle.montage.specs.UnitAt.{IsSeated}
-use Rattle.montage.proofs.NumbersAsked.{asks_for}
+use Rattle.montage.proofs.NumbersAtEnd.{number_at_end}
 
 -- ---- an answer
 module _ (heap : HeapShown) (before behind : RegionShown) (q r : CallerShown) (op : Op) (receipt : Receipt)
@@ -156,20 +158,15 @@ module _ (heap : HeapShown) (before behind : RegionShown) (q r : CallerShown) (o
         sym (AllZip-long (Makes before.books before.seat.held.part.records) (effects_then opened before.seat.held.part.history op) changes
         makes)
 
-    of_kind : kind_of before.books.layout before.books.unit ≡ Some (kind_of_state led)
-    of_kind = plan.shown.of_unit ∙ ap (λ (s : State). Some (kind_of_state s)) planned
-
-  module _ (stood : IsStanding heap before) where
+  module _ (stood : IsStanding heap before) (counted : HasCounted heap before) where
     needs_number : (which : Which) → HasEnd heap before behind q r op (CountEnd which) → NeedsNumber heap before.books.unit q r op which
     needs_number which k =
-        let w = k.ends.1 in
-        let showed = subst (ShowsHistory heap) w.same w.showed in record {
+        let w = k.ends.1 in record {
           history = before.seat.held.part.history;
           kept = w.entries ∙ ap (λ (x : RegionShown). Some x.seat.held.part.history) w.same;
           cause = λ states recovered.
-              asks_for q.held.part before op k.changes (opened stood k.reply k.changes k.plan states recovered showed)
-              before.seat.held.part.history seated.places (of_kind stood k.reply k.changes k.plan states recovered showed)
-              (makes stood k.reply k.changes k.plan states recovered showed) which k.ends.0;
+              number_at_end heap before q.held.part op seated stood.of_heap.layout states recovered which
+              (numbers_end heap before behind q r op which stood.of_heap.layout k counted states recovered);
         }
 
     needs_room : (need free clock : ℕ) → IsUncarried heap before behind q r op (Full need free clock)
@@ -211,7 +208,7 @@ module _ (heap : HeapShown) (before behind : RegionShown) (q r : CallerShown) (o
 
 -- ---- what a call answers
 module _ (heap : HeapShown) (number : ℕ) (before behind : RegionShown) (q r : CallerShown) (op : Op)
-    (of_unit : before.books.unit ≡ number) (stood : IsStanding heap before) (seated : IsSeated before)
+    (of_unit : before.books.unit ≡ number) (stood : IsStanding heap before) (counted : HasCounted heap before) (seated : IsSeated before)
     (result : Result Receipt CallRefusal) (checked : was_checked result ≡ true → MayBeCalled q before op) where
   pub call_answered : IfOk result (λ (receipt : Receipt). HasAnsweredCall heap before behind q r op receipt)
       → IfOk result (λ (receipt : Receipt). IsAnswered heap q r op receipt)
@@ -243,7 +240,7 @@ module _ (heap : HeapShown) (number : ℕ) (before behind : RegionShown) (q r : 
       refused_by (Err why) may k = record {
         unit = before.books.unit;
         named = is_op.of_unit ∙ ap Some (sym of_unit);
-        learnt = learnt_why heap before behind q r op seated stood why k;
+        learnt = learnt_why heap before behind q r op seated stood counted why k;
         before = before;
         behind = behind;
         of_unit = refl;

@@ -7,7 +7,7 @@ use Rattle.std.proofs.lemmas.List.{length-replicate}
 use Rattle.std.proofs.lemmas.List.Elements.{All-nil, All-push}
 use Rattle.mont_base.specs.declared.constants.TheConstants.{FIRST_CLOCK}
 use Rattle.mont_base.specs.declared.record.Held.{Held}
-use Rattle.mont_base.specs.Image.{clock_of, empty_states, IsRecovered}
+use Rattle.mont_base.specs.Image.{clock_of, empty_states, records_of, IsRecovered}
 use Rattle.mont_base.specs.State.{State}
 use Rattle.mont_base.specs.Layout.{Shape, IsLayout, units_of}
 use Rattle.core_steps.specs.declared.parts.UnitPart.{UnitPart}
@@ -27,7 +27,9 @@ use Rattle.heap_rule.specs.declared.views.UnitHeld.{UnitHeld}
 use Rattle.mont_laws.specs.Records.{live_of}
 use Rattle.slots.specs.Beginning.{BeginsWith, fresh_books}
 use Rattle.slots.specs.Books.{RegionShown, BooksShown, Agrees}
+use Rattle.structure_call.specs.Counting.{HasCounted, records_opened}
 use Rattle.structure_call.specs.Standing.{IsIdle, IsStanding}
+use Rattle.structure_call.proofs.Counted.{fresh_are_counted}
 use Rattle.montage.specs.FreshStore.{IsFirstSeat, AreFirstSeats, AreUnitsFrom, IsFreshHeap, IsNeverUsed}
 use Rattle.montage.specs.declared.unit_at.Structure.{Structure}
 use Rattle.montage.specs.Store.{AreAllCallers}
@@ -212,11 +214,24 @@ module _ (heap : HeapShown) (unit : ℕ) (s : UnitShown) (unused : IsNeverUsed h
     pub first_of_unit : r.books.unit ≡ unit
     first_of_unit = ap (λ (b : BooksShown). b.unit) books
 
+    -- nothing was stored in it
+    none_opened : records_opened heap unit ≡ []
+    none_opened =
+        ap (λ (o : Opening). records_of o.layout o.words unit) unused
+        ∙ ap (λ (p : UnitPart). p.records) (is_fresh heap.opening.layout layout heap.opening.callers unit k.inside)
+
+    first_counted : HasCounted heap r
+    first_counted =
+        fresh_are_counted heap r (ap (records_opened heap) first_of_unit ∙ none_opened)
+        (books ∙ ap (fresh_books heap.opening.layout) (sym first_of_unit))
+        (subst (λ (x : UnitShown). BeginsWith x.held.part [] []) (sym seat) seat_begins)
+
     pub first_stands_at : {I : Type 0} → Agrees r → (s : Structure I) → region_of s ≡ r → StandsAt heap unit s
     first_stands_at agrees s same = record {
       of_unit = ap (λ (x : RegionShown). x.books.unit) same ∙ first_of_unit;
       seated = subst IsSeated (sym same) (seated_by r agrees);
       stands = subst (IsStanding heap) (sym same) first_stands;
+      counted = subst (HasCounted heap) (sym same) first_counted;
     }
 
 -- ---- the advancer, which may begin

@@ -1,6 +1,6 @@
 mod FirstSeats
 mod BoxesGiven
-mod NumbersAsked
+mod NumbersAtEnd
 mod CallsShown
 mod UnitStands
 mod Ticks

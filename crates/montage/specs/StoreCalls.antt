@@ -1,26 +1,29 @@
 -- What a call of a structure leaves of its caller, and what its refusals tell. The unit stands
 -- behind a lock, so a call names it as it found and left it.
-use Rattle.std.specs.Prelude.{◌≡◌, ℕ, ◌<◌, ◌≤◌, true, List, [], ◌∷◌, ◌++◌, length, slice_get, slice_set, Any, Some, IsSome, Err}
+use Rattle.std.specs.Prelude.{◌≡◌, ℕ, ◌<◌, ◌≤◌, true, List, [], ◌∷◌, ◌++◌, length, map, slice_get, slice_set, Some, Err}
 use Rattle.std.specs.declared.result.Result.{Result}
-use Rattle.mont_base.specs.declared.constants.TheConstants.{LAST}
+use Rattle.std.specs.List.{range_with_len}
 use Rattle.mont_base.specs.declared.operation.Entry.{Entry}
 use Rattle.mont_base.specs.declared.operation.Op.{Op}
 use Rattle.mont_base.specs.declared.operation.Receipt.{Receipt}
 use Rattle.mont_base.specs.declared.operation.Reply.{Reply}
+use Rattle.mont_base.specs.declared.record.Held.{Held}
 use Rattle.mont_base.specs.declared.refusal.CallRefusal.{CallRefusal}
 use Rattle.mont_base.specs.declared.refusal.CallRefusal.TheVariants.{Halted, CountEnd, Memory, Full, Cut}
 use Rattle.mont_base.specs.declared.refusal.Which.{Which}
-use Rattle.mont_base.specs.declared.refusal.Which.TheVariants as ends
 use Rattle.mont_base.specs.History.{state_after}
-use Rattle.mont_base.specs.Image.{clock_of, IsRecovered}
+use Rattle.mont_base.specs.Image.{clock_of, records_of, IsRecovered}
+use Rattle.mont_base.specs.Layout.{units_of}
 use Rattle.mont_base.specs.Room.{room_of}
 use Rattle.mont_base.specs.Seen.{ContinuesView}
 use Rattle.mont_base.specs.State.{State, step, unit_of_op}
-use Rattle.job_text.specs.Causes.{effects_then, LacksRoom, is_insertion, is_enq, renewed}
+use Rattle.job_text.specs.AnsweredLines.{records_in}
+use Rattle.job_text.specs.Causes.{effects_then, IsAtEnd, LacksRoom}
 use Rattle.core_steps.specs.Answering.{entry_of}
 use Rattle.core_steps.specs.CallerClauses.{view_of}
 use Rattle.core_steps.specs.Opened.{opened_at}
 use Rattle.core_steps.specs.Sound.{base_state}
+use Rattle.heap_rule.specs.declared.rule.Opening.{Opening}
 use Rattle.heap_rule.specs.Views.{caller_cut}
 use Rattle.heap.specs.HeapShown.{HeapShown, CallerShown}
 use Rattle.slots.specs.Books.{RegionShown}
@@ -101,19 +104,17 @@ NeedsRoom heap unit r op need free clock = HasLearntCause heap unit r (λ base h
     LacksRoom (length (effects_then base history op))
     (room_of heap.opening.layout.slots base history clock) need free)
 
--- Which numbers an operation asks for behind so many calls of its caller. The number of calls or
--- of entries is then above the last one.
-abbrev pub AsksFor : ℕ → Which → Op → State → List Entry → Type 0
-AsksFor calls ends.Call op base h = LAST < calls
-AsksFor calls ends.Place op base h = LAST < length h
-AsksFor calls ends.Identity op base h =
-    Any (λ e. is_insertion e ≡ true) (effects_then base h op)
-AsksFor calls ends.Version op base h = Any (λ e. IsSome (renewed e)) (effects_then base h op)
-AsksFor calls ends.Serial op base h = is_enq op ≡ true
+-- the records that each unit was opened with
+abbrev pub opened_records : Opening → List (List Held)
+opened_records o =
+    map (records_of o.layout o.words) (range_with_len 0 (units_of o.layout))
 
+-- The number was at its end then, behind so many calls of the caller, by the records that the unit
+-- was opened with and by its entries.
 abbrev pub NeedsNumber : HeapShown → ℕ → CallerShown → CallerShown → Op → Which → Type 0
 NeedsNumber heap unit q r op which =
-    HasLearntCause heap unit r (AsksFor q.held.part.calls which op)
+    HasLearntCause heap unit r
+    (IsAtEnd (records_in (opened_records heap.opening) unit) q.held.part.calls which op)
 
 -- what a refusal of an operation of the unit tells
 abbrev pub HasLearntWhy :
