@@ -51,7 +51,9 @@ shows a b word unit list made at holds announces kept =
       epoch_is = refl;
       begun = ⊎_elim (λ (z : word ≡ 0). absurd (told.0 z)) (λ (z : IsEpoch (word / 2)). z.low) announces;
       below = told.1;
-      below_durable = subst (λ (n : ℕ). word / 2 < n) (sym (ap (λ (x : AdvHeld). x.durable) (sym made) ∙ (kept ∙ ap (λ (x : AdvHeld). x.clock) made))) told.1;
+      below_durable =
+          subst (λ (n : ℕ). word / 2 < n)
+          (sym (ap (λ (x : AdvHeld). x.durable) (sym made) ∙ (kept ∙ ap (λ (x : AdvHeld). x.clock) made))) told.1;
       cut_is = refl;
       stays = ap (λ (b : Bool). cond b (past_unit a.units (unit_at_hand a.part)) (parts.Checking (unit_at_hand a.part))) holds;
       marked = λ e. marked a.odd (unit_at_hand a.part) word e;

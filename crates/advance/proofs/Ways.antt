@@ -78,8 +78,8 @@ reason_more Cut a b c l not h = tt
 reason_more ClockEnd a b c l not h = absurd (not refl)
 
 -- ---- the end
-pub rested_advanced : (o : Opening) (a b : AdvHeld) (n : ℕ) → b ≡ advancer_rested a → n ≡ a.clock → is_clocked a.part ≡ true → a.turn ≡ full_rest
-    → IsAhead o a → IsAdvanced a n b
+pub rested_advanced : (o : Opening) (a b : AdvHeld) (n : ℕ) → b ≡ advancer_rested a → n ≡ a.clock → is_clocked a.part ≡ true
+    → a.turn ≡ full_rest → IsAhead o a → IsAdvanced a n b
 rested_advanced o a b n made now moved turn h =
     subst (λ (z : ℕ × AdvHeld). IsAdvanced a z.0 z.1) (λ i. (sym now i, sym made i)) (record {
       ahead = sym (ahead_moved a moved);

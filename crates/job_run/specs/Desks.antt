@@ -12,8 +12,8 @@ abbrev pub empty_desk : {P : Type 0} → P → Desk P
 empty_desk p = record { pass = p; done = None }
 
 -- each has carried out what the job asks of it
-pub record AreLeft {P : Type 0} (o : Opening) (has : P → Type 0) (held : P → CallerHeld) (cuts : P → ℕ)
-    (endless : P → Bool) (job : Job) (olds news : List (Desk P)) : Type 0 where
+pub record AreLeft {P : Type 0} (o : Opening) (has : P → Type 0) (held : P → CallerHeld)
+    (cuts : P → ℕ) (endless : P → Bool) (job : Job) (olds news : List (Desk P)) : Type 0 where
   pub places : length news ≡ length olds
   pub each :
       (caller : ℕ) (old new : Desk P) → slice_get olds caller ≡ Some old

@@ -143,7 +143,7 @@ pub record IsHeldUp (r : CallerHeld) (unit epoch : ℕ) : Type 0 where
 -- what is known of an advance that was refused, once the caller has heard of it
 abbrev pub HasHeard : CallerHeld → AdvanceRefusal → Type 0
 HasHeard r (advances.NotYet unit epoch true) = IsHeldUp r unit epoch
-HasHeard r advances.ClockEnd = r.part.durable ≡ LAST
+HasHeard r advances.ClockEnd = LAST ≤ r.part.durable
 HasHeard r _ = Unit {0}
 
 -- All that the caller has seen is durable, by a clock that isn't below one that it knew.
@@ -154,7 +154,7 @@ pub record HasSynced (q r : CallerHeld) (clock : ℕ) : Type 0 where
 
 abbrev pub LeavesUnsynced : CallerHeld → SyncRefusal → Type 0
 LeavesUnsynced r (syncs.Stuck unit epoch) = IsHeldUp r unit epoch
-LeavesUnsynced r syncs.ClockEnd = r.part.durable ≡ LAST
+LeavesUnsynced r syncs.ClockEnd = LAST ≤ r.part.durable
 LeavesUnsynced r syncs.Cut = Unit {0}
 
 -- ---- cuts

@@ -76,7 +76,8 @@ step_names (MapOf m) _ texts = tt
 step_names (QueueOf items) (ops.Enq unit item) texts = (tt, tt)
 step_names (QueueOf items) (ops.Deq unit) texts = deq_names items
 step_names (QueueOf items) _ texts = tt
-step_names (GraphOf g) (ops.AddV unit vertex attribute) texts = set_names (finite.contains_key g.vertices vertex) (Vertex vertex attribute) tt
+step_names (GraphOf g) (ops.AddV unit vertex attribute) texts =
+    set_names (finite.contains_key g.vertices vertex) (Vertex vertex attribute) tt
 step_names (GraphOf g) (ops.DelV unit vertex) texts = del_vertex_names g vertex (finite.get g.vertices vertex)
 step_names (GraphOf g) (ops.AddE unit from to attribute) texts =
     add_edge_names g (from, to) attribute (can_join g.vertices (from, to))

@@ -12,8 +12,8 @@ use Rattle.slots.specs.Books.{RegionShown}
 use Rattle.structure_call.specs.Standing.{ShowsHistory}
 use Rattle.structure_call.specs.Planning.{IsPlan, first_at_end}
 
--- The unit is as it was, and the caller, whose entries of the unit stood first there, took a note of
--- it, so that it has seen all of them. The records show the state to which these lead.
+-- The unit is as it was, and the caller, whose entries of the unit stood first there, took a note
+-- of it, so that it has seen all of them. The records show the state to which these lead.
 pub record WasNoted
     (heap : HeapShown) (old new : RegionShown) (q r : CallerShown) : Type 0 where
   pub same : new ≡ old

@@ -4,7 +4,8 @@ use Rattle.pgraph_worked.proofs.TriedStores.{found_settled, objects_make}
 use Rattle.pgraph_worked.proofs.tests.reopen.Goals as goal
 
 pub recovered-requires-clause-found : goal.recovered-requires-clause-found
-recovered-requires-clause-found c = found_settled c.args.layout c.args.image.now c.deref-2.result.now (search rules) (sym c.requires.last) (search rules)
+recovered-requires-clause-found c =
+    found_settled c.args.layout c.args.image.now c.deref-2.result.now (search rules) (sym c.requires.last) (search rules)
     (c.deref-2.ensures.value ∙ c.in_ok-found.ensures)
 
 pub rebuild-requires-clause-structure : goal.rebuild-requires-clause-structure
