@@ -10,7 +10,7 @@ use Rattle.mont_base.specs.declared.operation.Entry.{Entry}
 use Rattle.mont_base.specs.declared.operation.Receipt.{Receipt}
 use Rattle.mont_base.specs.History.{IsLegal, state_after, cut_at}
 use Rattle.mont_base.specs.Image.{IsPermitted, IsWellFormed, clock_of, cut_of, records_of}
-use Rattle.mont_base.specs.Layout.{Shape, units_of}
+use Rattle.mont_base.specs.Layout.{Shape, units_of, words_of}
 use Rattle.mont_base.specs.Seen.{IsCallersOrder, IsEntryAt}
 use Rattle.mont_base.specs.State.{State, QueueOf}
 use Rattle.mont_base.specs.Structure.{IsStructure}
@@ -38,7 +38,7 @@ use Rattle.heap_rule.specs.declared.rule.Opening.{Opening}
 use Rattle.heap_rule.specs.Rule.{seen_in}
 use Rattle.heap.specs.HeapShown.{UnitShown, AdvShown, CallerShown}
 use Rattle.heap.specs.Stops.{StopsAt}
-use Rattle.store_stop.specs.Headline.{IsBaseOf, AreLegal, HasSeen, AreClocks, AreEpochsReached, IsCutAsMarked, IsSyncedIn, HoldsHistories, IsStopped, parts_shown}
+use Rattle.store_stop.specs.Headline.{IsBaseOf, AreLegal, HasSeen, AreClocks, AreEpochsReached, AreAllWords, IsCutAsMarked, IsSyncedIn, HoldsHistories, IsStopped, parts_shown}
 use Rattle.store_stop.specs.ToldHistories.{HoldsEntryOf, HasReceiptAt, TellAll}
 use Rattle.store_stop.proofs.CutStates.{rebuilds}
 use Rattle.store_stop.proofs.Items.{all_gives}
@@ -186,6 +186,13 @@ module _ (o : Opening) (units : List UnitShown) (advancer : AdvShown) (callers :
       (λ k q e. All-weaker (IsTrueMark (cuts_of core.units)) (IsCutAsMarked core.callers) cut_as_marked q.marks
       (sound.callers.each k q e).marks))
 
+  -- ---- words
+  pub all_words : AreAllWords o.layout words
+  all_words = record {
+    current = ap length stops.current ∙ (sound.sizes.current ∙ ap words_of stops.layout.1);
+    durable = ap length stops.durable ∙ (sound.sizes.durable ∙ ap words_of stops.layout.1);
+  }
+
   -- ---- images
   module _ (image : List ℕ) (permitted : IsPermitted words.cur words.dur image) where
     of_core : IsPermitted core.cur core.dur image
@@ -232,6 +239,7 @@ module _ (o : Opening) (units : List UnitShown) (advancer : AdvShown) (callers :
       (record { words = words; base_clock = base_clock; base = contents; histories = hs })) (sym is)
       (record {
         layout = stops.layout.0;
+        words = all_words;
         base_clock = refl;
         base_is = refl;
         legal = legal;

@@ -11,7 +11,7 @@ use Rattle.mont_base.specs.declared.operation.Entry.{Entry}
 use Rattle.mont_base.specs.declared.operation.Receipt.{Receipt}
 use Rattle.mont_base.specs.History.{IsLegal, state_after, cut_at}
 use Rattle.mont_base.specs.Image.{IsPermitted, IsRecovered, IsWellFormed, clock_of, cut_of}
-use Rattle.mont_base.specs.Layout.{Shape, units_of}
+use Rattle.mont_base.specs.Layout.{Shape, units_of, words_of}
 use Rattle.mont_base.specs.Seen.{IsCallersOrder}
 use Rattle.mont_base.specs.State.{State}
 use Rattle.plain.specs.declared.contents.Contents.{Contents}
@@ -70,6 +70,12 @@ pub record IsCutAsMarked (callers : List CallerPart) (m : Mark) : Type 0 where
   pub named : NamesCaller m.by by
   pub cut : RowHas (slice_get callers by) (λ (q : CallerPart). Contains q.cuts m.unit)
 
+-- ---- words
+-- Each word of the layout has a current and a durable value.
+pub record AreAllWords (s : Shape) (words : Words) : Type 0 where
+  pub current : length words.cur ≡ words_of s
+  pub durable : length words.dur ≡ words_of s
+
 -- ---- images
 -- the states that the entries up to an epoch lead to, unit by unit
 abbrev pub cut_states : ℕ → List State → List (List Entry) → List State
@@ -109,6 +115,7 @@ pub record IsStopped
     (s : Shape) (clock : ℕ) (base : Contents) (callers : List CallerShown) (t : Stopped)
     : Type 0 where
   pub layout : t.words.layout ≡ s
+  pub words : AreAllWords s t.words
   pub base_clock : t.base_clock ≡ clock
   pub base_is : t.base ≡ base
   pub legal : AreLegal s clock (states_of base) t.histories
