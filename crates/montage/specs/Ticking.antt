@@ -1,13 +1,13 @@
 -- What a tick leaves of its caller, and what its refusals tell.
-use Rattle.std.specs.Prelude.{◌≡◌, ℕ, ◌<◌, ◌≤◌, true, length, Ok, Err, Some, None}
+use Rattle.std.specs.Prelude.{◌≡◌, ℕ, ◌<◌, ◌≤◌, true, length, Ok, Err, None}
 use Rattle.std.specs.declared.result.Result.{Result}
 use Rattle.heap_rule.specs.declared.views.AdvHeld.{AdvHeld}
 use Rattle.heap_rule.specs.Views.{advancer_shown, caller_heard, note_of_advancer}
 use Rattle.heap.specs.HeapShown.{HeapShown, AdvShown, CallerShown}
 use Rattle.heap_pass.specs.OfHeap.{IsAdvancerOf}
 use Rattle.advance.specs.declared.refusal.AdvanceRefusal.{AdvanceRefusal}
-use Rattle.advance.specs.declared.refusal.AdvanceRefusal.TheVariants.{NotYet, Cut, ClockEnd}
-use Rattle.advance.specs.Advance.{IsSameSeat, IsAdvanced, IsUnderWay, HasReason, IsAtEnd}
+use Rattle.advance.specs.declared.refusal.AdvanceRefusal.TheVariants.{NotYet, ClockEnd}
+use Rattle.advance.specs.Advance.{IsAdvanced, IsUnderWay, HasReason, IsAtEnd}
 use Rattle.caller.specs.Telling.{has_mark}
 
 -- what the advance made of the advancer's seat
