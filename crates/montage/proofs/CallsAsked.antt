@@ -1,6 +1,6 @@
 -- What a caller of a job has of a call, from what the store's call tells.
-use Rattle.std.proofs.Common.{◌≡◌, ℕ, ◌+◌, ◌≤◌, ◌<◌, List, [], ◌∷◌, ◌++◌, length, take, set, max, true, refl, sym, ap, ◌∙◌, subst, arith}
-use Rattle.std.specs.Prelude.{slice_get, slice_index, Option, Some, Ok, Err, IfOk, IfErr}
+use Rattle.std.proofs.Common.{◌≡◌, ℕ, ◌≤◌, List, [], ◌∷◌, ◌++◌, length, take, set, refl, sym, ap, ◌∙◌, subst, arith}
+use Rattle.std.specs.Prelude.{slice_get, slice_index, Some, Ok, Err, IfOk, IfErr}
 use Rattle.std.specs.declared.result.Result.{Result}
 use Rattle.std.proofs.lemmas.List.{append-nil, length-take}
 use Rattle.std.proofs.lemmas.Option.{same_Some}
@@ -9,7 +9,6 @@ use Rattle.mont_base.specs.declared.operation.Op.{Op}
 use Rattle.mont_base.specs.declared.operation.Receipt.{Receipt}
 use Rattle.mont_base.specs.declared.refusal.CallRefusal.{CallRefusal}
 use Rattle.mont_base.specs.declared.refusal.CallRefusal.TheVariants.{Halted, CountEnd, Memory, Full, Cut}
-use Rattle.mont_base.specs.Layout.{units_of}
 use Rattle.mont_base.specs.State.{State, unit_of_op}
 use Rattle.core_steps.specs.declared.parts.Mark.{Mark}
 use Rattle.core_steps.specs.Notes.{mark_of}
@@ -26,8 +25,8 @@ use Rattle.caller.proofs.TakenNotes.{joined_has, or_left}
 use Rattle.job_worker.specs.Continuing.{GoesOn}
 use Rattle.job_worker.specs.Asking as asked
 use Rattle.job_worker.specs.Asking.{KeepsAnswers, FoundFrom, WasFound}
-use Rattle.job_worker.proofs.Later.{goes_same, keeps_same}
-use Rattle.montage.specs.StoreCalls.{HasLearntCause, HasContinued, HasLearntWhy, IsAnswered, IsRefused}
+use Rattle.job_worker.proofs.Later.{keeps_same}
+use Rattle.montage.specs.StoreCalls.{HasLearntCause, HasContinued, IsAnswered, IsRefused}
 use Rattle.montage.proofs.NumbersAtEnd.{base_there}
 use Rattle.montage.proofs.UnitOps.{op_inside}
 
