@@ -20,12 +20,7 @@ use std::thread::Threads;
 /// their own, and so have the attempts to move the clock on, by a gate of their own.
 ///
 /// Where memory is refused, what was done so far stands, and the passes are still there.
-pub fn run<
-    R: Threads + Wait + Sync,
-    N: HeapName + Send + Sync,
-    I: Index + Send,
-    G: Gate + Drop + Send,
->(
+pub fn run<R: Threads + Wait + Sync, N: HeapName + Send, I: Index + Send, G: Gate + Drop + Send>(
     rt: &R,
     alloc: Global,
     store: &Store<N, I>,
