@@ -78,26 +78,35 @@ next_fits heap n old new (Some b) items some k =
     let both : AreUnitsFrom heap n (b ∷ new) = subst (AreUnitsFrom heap n) items k in
     (both.0, subst (λ (m : ℕ). AreUnitsFrom heap m new) (omega arith) both.1)
 
--- the tickets of callers that weren't answered yet
+-- the tickets of callers that were neither answered nor cut yet
 abbrev pub IsFirstTicket : HeapShown → CallerShown → Type 0
-IsFirstTicket heap = IsFresh (λ (t : CallerShown). t.table ≡ heap.table) (λ (t : CallerShown). t.held)
+IsFirstTicket heap t = IsFresh (λ (s : CallerShown). s.table ≡ heap.table) (λ (s : CallerShown). s.held) t × (t.held.part.cuts ≡ [])
 
 dealt_are_first : (heap : HeapShown) (n : ℕ) → All (IsFirstTicket heap) (dealt_callers heap.table heap.opening n)
 dealt_are_first heap zero = All-nil (IsFirstTicket heap)
 dealt_are_first heap (suc n) =
     All-push (IsFirstTicket heap) (dealt_callers heap.table heap.opening n)
     (record { table = heap.table; held = first_caller heap.opening n }) (dealt_are_first heap n)
-    (record { own = refl; unanswered = record { calls = refl; receipts = refl } })
+    (record { own = refl; unanswered = record { calls = refl; receipts = refl } }, refl)
 
 -- and the passes that show them
-pub fresh_passes : {P : Type 0} (heap : HeapShown) (ticket : P → CallerShown) (ps : List P) → All (IsFirstTicket heap) (map ticket ps)
-    → All (IsFresh (λ (p : P). (ticket p).table ≡ heap.table) (λ (p : P). (ticket p).held)) ps
-fresh_passes {P} heap ticket [] k = All-nil (IsFresh (λ (p : P). (ticket p).table ≡ heap.table) (λ (p : P). (ticket p).held))
-fresh_passes {P} heap ticket (p ∷ ps) k =
-    let first = All-head (IsFirstTicket heap) (ticket p) (map ticket ps) k in
-    All-cons (IsFresh (λ (p : P). (ticket p).table ≡ heap.table) (λ (p : P). (ticket p).held)) p ps
-    (record { own = first.own; unanswered = first.unanswered })
-    (fresh_passes heap ticket ps (All-tail (IsFirstTicket heap) (ticket p) (map ticket ps) k))
+module _ {P : Type 0} (heap : HeapShown) (ticket : P → CallerShown) where
+  shown_by : (Q : P → Type 0) → ((p : P) → IsFirstTicket heap (ticket p) → Q p) → (ps : List P)
+      → All (IsFirstTicket heap) (map ticket ps) → All Q ps
+  shown_by Q shows [] k = All-nil Q
+  shown_by Q shows (p ∷ ps) k =
+      All-cons Q p ps (shows p (All-head (IsFirstTicket heap) (ticket p) (map ticket ps) k))
+      (shown_by Q shows ps (All-tail (IsFirstTicket heap) (ticket p) (map ticket ps) k))
+
+  pub fresh_passes : (ps : List P) → All (IsFirstTicket heap) (map ticket ps)
+      → All (IsFresh (λ (p : P). (ticket p).table ≡ heap.table) (λ (p : P). (ticket p).held)) ps
+  fresh_passes =
+      shown_by (IsFresh (λ (p : P). (ticket p).table ≡ heap.table) (λ (p : P). (ticket p).held))
+      (λ p first. record { own = first.0.own; unanswered = first.0.unanswered })
+
+  pub uncut_passes : (ps : List P) → All (IsFirstTicket heap) (map ticket ps)
+      → All (λ (p : P). (ticket p).held.part.cuts ≡ []) ps
+  uncut_passes = shown_by (λ (p : P). (ticket p).held.part.cuts ≡ []) (λ p first. first.1)
 
 -- ---- what a unit's seat shows
 module _ (s : Shape) (layout : IsLayout s) (callers u : ℕ) (low : u < units_of s) where
@@ -144,7 +153,7 @@ module _ (heap : HeapShown) (units : List UnitShown) (advancer : AdvShown) (call
 
   pub none_answered : All (λ (t : CallerShown). t.held.part.receipts ≡ []) callers
   none_answered =
-      All-weaker (IsFirstTicket heap) (λ (t : CallerShown). t.held.part.receipts ≡ []) (λ t first. first.unanswered.receipts) callers
+      All-weaker (IsFirstTicket heap) (λ (t : CallerShown). t.held.part.receipts ≡ []) (λ t first. first.0.unanswered.receipts) callers
       tickets_are_first
 
   pub as_many_callers : length callers ≡ heap.opening.callers

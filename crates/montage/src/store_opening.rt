@@ -48,6 +48,7 @@ impl<N: HeapName, I: Index> Store<N, I> {
         ensures callers { IfOk result (λ r. AreAllCallers N.heap (map (λ p. p.ticket) r.1.items)) }
         ensures fresh { IfOk result (λ r. All (IsFresh (λ p. p.ticket.table ≡ N.heap.table)
             (λ p. p.ticket.held)) r.1.items) }
+        ensures uncut { IfOk result (λ r. All (λ p. p.ticket.held.part.cuts ≡ []) r.1.items) }
         ensures gates { IfOk result (λ r. map (λ p. p.gate) r.1.items ≡ gates.items) }
         ensures boxes { OnOk result (HaveEmptyBoxes N.heap.opening.layout
             (map (λ b. finite.len (I.places b)) indexes.items)) }
