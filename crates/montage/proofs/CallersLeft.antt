@@ -12,7 +12,8 @@ use Rattle.job_text.specs.declared.outcome.Outcome.{Outcome}
 use Rattle.job_run.specs.Run.{AreWorked}
 use Rattle.montage.specs.Store.{AreAllCallers}
 
-module _ {P : Type 0} (heap : HeapShown) (ticket : P → CallerShown) (cuts : P → ℕ) (endless : P → Bool) (job : Job) (olds news : List P) where
+module _ {P : Type 0} (heap : HeapShown) (ticket : P → CallerShown) (cuts : P → ℕ) (endless : P → Bool) (job : Job)
+    (olds news : List P) where
   abbrev pub HaveWorked : List (Option (List Outcome)) → Type 0
   HaveWorked =
       AreWorked heap.opening (λ (p : P). (ticket p).table ≡ heap.table) (λ (p : P). (ticket p).held) cuts endless job olds news
