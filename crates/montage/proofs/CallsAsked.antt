@@ -1,6 +1,6 @@
 -- What a caller of a job has of a call, from what the store's call tells.
-use Rattle.std.proofs.Common.{◌≡◌, ℕ, ◌+◌, ◌≤◌, ◌<◌, List, [], ◌∷◌, ◌++◌, length, take, set, max, true, refl, sym, ap, ◌∙◌, subst, arith}
-use Rattle.std.specs.Prelude.{slice_get, slice_index, Option, Some, Ok, Err, IfOk, IfErr}
+use Rattle.std.proofs.Common.{◌≡◌, ℕ, ◌≤◌, List, [], ◌∷◌, ◌++◌, length, take, set, refl, sym, ap, ◌∙◌, subst, arith}
+use Rattle.std.specs.Prelude.{slice_get, slice_index, Some, Ok, Err, IfOk, IfErr}
 use Rattle.std.specs.declared.result.Result.{Result}
 use Rattle.std.proofs.lemmas.List.{append-nil, length-take}
 use Rattle.std.proofs.lemmas.Option.{same_Some}
@@ -9,7 +9,6 @@ use Rattle.mont_base.specs.declared.operation.Op.{Op}
 use Rattle.mont_base.specs.declared.operation.Receipt.{Receipt}
 use Rattle.mont_base.specs.declared.refusal.CallRefusal.{CallRefusal}
 use Rattle.mont_base.specs.declared.refusal.CallRefusal.TheVariants.{Halted, CountEnd, Memory, Full, Cut}
-use Rattle.mont_base.specs.Layout.{units_of}
 use Rattle.mont_base.specs.State.{State, unit_of_op}
 use Rattle.core_steps.specs.declared.parts.Mark.{Mark}
 use Rattle.core_steps.specs.Notes.{mark_of}
@@ -24,10 +23,9 @@ use Rattle.structure_call.specs.Calling.{HasAnsweredCall}
 use Rattle.caller.specs.Telling.{has_mark}
 use Rattle.caller.proofs.TakenNotes.{joined_has, or_left}
 use Rattle.job_worker.specs.Continuing.{GoesOn}
-use Rattle.job_worker.specs.Asking as asked
-use Rattle.job_worker.specs.Asking.{KeepsAnswers, FoundFrom, WasFound}
-use Rattle.job_worker.proofs.Later.{goes_same, keeps_same}
-use Rattle.montage.specs.StoreCalls.{HasLearntCause, HasContinued, HasLearntWhy, IsAnswered, IsRefused}
+use Rattle.job_worker.specs.Asking.{KeepsAnswers, HasContinued, WasFound, IsCutIn, HasLearntWhy}
+use Rattle.job_worker.proofs.Later.{keeps_same}
+use Rattle.montage.specs.StoreCalls.{HasLearntCause, ContinuesCaller, IsAnswered, IsRefused}
 use Rattle.montage.proofs.NumbersAtEnd.{base_there}
 use Rattle.montage.proofs.UnitOps.{op_inside}
 
@@ -66,7 +64,7 @@ module _ (q r : CallerShown) (h : UnitHeld) (seen : IsNotBeyond q.held h) where
 
 -- ---- an answer
 module _ (heap : HeapShown) (before behind : RegionShown) (q r : CallerShown) (op : Op) (receipt : Receipt)
-    (a : HasAnsweredCall heap before behind q r op receipt) (c : HasContinued heap q r op receipt) where
+    (a : HasAnsweredCall heap before behind q r op receipt) (c : ContinuesCaller heap q r op receipt) where
   unit_is : receipt.unit ≡ before.seat.held.unit
   unit_is = ap (λ (x : Receipt). x.unit) a.receipt_is
 
@@ -91,7 +89,7 @@ module _ (heap : HeapShown) (before behind : RegionShown) (q r : CallerShown) (o
       let taken = length-take n h in
       omega (arith, same, taken, place_is)
 
-  pub has_continued : asked.HasContinued heap.opening q.held r.held op receipt
+  pub has_continued : HasContinued heap.opening q.held r.held op receipt
   has_continued = record {
     goes_on = goes_answered q r before.seat.held a.seen receipt.entry a.reached.not_before a.caller;
     of_unit = c.of_unit;
@@ -130,10 +128,10 @@ module _ (heap : HeapShown) (q r : CallerShown) (op : Op) (unit : ℕ) (named : 
 
   -- the caller was cut
   is_cut_in : (cut : ℕ) → cut ≡ unit → r ≡ record { table = q.table; held = caller_cut q.held unit }
-      → asked.IsCutIn heap.opening q.held r.held op cut
+      → IsCutIn heap.opening q.held r.held op cut
   is_cut_in cut here is =
-      subst (λ (u : ℕ). asked.IsCutIn heap.opening q.held r.held op u) (sym here)
-      (subst (λ (x : CallerShown). asked.IsCutIn heap.opening q.held x.held op unit) (sym is) (record {
+      subst (λ (u : ℕ). IsCutIn heap.opening q.held r.held op u) (sym here)
+      (subst (λ (x : CallerShown). IsCutIn heap.opening q.held x.held op unit) (sym is) (record {
         goes_on = record {
           caller = refl;
           more = [];
@@ -150,7 +148,7 @@ module _ (heap : HeapShown) (q r : CallerShown) (op : Op) (unit : ℕ) (named : 
       }))
 
 pub has_learnt_why : (heap : HeapShown) (q r : CallerShown) (op : Op) (why : CallRefusal) → IsRefused heap q r op why
-    → asked.HasLearntWhy heap.opening q.held r.held op why
+    → HasLearntWhy heap.opening q.held r.held op why
 has_learnt_why heap q r op (Halted unit by) k = record {
   keeps = keeps_noted q r k.before.seat.held k.refused.2.seen (length q.held.part.fronts) k.refused.2.noted;
   of_unit = k.named ∙ ap Some (sym k.learnt.0);
@@ -176,12 +174,12 @@ has_learnt_why heap q r op (Cut cut) k = is_cut_in heap q r op k.unit k.named cu
 -- ---- whatever the answer is
 pub if_continued : (heap : HeapShown) (q r : CallerShown) (op : Op) (answer : Result Receipt CallRefusal)
     → IfOk answer (λ receipt. IsAnswered heap q r op receipt)
-    → IfOk answer (λ receipt. asked.HasContinued heap.opening q.held r.held op receipt)
+    → IfOk answer (λ receipt. HasContinued heap.opening q.held r.held op receipt)
 if_continued heap q r op (Ok receipt) k = has_continued heap k.before k.behind q r op receipt k.answered k.caller
 if_continued heap q r op (Err why) k = tt
 
 pub if_learnt_why : (heap : HeapShown) (q r : CallerShown) (op : Op) (answer : Result Receipt CallRefusal)
     → IfErr answer (λ why. IsRefused heap q r op why)
-    → IfErr answer (λ why. asked.HasLearntWhy heap.opening q.held r.held op why)
+    → IfErr answer (λ why. HasLearntWhy heap.opening q.held r.held op why)
 if_learnt_why heap q r op (Ok receipt) k = tt
 if_learnt_why heap q r op (Err why) k = has_learnt_why heap q r op why k

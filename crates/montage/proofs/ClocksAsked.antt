@@ -1,24 +1,18 @@
 -- A tick and a sync leave a caller its answers.
-use Rattle.std.proofs.Common.{◌≡◌, ℕ, ◌≤◌, ◌<◌, List, [], length, max, replicate, true, false, refl, sym, ap, ◌∙◌, subst, arith}
-use Rattle.std.specs.Prelude.{Ok, Err, IfOk, IfErr}
+use Rattle.std.proofs.Common.{◌≡◌, ℕ, List, [], length, max, sym, ap, ◌∙◌, subst, arith}
 use Rattle.std.specs.declared.result.Result.{Result}
 use Rattle.std.proofs.lemmas.List.{append-nil}
 use Rattle.mont_base.specs.declared.operation.Entry.{Entry}
-use Rattle.mont_base.specs.declared.constants.TheConstants.{LAST}
 use Rattle.heap_rule.specs.declared.views.AdvHeld.{AdvHeld}
 use Rattle.heap_rule.specs.Views.{caller_heard, note_of_advancer}
 use Rattle.heap_rule.specs.SeenEntries.{AreFronts}
 use Rattle.heap_rule.proofs.SeenFronts.{fronts_same, same_entries}
 use Rattle.heap.specs.HeapShown.{HeapShown, CallerShown}
 use Rattle.advance.specs.declared.refusal.AdvanceRefusal.{AdvanceRefusal}
-use Rattle.advance.specs.declared.refusal.AdvanceRefusal.TheVariants as advances
-use Rattle.caller.specs.declared.sync_refusal.SyncRefusal.{SyncRefusal}
-use Rattle.caller.specs.declared.sync_refusal.SyncRefusal.TheVariants as syncs
 use Rattle.caller.specs.Telling.{has_mark}
-use Rattle.caller.specs.Syncing.{KeepsSeen, HasSynced, LeavesUnsynced}
+use Rattle.caller.specs.Syncing.{KeepsSeen}
 use Rattle.caller.proofs.TakenNotes.{joined_has, or_left, greater_none}
-use Rattle.job_worker.specs.Asking as asked
-use Rattle.job_worker.specs.Asking.{KeepsAnswers, HasMoved, HasHeard}
+use Rattle.job_worker.specs.Asking.{KeepsAnswers}
 use Rattle.montage.specs.Ticking.{HasTicked}
 
 -- ---- a caller that has seen no more entries

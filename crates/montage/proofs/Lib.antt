@@ -6,6 +6,7 @@ mod UnitStands
 mod Ticks
 mod CallsAsked
 mod ClocksAsked
+mod CallersLeft
 mod SeatsTaken
 mod KeptBases
 mod UnitOps

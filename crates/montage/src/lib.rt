@@ -1,6 +1,6 @@
 //! The store: the heap, each unit behind a lock of its own, and the advancer behind another. Its
-//! structure calls are made by callers on threads of their own; what `Store::stop` ensures is the
-//! promise of the whole store.
+//! structure calls are made by callers on threads of their own, as `run` starts them for a job;
+//! what `Store::stop` ensures is the promise of the whole store.
 #![tactic(auto)]
 
 mod asking;
