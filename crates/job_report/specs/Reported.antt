@@ -11,7 +11,7 @@ use Rattle.heap.specs.HeapShown.{CallerShown}
 use Rattle.job_text.specs.declared.job.Job.{Job}
 use Rattle.job_text.specs.declared.outcome.Outcome.{Outcome}
 use Rattle.job_text.specs.Faithful.{HasStop}
-use Rattle.job_text.specs.Report.{lines_of}
+use Rattle.job_text.specs.Report.{Report, lines_of}
 use Rattle.job_worker.specs.Worked.{HasWorked}
 use Rattle.store_stop.specs.declared.headline.Stopped.{Stopped}
 use Rattle.store_stop.specs.Headline.{IsBaseOf, IsStopped}
@@ -46,3 +46,16 @@ pub record WasRun (j : Job) (o : Opening) (callers : List CallerShown)
   pub permitted : IsPermitted t.words.cur t.words.dur image
   pub clock : image_clock ≡ clock_of image
   pub recovered : IsRecovered o.layout image contents
+
+-- the report of a job, beside what the stopped store told, with an image's clock and contents
+abbrev pub report_made : Job → Stopped → List (List Outcome) → ℕ → List State → Report
+report_made j t outcomes image_clock contents = record {
+  layout = j.layout;
+  callers = j.callers;
+  base_clock = t.base_clock;
+  base = states_of t.base;
+  histories = t.histories;
+  outcomes = outcomes;
+  image_clock = image_clock;
+  contents = contents;
+}
