@@ -4,6 +4,8 @@ mod NumbersAtEnd
 mod CallsShown
 mod UnitStands
 mod Ticks
+mod CallsAsked
+mod ClocksAsked
 mod SeatsTaken
 mod KeptBases
 mod UnitOps

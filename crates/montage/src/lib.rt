@@ -3,10 +3,13 @@
 //! promise of the whole store.
 #![tactic(auto)]
 
+mod asking;
+mod attempting;
 mod graph_calls;
 mod map_calls;
 mod open_refusal;
 mod queue_calls;
+mod running;
 mod store;
 mod store_end;
 mod store_opening;
@@ -14,5 +17,7 @@ mod ticking;
 mod unit_at;
 mod unit_calls;
 
+pub use job_run::Ran;
 pub use open_refusal::OpenRefusal;
+pub use running::run;
 pub use store::Store;
