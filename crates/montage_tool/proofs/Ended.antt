@@ -1,6 +1,6 @@
 -- A job that was run on a store that was then stopped, and the report of it.
 use Rattle.std.proofs.Common.{◌≡◌, ◌≢◌, ℕ, ◌≤◌, List, [], ◌∷◌, length, map, replicate, refl, sym, ap, ◌∙◌, subst, arith}
-use Rattle.std.specs.Prelude.{All, slice_get, Option, Some, None, IsSome, Ok, Err, IfOk}
+use Rattle.std.specs.Prelude.{All, slice_get, Option, Some, None, IsSome, Ok, Err, IfOk, OnErr}
 use Rattle.std.specs.declared.result.Result.{Result}
 use Rattle.std.proofs.lemmas.List.{length-map}
 use Rattle.mont_base.specs.declared.constants.TheConstants.{FIRST_CLOCK, LAST}
@@ -26,7 +26,8 @@ use Rattle.job_text.specs.Grammar.{head_of, IsJob, IsLine, HasUnit}
 use Rattle.job_text.specs.Report.{Report}
 use Rattle.job_worker.specs.Asking.{opened_records}
 use Rattle.job_worker.specs.Ending.{MayBeAsked}
-use Rattle.job_run.specs.Run.{AreWorked}
+use Rattle.job_run.specs.declared.run.Ran.{Ran}
+use Rattle.job_run.specs.Run.{IsFresh, AreWorked}
 use Rattle.job_report.specs.Reported.{HasRun, WasRun, report_made}
 use Rattle.mont_image.specs.Picking.{HasClock}
 use Rattle.store_stop.specs.declared.headline.Stopped.{Stopped}
@@ -37,7 +38,7 @@ use Rattle.montage_tool.specs.Gates.{AreGates}
 use Rattle.montage_tool.specs.Run.{opening_of, HasEnded, IsPickOf, IsRun}
 use Rattle.montage_tool.proofs.CarriedOut.{carried_out}
 use Rattle.montage_tool.proofs.Opened.{no_records, first_clock, nothing_there}
-use Rattle.montage_tool.proofs.Passes.{each_has_run}
+use Rattle.montage_tool.proofs.Passes.{all_fresh, still_all, each_has_run}
 
 -- ---- lines
 some_if_not_none : {A : Type 0} (x : Option A) → x ≢ None → IsSome x
@@ -159,3 +160,46 @@ module _ (j : Job) (is : IsJob j) (outcomes : List (List Outcome)) (t : Stopped)
         };
         unstopped = λ none. carried_out j _ _ _ r is_faithful none;
       }
+
+-- ---- the store, before the run and behind it
+module _ {P : Type 0} (j : Job) (heap : HeapShown) (units : List UnitShown) (advancer : AdvShown) (callers : List CallerShown)
+    (opens : Opens (opening_of j) heap units advancer callers) (ticket : P → CallerShown) (gate : P → Fuel) (olds news : List P)
+    (tickets : map ticket olds ≡ callers) where
+  pub dealt_first : map ticket olds ≡ dealt_callers heap.table heap.opening heap.opening.callers
+  dealt_first = tickets ∙ opens.each_caller ∙ ap (λ (o : Opening). dealt_callers heap.table o o.callers) (sym opens.opening)
+
+  pub all_new : All (IsFresh (λ (p : P). (ticket p).table ≡ heap.table) (λ (p : P). (ticket p).held)) olds
+  all_new = all_fresh heap ticket gate olds dealt_first
+
+  abbrev Leaves : List (Option (List Outcome)) → Type 0
+  Leaves done =
+      AreWorked heap.opening (λ (p : P). (ticket p).table ≡ heap.table) (λ (p : P). (ticket p).held) (λ (p : P). (gate p).cuts)
+      (λ (p : P). is_endless (gate p)) j olds news done
+
+  module _ {F : Type 0} (ran : Result Ran F) (worked : IfOk ran (λ (r : Ran). Leaves (map Some r.outcomes))) where
+    -- whether memory was refused or not, all passes are still there
+    pub all_behind : OnErr ran ((done : List (Option (List Outcome))) × Leaves done) → AreAllCallers heap (map ticket olds)
+        → AreAllCallers heap (map ticket news)
+    all_behind = by_answer ran worked
+      where
+        by_answer : (r : Result Ran F) → IfOk r (λ (x : Ran). Leaves (map Some x.outcomes))
+            → OnErr r ((done : List (Option (List Outcome))) × Leaves done) → AreAllCallers heap (map ticket olds)
+            → AreAllCallers heap (map ticket news)
+        by_answer (Ok r) w stands all = still_all heap ticket gate olds dealt_first j news (map Some r.outcomes) w all
+        by_answer (Err e) w stands all = still_all heap ticket gate olds dealt_first j news stands.0 stands.1 all
+
+    pub ended_of : {X E : Type 0} (gates : List Fuel) (lent : map gate olds ≡ gates) → AreGates j.stops j.callers gates
+        → (outcomes : X → List (List Outcome)) (store : X → Stopped) (stopped : Result Stopped F)
+        → IfOk stopped (λ (t : Stopped). IsBaseOf heap.opening t.base_clock (states_of t.base))
+        → IfOk stopped (λ (t : Stopped). IsStopped heap.opening.layout t.base_clock t.base (map ticket news) t)
+        → (result : Result X E)
+        → IfOk result (λ (x : X). (ran ≡ Ok (record { outcomes = outcomes x })) × (stopped ≡ Ok (store x)))
+        → IfOk result (λ (x : X). HasEnded j (outcomes x) (store x))
+    ended_of gates lent are outcomes store stopped base stops (Ok x) is =
+        has_ended j heap opens.opening ticket gate olds news dealt_first (subst (AreGates j.stops j.callers) (sym lent) are)
+        (outcomes x) (store x)
+        (subst (λ (r : Result Ran F). IfOk r (λ (y : Ran). Leaves (map Some y.outcomes))) is.0 worked)
+        (subst (λ (r : Result Stopped F). IfOk r (λ (t : Stopped). IsBaseOf heap.opening t.base_clock (states_of t.base))) is.1 base)
+        (subst (λ (r : Result Stopped F).
+        IfOk r (λ (t : Stopped). IsStopped heap.opening.layout t.base_clock t.base (map ticket news) t)) is.1 stops)
+    ended_of gates lent are outcomes store stopped base stops (Err e) is = tt

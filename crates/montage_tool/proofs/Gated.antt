@@ -28,7 +28,6 @@ stopped_or_endless : (stops : List Stop) (who : ℕ) → IsStopped stops who ⊎
 stopped_or_endless [] who = inr refl
 stopped_or_endless (s ∷ stops) who = by_test (s.who == who) s stops who refl (stopped_or_endless stops who)
 
-
 never : (before now : ℕ) → before ≡ 0 → now ≡ before → Rose before now → ⊥
 never before now begun kept rose = omega (arith, begun, kept, rose)
 

@@ -1,7 +1,7 @@
 //! Runs jobs over buffered durable structures.
 #![tactic(auto)]
 
-ghost use Rattle.std.specs.Prelude.{map, replicate, string_bytes, IfOk};
+ghost use Rattle.std.specs.Prelude.{◌≡◌, ℕ, List, length, map, string_bytes, IfOk};
 ghost use Rattle.montage_tool.specs.Program.{Answers};
 
 mod about;
@@ -10,8 +10,12 @@ mod command_line;
 mod delivery;
 mod forms;
 mod gates;
+#[cfg(test)]
+mod meeting;
 mod montage;
 mod program;
+#[cfg(test)]
+mod rows;
 mod run;
 mod status;
 #[cfg(test)]
@@ -40,12 +44,13 @@ fn serve<J: Source, O: Sink>(
     job: &mut J,
     out: &mut O,
 ) -> Result<Status, AllocError>
-    ensures { IfOk result (λ status. Answers J.left J.faults O.taken O.faults (replicate 16 0)
-        (map string_bytes words.now) job.old job.new out.old out.new status) }
+    ensures { IfOk result (λ status. (boxes : List ℕ) × (length boxes ≡ 16)
+        × Answers J.left J.faults O.taken O.faults boxes (map string_bytes words.now)
+        job.old job.new out.old out.new status) }
 {
     let alloc = rt.alloc();
     let mut indexes: Vec<Box<dyn Index + Send>> = Vec::new(alloc);
-    for _ in 0..PAIRS {
+    for _pair in 0..PAIRS {
         indexes.push(Box::new(alloc, SortedIndex::new(alloc))?)?;
         indexes.push(Box::new(alloc, ProbeIndex::new(alloc))?)?;
     }

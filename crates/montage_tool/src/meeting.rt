@@ -168,7 +168,15 @@ fn puts_of_two_units_are_under_way_at_once(rt: HostRuntime) -> Result<(), Fail> 
     let mut image = MemSource::new(Vec::new(alloc), 1, Vec::new(alloc));
     let mut out = MemSink::new(alloc, 4096, 4096, Vec::new(alloc))?;
     let mut image_out = MemSink::new(alloc, 1, 1, Vec::new(alloc))?;
-    let status = montage(&rt, &words, &mut job, &mut image, indexes, &mut out, &mut image_out);
+    let status = montage(
+        &rt,
+        &words,
+        &mut job,
+        &mut image,
+        indexes,
+        &mut out,
+        &mut image_out,
+    );
     assert_eq!(rt; status, Status::Done);
     assert_eq!(rt; out.taken(), REPORT.as_bytes());
     assert_eq!(rt; signals.late.load(Ordering::SeqCst), 0);

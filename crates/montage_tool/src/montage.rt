@@ -28,13 +28,7 @@ use std::thread::Threads;
 /// is what the operations of all epochs but the last two lead to (buffered durable linearizability,
 /// DISC 2016). Each map unit is given the next of the boxes, which is to be empty. Nothing is
 /// written before the run has ended. The image devices aren't asked.
-pub fn montage<
-    R: AllocGlobal + Threads + Wait + Sync,
-    J: Source,
-    I: Source,
-    O: Sink,
-    K: Sink,
->(
+pub fn montage<R: AllocGlobal + Threads + Wait + Sync, J: Source, I: Source, O: Sink, K: Sink>(
     rt: &R,
     words: &[String],
     job: &mut J,

@@ -1,8 +1,12 @@
-// Rows of jobs with the whole report of each, in this order: the header, the other lines, the report.
+// Jobs, with the whole report of each.
 pub(crate) const ALONE: &str = "montage-job 3 mqg 8 1 0 0000000000000000\n";
+
 pub(crate) const ALL_CURRENT: &str = "montage-job 3 mqg 8 1 0 ffffffffffffffff\n";
+
 const SIXTEEN_SLOTS: &str = "montage-job 3 mqg 16 1 0 0000000000000000\n";
+
 pub(crate) const FOUR_MAPS: &str = "montage-job 3 mmmmqg 8 1 0 0000000000000000\n";
+
 pub(crate) const TWO_QUEUES: &str = "montage-job 3 qmq 8 1 0 0000000000000000\n";
 
 // A job, and the report of its run.

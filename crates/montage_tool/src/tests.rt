@@ -59,7 +59,15 @@ fn call(
     let mut image = MemSource::new(Vec::new(alloc), 1, Vec::new(alloc));
     let mut out = MemSink::new(alloc, 16384, pieces.1, fails.1)?;
     let mut image_out = MemSink::new(alloc, 1, 1, Vec::new(alloc))?;
-    let status = answer(rt, &words, &mut job, &mut image, indexes, &mut out, &mut image_out);
+    let status = answer(
+        rt,
+        &words,
+        &mut job,
+        &mut image,
+        indexes,
+        &mut out,
+        &mut image_out,
+    );
     Ok(Called { status, taken: out })
 }
 
@@ -87,9 +95,19 @@ fn reports_are_as_worked(rt: HostRuntime) -> Result<(), Fail> {
         }
         let called = run(&rt, joined(alloc, &[row.header, row.lines])?, sorted)?;
         assert_eq!(rt; called.status, Status::Done);
-        assert_eq!(rt; called.taken.taken(), row.report.as_bytes(), "{}", row.lines);
+        assert_eq!(rt;
+            called.taken.taken(),
+            row.report.as_bytes(),
+            "{}",
+            row.lines
+        );
         let called = run(&rt, joined(alloc, &[row.header, row.lines])?, probed)?;
-        assert_eq!(rt; called.taken.taken(), row.report.as_bytes(), "{}", row.lines);
+        assert_eq!(rt;
+            called.taken.taken(),
+            row.report.as_bytes(),
+            "{}",
+            row.lines
+        );
     }
     Ok(())
 }
@@ -130,7 +148,12 @@ fn hundred_puts(alloc: Global) -> Result<(String, String), Fail> {
         was.push_str(value.as_str())?;
     }
     let mut report = String::from_str(alloc, HUNDRED_HEAD)?;
-    for text in [entries.as_str(), HUNDRED_BETWEEN, outcomes.as_str(), HUNDRED_END] {
+    for text in [
+        entries.as_str(),
+        HUNDRED_BETWEEN,
+        outcomes.as_str(),
+        HUNDRED_END,
+    ] {
         report.push_str(text)?;
     }
     Ok((lines, report))
@@ -216,8 +239,9 @@ fn two_callers_put_one_after_the_other(rt: HostRuntime) -> Result<(), Fail> {
         indexes.push(Box::new(alloc, SortedIndex::new(alloc))?)?;
         let called = run(&rt, joined(alloc, &[TWO_CALLERS])?, indexes)?;
         let taken = called.taken.taken();
-        assert!(rt; taken == FIRST_CALLER_FIRST.as_bytes()
-            || taken == SECOND_CALLER_FIRST.as_bytes());
+        assert!(rt;
+            taken == FIRST_CALLER_FIRST.as_bytes() || taken == SECOND_CALLER_FIRST.as_bytes()
+        );
     }
     Ok(())
 }
@@ -235,9 +259,19 @@ fn refusals_write_nothing(rt: HostRuntime) -> Result<(), Fail> {
         ("run", seven, "", job(1, JobFault::Header)),
         ("run", ALONE, gets, job(7, JobFault::Operation)),
         ("run", ALONE, "stop 2 5\n", job(2, JobFault::Stop)),
-        ("run", FOUR_MAPS, "0 put %31 10\n", job(2, JobFault::Operation)),
+        (
+            "run",
+            FOUR_MAPS,
+            "0 put %31 10\n",
+            job(2, JobFault::Operation),
+        ),
         ("run", FOUR_MAPS, long, job(2, JobFault::Operation)),
-        ("run", TWO_QUEUES, "0 enq 1 5\n", job(2, JobFault::Operation)),
+        (
+            "run",
+            TWO_QUEUES,
+            "0 enq 1 5\n",
+            job(2, JobFault::Operation),
+        ),
         ("run", ALONE, "0 put 1 10\n", none),
         ("RUN", ALONE, "", Status::BadWords),
         ("run now", ALONE, "", Status::BadWords),
@@ -320,11 +354,25 @@ fn the_program_says_what_it_is_asked_of_itself(rt: HostRuntime) -> Result<(), Fa
     };
     for (words, said) in [("--help", HELP), ("--version", VERSION)] {
         let fails = (Vec::new(alloc), Vec::new(alloc));
-        let called = call(&rt, words, Vec::new(alloc), Vec::new(alloc), (4096, 100), fails)?;
+        let called = call(
+            &rt,
+            words,
+            Vec::new(alloc),
+            Vec::new(alloc),
+            (4096, 100),
+            fails,
+        )?;
         assert_eq!(rt; called.status, Status::Done);
         assert_eq!(rt; called.taken.taken(), said.as_bytes());
         let fails = (Vec::new(alloc), vec![in alloc; 0u64]?);
-        let called = call(&rt, words, Vec::new(alloc), Vec::new(alloc), (4096, 100), fails)?;
+        let called = call(
+            &rt,
+            words,
+            Vec::new(alloc),
+            Vec::new(alloc),
+            (4096, 100),
+            fails,
+        )?;
         assert_eq!(rt; called.status, fault);
     }
     assert!(rt; HELP.contains("montage-job 3 KINDS S N A MASK"));
