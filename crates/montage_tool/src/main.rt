@@ -29,8 +29,10 @@ use mont_base::{Sink, Source};
 use program::{answer, exit_of, tell};
 use status::Status;
 use std::alloc::AllocError;
-use std::fs::File;
 use std::process::ExitCode;
+use std::rt::Files;
+use std::sync::Wait;
+use std::thread::Threads;
 use std::{env, io};
 
 // How many boxes there are of each kind.
@@ -38,8 +40,8 @@ const PAIRS: usize = 8;
 
 // Answers the words with these devices, with the files that the words name, and with empty boxes of
 // two kinds in turn.
-fn serve<J: Source, O: Sink>(
-    rt: &HostRuntime,
+fn serve<R: AllocGlobal + Files + Threads + Wait + Sync, J: Source, O: Sink>(
+    rt: &R,
     words: &[String],
     job: &mut J,
     out: &mut O,
@@ -55,7 +57,7 @@ fn serve<J: Source, O: Sink>(
         indexes.push(Box::new(alloc, ProbeIndex::new(alloc))?)?;
     }
     let files = files_of(words);
-    let mut image: FileSource<File> = match file_word(words, files.image) {
+    let mut image: FileSource<R::File> = match file_word(words, files.image) {
         Some(path) => FileSource::open(rt, path),
         None => FileSource::closed(),
     };

@@ -133,7 +133,7 @@ fn new_held() -> Held {
 }
 
 // A box for this key.
-fn meeting(
+fn box_for(
     alloc: Global,
     key: u64,
     signals: &Arc<Signals, Global>,
@@ -159,8 +159,8 @@ fn puts_of_two_units_are_under_way_at_once(rt: HostRuntime) -> Result<(), Fail> 
     let first = Arc::new(alloc, new_held())?;
     let second = Arc::new(alloc, new_held())?;
     let mut indexes: Vec<Box<dyn Index + Send>> = Vec::new(alloc);
-    indexes.push(Box::new(alloc, meeting(alloc, 2, &signals, &first)?)?)?;
-    indexes.push(Box::new(alloc, meeting(alloc, 1, &signals, &second)?)?)?;
+    indexes.push(Box::new(alloc, box_for(alloc, 2, &signals, &first)?)?)?;
+    indexes.push(Box::new(alloc, box_for(alloc, 1, &signals, &second)?)?)?;
     let mut words = Vec::new(alloc);
     words.push(String::from_str(alloc, "run")?)?;
     let text = Vec::from_slice(alloc, JOB.as_bytes())?;

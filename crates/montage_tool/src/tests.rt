@@ -10,7 +10,9 @@ use job_text::JobFault;
 use mont_base::{MemSink, MemSource, Text};
 use std::alloc::Global;
 use std::process::ExitCode;
+use std::sync::Wait;
 use std::test::Fail;
+use std::thread::Threads;
 
 const LINES: &str =
     "montage-job 3 mqg 8 1 0 0000000000000000\n0 put 1 10\n0 tick\n0 tick\n0 put 1 11\n";
@@ -42,8 +44,8 @@ struct Called {
 
 // Answers the words over a source and a sink that give and take so many bytes a call and fail in
 // these calls, with these boxes.
-fn call(
-    rt: &HostRuntime,
+fn call<R: AllocGlobal + Threads + Wait + Sync>(
+    rt: &R,
     words: &str,
     text: Vec<u8>,
     indexes: Vec<Box<dyn Index + Send>>,
@@ -72,8 +74,8 @@ fn call(
 }
 
 // Runs a job by devices that don't fail.
-fn run(
-    rt: &HostRuntime,
+fn run<R: AllocGlobal + Threads + Wait + Sync>(
+    rt: &R,
     text: Vec<u8>,
     indexes: Vec<Box<dyn Index + Send>>,
 ) -> Result<Called, Fail> {
