@@ -118,8 +118,8 @@ module _ (j : Job) (is : IsJob j) (outcomes : List (List Outcome)) (t : Stopped)
     accepted = (ended.stopped.images image pick.permitted).accepted
 
     -- ---- the report
-    module _ (image_clock : ℕ) (clock : image_clock ≡ clock_of image) (contents : List State) (rebuilt : IsRecovered j.layout image contents)
-        (r : Report) (made : r ≡ report_made j t outcomes image_clock contents)
+    module _ (image_clock : ℕ) (clock : image_clock ≡ clock_of image) (contents : List State)
+        (rebuilt : IsRecovered j.layout image contents) (r : Report) (made : r ≡ report_made j t outcomes image_clock contents)
         (faithful : (o : Opening) (callers : List CallerShown) (picked : List ℕ)
         → WasRun j o callers outcomes t picked image_clock contents
         → IsFaithful j t.base_clock (states_of t.base) (opened_records o) r) where
@@ -163,7 +163,7 @@ module _ (j : Job) (is : IsJob j) (outcomes : List (List Outcome)) (t : Stopped)
 
 -- ---- the store, before the run and behind it
 module _ {P : Type 0} (j : Job) (heap : HeapShown) (units : List UnitShown) (advancer : AdvShown) (callers : List CallerShown)
-    (opens : Opens (opening_of j) heap units advancer callers) (ticket : P → CallerShown) (gate : P → Fuel) (olds news : List P)
+    (opens : Opens (opening_of j) heap units advancer callers) (ticket : P → CallerShown) (gate : P → Fuel) (olds : List P)
     (tickets : map ticket olds ≡ callers) where
   pub dealt_first : map ticket olds ≡ dealt_callers heap.table heap.opening heap.opening.callers
   dealt_first = tickets ∙ opens.each_caller ∙ ap (λ (o : Opening). dealt_callers heap.table o o.callers) (sym opens.opening)
@@ -171,35 +171,36 @@ module _ {P : Type 0} (j : Job) (heap : HeapShown) (units : List UnitShown) (adv
   pub all_new : All (IsFresh (λ (p : P). (ticket p).table ≡ heap.table) (λ (p : P). (ticket p).held)) olds
   all_new = all_fresh heap ticket gate olds dealt_first
 
-  abbrev Leaves : List (Option (List Outcome)) → Type 0
-  Leaves done =
-      AreWorked heap.opening (λ (p : P). (ticket p).table ≡ heap.table) (λ (p : P). (ticket p).held) (λ (p : P). (gate p).cuts)
-      (λ (p : P). is_endless (gate p)) j olds news done
+  module _ (news : List P) where
+    abbrev Leaves : List (Option (List Outcome)) → Type 0
+    Leaves done =
+        AreWorked heap.opening (λ (p : P). (ticket p).table ≡ heap.table) (λ (p : P). (ticket p).held) (λ (p : P). (gate p).cuts)
+        (λ (p : P). is_endless (gate p)) j olds news done
 
-  module _ {F : Type 0} (ran : Result Ran F) (worked : IfOk ran (λ (r : Ran). Leaves (map Some r.outcomes))) where
-    -- whether memory was refused or not, all passes are still there
-    pub all_behind : OnErr ran ((done : List (Option (List Outcome))) × Leaves done) → AreAllCallers heap (map ticket olds)
-        → AreAllCallers heap (map ticket news)
-    all_behind = by_answer ran worked
-      where
-        by_answer : (r : Result Ran F) → IfOk r (λ (x : Ran). Leaves (map Some x.outcomes))
-            → OnErr r ((done : List (Option (List Outcome))) × Leaves done) → AreAllCallers heap (map ticket olds)
-            → AreAllCallers heap (map ticket news)
-        by_answer (Ok r) w stands all = still_all heap ticket gate olds dealt_first j news (map Some r.outcomes) w all
-        by_answer (Err e) w stands all = still_all heap ticket gate olds dealt_first j news stands.0 stands.1 all
+    module _ {F : Type 0} (ran : Result Ran F) (worked : IfOk ran (λ (r : Ran). Leaves (map Some r.outcomes))) where
+      -- whether memory was refused or not, all passes are still there
+      pub all_behind : OnErr ran ((done : List (Option (List Outcome))) × Leaves done) → AreAllCallers heap (map ticket olds)
+          → AreAllCallers heap (map ticket news)
+      all_behind = by_answer ran worked
+        where
+          by_answer : (r : Result Ran F) → IfOk r (λ (x : Ran). Leaves (map Some x.outcomes))
+              → OnErr r ((done : List (Option (List Outcome))) × Leaves done) → AreAllCallers heap (map ticket olds)
+              → AreAllCallers heap (map ticket news)
+          by_answer (Ok r) w stands all = still_all heap ticket gate olds dealt_first j news (map Some r.outcomes) w all
+          by_answer (Err e) w stands all = still_all heap ticket gate olds dealt_first j news stands.0 stands.1 all
 
-    pub ended_of : {X E : Type 0} (gates : List Fuel) (lent : map gate olds ≡ gates) → AreGates j.stops j.callers gates
-        → (outcomes : X → List (List Outcome)) (store : X → Stopped) (stopped : Result Stopped F)
-        → IfOk stopped (λ (t : Stopped). IsBaseOf heap.opening t.base_clock (states_of t.base))
-        → IfOk stopped (λ (t : Stopped). IsStopped heap.opening.layout t.base_clock t.base (map ticket news) t)
-        → (result : Result X E)
-        → IfOk result (λ (x : X). (ran ≡ Ok (record { outcomes = outcomes x })) × (stopped ≡ Ok (store x)))
-        → IfOk result (λ (x : X). HasEnded j (outcomes x) (store x))
-    ended_of gates lent are outcomes store stopped base stops (Ok x) is =
-        has_ended j heap opens.opening ticket gate olds news dealt_first (subst (AreGates j.stops j.callers) (sym lent) are)
-        (outcomes x) (store x)
-        (subst (λ (r : Result Ran F). IfOk r (λ (y : Ran). Leaves (map Some y.outcomes))) is.0 worked)
-        (subst (λ (r : Result Stopped F). IfOk r (λ (t : Stopped). IsBaseOf heap.opening t.base_clock (states_of t.base))) is.1 base)
-        (subst (λ (r : Result Stopped F).
-        IfOk r (λ (t : Stopped). IsStopped heap.opening.layout t.base_clock t.base (map ticket news) t)) is.1 stops)
-    ended_of gates lent are outcomes store stopped base stops (Err e) is = tt
+      pub ended_of : {X E : Type 0} (gates : List Fuel) (lent : map gate olds ≡ gates) → AreGates j.stops j.callers gates
+          → (outcomes : X → List (List Outcome)) (store : X → Stopped) (stopped : Result Stopped F)
+          → IfOk stopped (λ (t : Stopped). IsBaseOf heap.opening t.base_clock (states_of t.base))
+          → IfOk stopped (λ (t : Stopped). IsStopped heap.opening.layout t.base_clock t.base (map ticket news) t)
+          → (result : Result X E)
+          → IfOk result (λ (x : X). (ran ≡ Ok (record { outcomes = outcomes x })) × (stopped ≡ Ok (store x)))
+          → IfOk result (λ (x : X). HasEnded j (outcomes x) (store x))
+      ended_of gates lent are outcomes store stopped base stops (Ok x) is =
+          has_ended j heap opens.opening ticket gate olds news dealt_first (subst (AreGates j.stops j.callers) (sym lent) are)
+          (outcomes x) (store x)
+          (subst (λ (r : Result Ran F). IfOk r (λ (y : Ran). Leaves (map Some y.outcomes))) is.0 worked)
+          (subst (λ (r : Result Stopped F). IfOk r (λ (t : Stopped). IsBaseOf heap.opening t.base_clock (states_of t.base))) is.1 base)
+          (subst (λ (r : Result Stopped F).
+          IfOk r (λ (t : Stopped). IsStopped heap.opening.layout t.base_clock t.base (map ticket news) t)) is.1 stops)
+      ended_of gates lent are outcomes store stopped base stops (Err e) is = tt

@@ -111,7 +111,7 @@ module _ {P : Type 0} (heap : HeapShown) (ticket : P → CallerShown) (gate : P 
           uncut = ap (λ (x : CallerShown). x.held.part.cuts) (first_at caller old.0 old.1);
           first = (gate old.0).cuts;
           last = (gate at.0).cuts;
-          stops = cuts_the_stopped gate job.stops caller old.0 at.0 _ (gates.each caller (gate old.0) (row_in_map gate olds caller old.0 old.1))
-              was.gate;
+          stops = cuts_the_stopped gate job.stops caller old.0 at.0 _
+              (gates.each caller (gate old.0) (row_in_map gate olds caller old.0 old.1)) was.gate;
           worked = was.worked;
         })
