@@ -3,4 +3,4 @@ use Rattle.montage_tool.proofs.serve.Given as goal
 
 -- so many boxes were made
 abbrev pub invariant-loop-pair : goal.invariant-loop-pair
-invariant-loop-pair l = length l.indexes.items ≡ 2 * l._pair
+invariant-loop-pair g l = length l.indexes.items ≡ 2 * l._pair
