@@ -1,37 +1,63 @@
 -- A job that was read, and a report that was sent, make a run of the job.
-use Rattle.std.proofs.Common.{◌≡◌, ℕ, List, length, inl, inr, refl, sym, ap, subst, arith}
+use Rattle.std.proofs.Common.{◌≡◌, ℕ, ◌<◌, List, length, inl, inr, refl, sym, ap, ◌∙◌, subst, arith}
 use Rattle.std.specs.Prelude.{Option, Some, None, Result, Ok, Err, OnOk, OnErr, IfSome}
 use Rattle.std.specs.Io.KnownBytes.{Appends, IsAtEnd}
 use Rattle.std.proofs.lemmas.List.{take_all}
 use Rattle.mont_base.specs.Faults.{HasCause}
+use Rattle.mont_base.specs.Layout.{Shape}
 use Rattle.job_text.specs.declared.job.Job.{Job}
-use Rattle.job_text.specs.Grammar.{IsFirstJob}
+use Rattle.job_text.specs.Grammar.{IsJob}
 use Rattle.job_text.specs.JobText.{job_text}
 use Rattle.job_text.specs.Report.{Report}
 use Rattle.job_text.specs.ReportText.{report_text}
 use Rattle.job_text.specs.Taken.{HasLostSome}
+use Rattle.montage.specs.MapBoxes.{keys_for, HaveEmptyBoxes, IsFirstLack}
 use Rattle.montage_tool.specs.Delivery.{AppendsPrefix}
 use Rattle.montage_tool.specs.declared.status.Status.{Status}
-use Rattle.montage_tool.specs.declared.status.Status.TheVariants.{Done, BadWords, BadJob, ReadFault, WriteFault, Memory}
+use Rattle.montage_tool.specs.declared.status.Status.TheVariants.{Done, BadWords, BadJob, ReadFault, WriteFault, Memory, BadIndex}
 use Rattle.montage_tool.specs.declared.status.SinkName.{SinkName}
 use Rattle.montage_tool.specs.declared.status.SinkName.TheVariants as sinks
 use Rattle.montage_tool.specs.Run.{IsRun}
 use Rattle.montage_tool.specs.Program.{IsTold}
-use Rattle.montage_tool.specs.Montage.{Reports, IsSent, IsReported, RunsJob}
+use Rattle.montage_tool.specs.Montage.{IsJobOf, Reports, IsSent, RefusesBoxes, IsReported, RunsJob}
 
 -- what is known of the source once a job was read
 pub record HasJob {J : Type 0} (left : J → Option (List ℕ)) (faults : J → ℕ) (job read : J) (j : Job) : Type 0 where
-  pub is_job : IsFirstJob j
-  pub spelled : IfSome (left job) (λ text. text ≡ job_text j)
+  pub of_job : IsJobOf (left job) j
+  pub same : (i : Job) → IsJob i → left job ≡ Some (job_text i) → j ≡ i
   pub few : HasLostSome (left job) (left read)
   pub ended : IsAtEnd (left read)
   pub kept : faults read ≡ faults job
 
+-- ---- the lowest map unit without an empty box
+module _ (s : Shape) (boxes : List ℕ) where
+  boxed_lacks_none : (unit : ℕ) (len : Option ℕ) → HaveEmptyBoxes s boxes → IsFirstLack s boxes unit len → ⊥
+  boxed_lacks_none unit len boxed lack = lack.lacks (sym lack.has ∙ boxed unit lack.map)
+
+  not_before : (unit other : ℕ) (len more : Option ℕ) → IsFirstLack s boxes unit len → IsFirstLack s boxes other more → other < unit → ⊥
+  not_before unit other len more lack also low = also.lacks (sym also.has ∙ lack.lower other low also.map)
+
+  same_unit : (unit other : ℕ) (len more : Option ℕ) → IsFirstLack s boxes unit len → IsFirstLack s boxes other more → unit ≡ other
+  same_unit unit other len more lack also =
+      let a = not_before unit other len more lack also in
+      let b = not_before other unit more len also lack in
+      omega (arith, a, b)
+
+  same_lack : (unit other : ℕ) (len more : Option ℕ) → IsFirstLack s boxes unit len → IsFirstLack s boxes other more
+      → BadIndex unit len ≡ BadIndex other more
+  same_lack unit other len more lack also =
+      let same = same_unit unit other len more lack also in
+      let keys : len ≡ more = sym lack.has ∙ ap (keys_for s boxes) same ∙ also.has in
+      λ i. BadIndex (same i) (keys i)
+
 module _
-    {J O : Type 0} (left : J → Option (List ℕ)) (read_faults : J → ℕ) (taken : O → Option (List ℕ)) (write_faults : O → ℕ) (job read : J)
-    (out written : O) (j : Job) (has : HasJob left read_faults job read j) where
+    {J O : Type 0} (left : J → Option (List ℕ)) (read_faults : J → ℕ) (taken : O → Option (List ℕ)) (write_faults : O → ℕ) (boxes : List ℕ)
+    (job read : J) (out written : O) (j : Job) (has : HasJob left read_faults job read j) where
   abbrev Runs : Status → Type 0
-  Runs status = RunsJob left read_faults taken write_faults job read out written status
+  Runs status = RunsJob left read_faults taken write_faults boxes job read out written status
+
+  lack_of : (i : Job) (unit : ℕ) (len : Option ℕ) → j ≡ i → IsFirstLack j.layout boxes unit len → IsFirstLack i.layout boxes unit len
+  lack_of i unit len same lack = subst (λ (k : Job). IsFirstLack k.layout boxes unit len) same lack
 
   run_memory : written ≡ out → Runs Memory
   run_memory same = record {
@@ -41,17 +67,57 @@ module _
     words = λ e. absurd (cc);
     bad_job = λ line fault e. absurd (cc);
     accepted = λ i line fault is text e. absurd (cc);
+    bad_index = λ unit len e. absurd (cc);
+    lacks_box = λ i unit len is text lack a. inr refl;
     read_fault = λ which e. absurd (cc);
     read_kept = λ others. has.kept;
     write_fault = λ which e. absurd (cc);
     write_kept = λ others. λ i. write_faults (same i);
     quiet = λ a b. same;
-    complete = λ i is text a b. inr refl;
+    complete = λ i is text boxed a b. inr refl;
   }
 
-  module _ (report : Report) (run : IsRun j report) where
-    reports : Reports (left job) (report_text report)
-    reports = record { job = j; is_job = has.is_job; spelled = has.spelled; report = report; run = run; text = refl }
+  abbrev unit_of : Status → ℕ
+  unit_of (BadIndex unit len) = unit
+  unit_of _ = 0
+
+  abbrev keys_of : Status → Option ℕ
+  keys_of (BadIndex unit len) = len
+  keys_of _ = None
+
+  run_lacks : (unit : ℕ) (len : Option ℕ) → IsFirstLack j.layout boxes unit len → written ≡ out → Runs (BadIndex unit len)
+  run_lacks unit len lack same = record {
+    done = λ e. absurd (cc);
+    whole = λ e. absurd (cc);
+    few = has.few;
+    words = λ e. absurd (cc);
+    bad_job = λ line fault e. absurd (cc);
+    accepted = λ i line fault is text e. absurd (cc);
+    bad_index = λ other more e. (
+      j,
+      has.of_job,
+      subst (λ (x : ℕ × Option ℕ). IsFirstLack j.layout boxes x.0 x.1) (λ i. (ap unit_of e i, ap keys_of e i)) lack,
+    );
+    lacks_box = λ i other more is text also a.
+        inl (same_lack i.layout boxes unit other len more (lack_of i unit len (has.same i is text) lack) also);
+    read_fault = λ which e. absurd (cc);
+    read_kept = λ others. has.kept;
+    write_fault = λ which e. absurd (cc);
+    write_kept = λ others. λ i. write_faults (same i);
+    quiet = λ a b. same;
+    complete = λ i is text boxed a b.
+        absurd (boxed_lacks_none i.layout boxes unit len boxed (lack_of i unit len (has.same i is text) lack));
+  }
+
+  module _ (boxed : HaveEmptyBoxes j.layout boxes) (report : Report) (run : IsRun j report) where
+    reports : Reports (left job) boxes (report_text report)
+    reports = record { job = j; of_job = has.of_job; boxed = boxed; report = report; run = run; text = refl }
+
+    none_lacks : {X : Type 0} (i : Job) (unit : ℕ) (len : Option ℕ) → IsJob i → left job ≡ Some (job_text i)
+        → IsFirstLack i.layout boxes unit len → X
+    none_lacks i unit len is text lack =
+        absurd (boxed_lacks_none i.layout boxes unit len
+        (subst (λ (k : Job). HaveEmptyBoxes k.layout boxes) (has.same i is text) boxed) lack)
 
     run_sent : (status : Status) → IsSent taken write_faults out written (report_text report) status → Runs status
     run_sent Done sent = record {
@@ -61,12 +127,14 @@ module _
       words = λ e. absurd (cc);
       bad_job = λ line fault e. absurd (cc);
       accepted = λ i line fault is text e. absurd (cc);
+      bad_index = λ unit len e. absurd (cc);
+      lacks_box = λ i unit len is text lack a. none_lacks i unit len is text lack;
       read_fault = λ which e. absurd (cc);
       read_kept = λ others. has.kept;
       write_fault = λ which e. absurd (cc);
       write_kept = λ others. sent.1;
       quiet = λ a b. absurd (a refl);
-      complete = λ i is text a b. inl refl;
+      complete = λ i is text boxed a b. inl refl;
     }
     run_sent (WriteFault which) sent = record {
       done = λ e. absurd (cc);
@@ -75,12 +143,14 @@ module _
       words = λ e. absurd (cc);
       bad_job = λ line fault e. absurd (cc);
       accepted = λ i line fault is text e. absurd (cc);
+      bad_index = λ unit len e. absurd (cc);
+      lacks_box = λ i unit len is text lack a. none_lacks i unit len is text lack;
       read_fault = λ other e. absurd (cc);
       read_kept = λ others. has.kept;
       write_fault = λ other e. (same_sink other e, sent.1, (report_text report, reports, sent.2));
       write_kept = λ others. absurd (others which refl);
       quiet = λ a b. absurd (b which refl);
-      complete = λ i is text a b. absurd (b sent.1);
+      complete = λ i is text boxed a b. absurd (b sent.1);
     }
       where
         sink_of : Status → SinkName
@@ -93,10 +163,20 @@ module _
     run_sent (BadJob line fault) sent = absurd sent
     run_sent (ReadFault which) sent = absurd sent
     run_sent Memory sent = absurd sent
+    run_sent (BadIndex unit len) sent = absurd sent
 
-  pub run_reported : (status : Status) → IsReported taken write_faults out written j status → Runs status
-  run_reported status (inl memory) = subst Runs (sym memory.0) (run_memory memory.1)
-  run_reported status (inr sent) = run_sent sent.0 sent.1 status sent.2
+  run_refused : (status : Status) → RefusesBoxes j boxes status → written ≡ out → Runs status
+  run_refused (BadIndex unit len) lack same = run_lacks unit len lack same
+  run_refused Memory lack same = run_memory same
+  run_refused Done lack same = absurd lack
+  run_refused BadWords lack same = absurd lack
+  run_refused (BadJob line fault) lack same = absurd lack
+  run_refused (ReadFault which) lack same = absurd lack
+  run_refused (WriteFault which) lack same = absurd lack
+
+  pub run_reported : (status : Status) → IsReported taken write_faults boxes out written j status → Runs status
+  run_reported status (inl refused) = run_refused status refused.0 refused.1
+  run_reported status (inr sent) = run_sent sent.0 sent.1.0 sent.1.1 status sent.1.2
 
 -- ---- a line that is told
 module _ {O : Type 0} (taken : O → Option (List ℕ)) (faults : O → ℕ) (out told : O) (line : List ℕ) where

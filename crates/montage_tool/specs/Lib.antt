@@ -1,6 +1,4 @@
-pub mod Log
-pub mod Machine
-pub mod Stopped
+pub mod Gates
 pub mod Run
 pub mod Delivery
 pub mod Status

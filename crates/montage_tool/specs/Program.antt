@@ -9,13 +9,16 @@ use Rattle.montage_tool.specs.declared.about.TheConstants.{HELP, VERSION}
 use Rattle.montage_tool.specs.declared.status.Status.{Status}
 use Rattle.montage_tool.specs.declared.status.Status.TheVariants.{BadWords}
 
--- What came of the words: a text on the program itself, a run of a job, or nothing.
+-- What came of the words, with boxes of so many keys: a text on the program itself, a run of a job,
+-- or nothing.
 pub record Answers {J O : Type 0} (left : J → Option (List ℕ)) (read_faults : J → ℕ)
-    (taken : O → Option (List ℕ)) (write_faults : O → ℕ) (words : List (List ℕ)) (job read : J)
-    (out written : O) (status : Status) : Type 0 where
+    (taken : O → Option (List ℕ)) (write_faults : O → ℕ) (boxes : List ℕ) (words : List (List ℕ))
+    (job read : J) (out written : O) (status : Status) : Type 0 where
   pub help : AreHelp words → IsSent taken write_faults out written HELP.now status
   pub version : AreVersion words → IsSent taken write_faults out written VERSION.now status
-  pub run : AreRun words → RunsJob left read_faults taken write_faults job read out written status
+  pub run :
+      AreRun words
+      → RunsJob left read_faults taken write_faults boxes job read out written status
   pub bad_words :
       ¬ AreHelp words → ¬ AreVersion words → ¬ AreRun words
       → (status ≡ BadWords) × (written ≡ out)

@@ -1,103 +1,104 @@
--- What a run of a job's lines leaves.
-use Rattle.std.specs.Prelude.{◌≡◌, ◌↔◌, ℕ, ◌+◌, ◌-◌, ◌≤◌, ◌<◌, List, [], ◌∷◌, ◌++◌, length, take, replicate, All, AllPairs, count_by, slice_get, Some, if◌then◌else◌}
-use Rattle.mont_base.specs.declared.constants.TheConstants.{FIRST_CLOCK}
-use Rattle.mont_base.specs.declared.operation.Entry.{Entry}
-use Rattle.mont_base.specs.Layout.{Shape, units_of}
-use Rattle.mont_base.specs.State.{State}
-use Rattle.mont_base.specs.Image.{IsPermitted, clock_of, IsWellFormed, IsRecovered, empty_states}
+-- What a run of a job leaves, and what its report tells.
+use Rattle.std.specs.Prelude.{◌≡◌, ℕ, List, [], length, replicate, slice_get, Some}
+use Rattle.mont_base.specs.declared.constants.TheConstants.{FIRST_CLOCK, LAST}
+use Rattle.mont_base.specs.Layout.{units_of}
+use Rattle.mont_base.specs.Image.{IsPermitted, IsRecovered, clock_of, empty_states}
+use Rattle.plain.specs.declared.contents.Contents.{Contents}
+use Rattle.plain.specs.States.{states_of}
+use Rattle.heap_rule.specs.declared.rule.Opening.{Opening}
+use Rattle.heap.specs.FreshOpening.{fresh_opening}
+use Rattle.heap.specs.HeapShown.{CallerShown}
+use Rattle.job_text.specs.declared.job.Deed.{Deed}
+use Rattle.job_text.specs.declared.job.Deed.TheVariants.{Call, Tick, Sync}
 use Rattle.job_text.specs.declared.job.Job.{Job}
 use Rattle.job_text.specs.declared.job.Line.{Line}
-use Rattle.job_text.specs.declared.job.Deed.{Deed}
-use Rattle.job_text.specs.declared.job.Deed.TheVariants.{Call, Tick}
 use Rattle.job_text.specs.declared.outcome.Outcome.{Outcome}
-use Rattle.job_text.specs.declared.outcome.Outcome.TheVariants.{At, Ticked}
-use Rattle.job_text.specs.Grammar.{is_put}
-use Rattle.job_text.specs.Report.{Report}
-use Rattle.job_text.specs.Outcomes.{InOrder, is_at, names_entry}
-use Rattle.job_text.specs.AnsweredLines.{IsAnswer}
+use Rattle.job_text.specs.declared.outcome.Outcome.TheVariants.{At, Synced, Ticked, ClockEnd, Full, CountEnd}
 use Rattle.job_text.specs.Faithful.{IsFaithful}
-use Rattle.montage_tool.specs.declared.machine.Machine.{Machine}
-use Rattle.montage_tool.specs.Log.{current_words, durable_words}
+use Rattle.job_text.specs.Report.{Report, lines_of}
+use Rattle.job_report.specs.Reported.{HasRun}
+use Rattle.mont_image.specs.Picking.{IsPick}
+use Rattle.store_stop.specs.declared.headline.Stopped.{Stopped}
+use Rattle.store_stop.specs.Headline.{IsBaseOf, IsStopped}
 
--- ---- lines and outcomes
--- one caller on a fresh store: what a report of it says that the outcomes speak of
-abbrev pub so_far : Shape → List Entry → ℕ → Report
-so_far s h clock = record {
-  layout = s;
-  callers = 1;
-  base_clock = FIRST_CLOCK;
-  base = [];
-  histories = h ∷ replicate (units_of s - 1) [];
-  outcomes = [];
-  image_clock = clock;
-  contents = [];
-}
+-- ---- behind the threads
+-- how a store opens for a job
+abbrev pub opening_of : Job → Opening
+opening_of j = fresh_opening j.layout j.callers
 
--- an outcome of the run so far: an entry that is there, or a clock that was reached
-abbrev pub IsReached : List Entry → ℕ → Outcome → Type 0
-IsReached h clock (At unit place) = (unit ≡ 0) × (place < length h)
-IsReached h clock (Ticked epoch) = epoch ≤ clock
-IsReached h clock _ = ⊥
-
--- An outcome so far answers what its line asks, behind these: a call has its entry, and a tick
--- moved the clock. Nothing else comes of a line.
-abbrev pub AnswersSoFar : Shape → List Entry → ℕ → List Outcome → Deed → Outcome → Type 0
-AnswersSoFar s h clock before (Call op) (At unit place) =
-    IsAnswer (so_far s h clock) 0 (count_by is_at before) op unit place
-AnswersSoFar s h clock before Tick (Ticked epoch) = (FIRST_CLOCK < epoch) × (epoch ≤ clock)
-AnswersSoFar s h clock before deed _ = ⊥
-
--- The outcomes so far answer the lines so far, and name each entry once.
-pub record Played (s : Shape) (h : List Entry) (clock : ℕ) (lines : List Line)
-    (os : List Outcome) : Type 0 where
-  pub one_each : length os ≡ length lines
+-- Each caller of the job ran its lines on a store that was never used. The store was stopped with
+-- what the tickets of the callers then showed.
+pub record HasEnded (j : Job) (outcomes : List (List Outcome)) (t : Stopped) : Type 0 where
+  pub opened : IsBaseOf (opening_of j) t.base_clock (states_of t.base)
+  pub callers : List CallerShown
+  pub callers_are : length callers ≡ j.callers
+  pub answered : length outcomes ≡ j.callers
   pub each :
-      (i : ℕ) (l : Line) (o : Outcome) → slice_get lines i ≡ Some l → slice_get os i ≡ Some o
-      → AnswersSoFar s h clock (take i os) l.deed o
-  pub order : AllPairs (InOrder (so_far s h clock).histories) os
-  pub reached : All (IsReached h clock) os
-  pub calls : count_by is_at os ≡ length h
-  pub once : (place : ℕ) → place < length h → count_by (names_entry 0 place) os ≡ 1
+      (caller : ℕ) (left : CallerShown) (of_caller : List Outcome)
+      → slice_get callers caller ≡ Some left → slice_get outcomes caller ≡ Some of_caller
+      → HasRun j (opening_of j) caller left.held of_caller
+  pub stopped : IsStopped j.layout t.base_clock t.base callers t
 
--- What one line did to the machine, and to the outcomes so far.
-pub record LineDone (old new : Machine) (l : Line) (o : Outcome) : Type 0 where
-  pub layout : new.layout ≡ old.layout
-  pub clock : new.clock ≤ old.clock + 1
-  pub history : length new.history.items ≤ length old.history.items + 1
-  pub records :
-      length new.records.items ≡ length old.records.items + (if is_put l then 1 else 0)
-  pub played :
-      (lines : List Line) (os : List Outcome)
-      → Played old.layout old.history.items old.clock lines os
-      → Played new.layout new.history.items new.clock (lines ++ l ∷ []) (os ++ o ∷ [])
+-- an image that a crash permits of the words, as the job's mask picks it
+pub record IsPickOf (j : Job) (t : Stopped) (image : List ℕ) : Type 0 where
+  pub picked : IsPick j.mask t.words.cur t.words.dur image
+  pub permitted : IsPermitted t.words.cur t.words.dur image
 
--- ---- the whole run
--- the history of the map unit, which is unit 0
-abbrev pub map_history : List (List Entry) → List Entry
-map_history [] = []
-map_history (h ∷ histories) = h
+-- ---- the report
+-- The report is of a store that was opened empty for the callers of the job, and was stopped with
+-- these histories. The image is what the job's mask picks of its words, and the contents are what
+-- recovery rebuilds from it.
+pub record IsOfStore (j : Job) (r : Report) : Type 0 where
+  pub base : Contents
+  pub empty : states_of base ≡ empty_states j.layout
+  pub callers : List CallerShown
+  pub callers_are : length callers ≡ j.callers
+  pub store : Stopped
+  pub stopped : IsStopped j.layout FIRST_CLOCK base callers store
+  pub histories : r.histories ≡ store.histories
+  pub image : List ℕ
+  pub pick : IsPickOf j store image
+  pub clock : r.image_clock ≡ clock_of image
+  pub rebuilt : IsRecovered j.layout image r.contents
 
--- the words that a run leaves are told by its report: the layout, the clock and the map's history
-abbrev pub current_left : Report → List ℕ
-current_left r = current_words r.layout r.image_clock (map_history r.histories)
+-- What comes of a line where no caller is cut, if the image has this clock. A call may find no
+-- room, or a number at its end, and a clock that is the last one doesn't move.
+abbrev pub EndsCall : ℕ → Outcome → Type 0
+EndsCall clock (At unit place) = Unit {0}
+EndsCall clock (Full need free durable) = Unit {0}
+EndsCall clock (CountEnd which) = Unit {0}
+EndsCall clock ClockEnd = clock ≡ LAST
+EndsCall clock _ = ⊥
 
-abbrev pub durable_left : Report → List ℕ
-durable_left r = durable_words r.layout r.image_clock (map_history r.histories)
+abbrev pub EndsTick : ℕ → Outcome → Type 0
+EndsTick clock (Ticked epoch) = Unit {0}
+EndsTick clock ClockEnd = clock ≡ LAST
+EndsTick clock _ = ⊥
 
--- recovery accepts an image with the report's clock, and rebuilds the report's contents and no
--- others
-pub record GivesContents (r : Report) (image : List ℕ) : Type 0 where
-  pub accepted : IsWellFormed r.layout image
-  pub clock : clock_of image ≡ r.image_clock
-  pub rebuilt :
-      (states : List State) → IsRecovered r.layout image states ↔ (states ≡ r.contents)
+abbrev pub EndsSync : ℕ → Outcome → Type 0
+EndsSync clock (Synced epoch) = Unit {0}
+EndsSync clock ClockEnd = clock ≡ LAST
+EndsSync clock _ = ⊥
 
--- A report of a run of the job on a fresh store: it is faithful, and its contents are what recovery
--- rebuilds from each image that a crash permits of the words at the end. The durable words are such
--- an image.
+abbrev pub IsCarriedOut : ℕ → Deed → Outcome → Type 0
+IsCarriedOut clock (Call op) o = EndsCall clock o
+IsCarriedOut clock Tick o = EndsTick clock o
+IsCarriedOut clock Sync o = EndsSync clock o
+
+-- so ended all lines of a caller
+pub record AreCarriedOut (clock : ℕ) (lines : List Line) (outcomes : List Outcome) : Type 0 where
+  pub all : length outcomes ≡ length lines
+  pub each :
+      (i : ℕ) (l : Line) (o : Outcome) → slice_get lines i ≡ Some l
+      → slice_get outcomes i ≡ Some o → IsCarriedOut clock l.deed o
+
+-- A report of a run of the job on a store that was never used, of which no unit was opened with a
+-- record. It is faithful, and where the job stops nobody all lines were carried out.
 pub record IsRun (j : Job) (r : Report) : Type 0 where
-  pub faithful : IsFaithful j FIRST_CLOCK (empty_states j.layout) [] r
-  pub permitted : IsPermitted (current_left r) (durable_left r) (durable_left r)
-  pub images :
-      (image : List ℕ) → IsPermitted (current_left r) (durable_left r) image
-      → GivesContents r image
+  pub faithful :
+      IsFaithful j FIRST_CLOCK (empty_states j.layout) (replicate (units_of j.layout) []) r
+  pub of_store : IsOfStore j r
+  pub unstopped :
+      j.stops ≡ [] → (caller : ℕ) (outcomes : List Outcome)
+      → slice_get r.outcomes caller ≡ Some outcomes
+      → AreCarriedOut r.image_clock (lines_of j caller) outcomes

@@ -3,7 +3,7 @@ use Rattle.std.specs.Prelude.{ℕ, List, [], ◌∷◌, ◌++◌, codes, decimal
 use Rattle.job_text.specs.declared.job.JobFault.{JobFault}
 use Rattle.job_text.specs.declared.job.JobFault.TheVariants as faults
 use Rattle.montage_tool.specs.declared.status.Status.{Status}
-use Rattle.montage_tool.specs.declared.status.Status.TheVariants.{Done, BadWords, BadJob, ReadFault, WriteFault, Memory}
+use Rattle.montage_tool.specs.declared.status.Status.TheVariants.{Done, BadWords, BadJob, ReadFault, WriteFault, Memory, BadIndex}
 use Rattle.montage_tool.specs.declared.status.SourceName.{SourceName}
 use Rattle.montage_tool.specs.declared.status.SourceName.TheVariants as sources
 use Rattle.montage_tool.specs.declared.status.SinkName.{SinkName}
@@ -16,6 +16,7 @@ exit_code_of (BadJob line fault) = 3
 exit_code_of (ReadFault which) = 5
 exit_code_of (WriteFault which) = 6
 exit_code_of Memory = 7
+exit_code_of (BadIndex unit len) = 8
 
 -- the word for what is wrong with a line of a job
 abbrev pub fault_word : JobFault → List ℕ
@@ -43,6 +44,7 @@ status_bytes (BadJob line fault) =
 status_bytes (ReadFault which) = codes "montage: read fault: " ++ source_word which
 status_bytes (WriteFault which) = codes "montage: write fault: " ++ sink_word which
 status_bytes Memory = codes "montage: out of memory"
+status_bytes (BadIndex unit len) = codes "montage: index " ++ decimal unit
 
 -- a text with a line feed behind it, if there is one
 abbrev pub with_line_feed : List ℕ → List ℕ

@@ -12,13 +12,24 @@ usage:
   montage --version   the version
 
 A job is lines of text. The first is
-  montage-job 3 mqg S 1 0 0000000000000000
-with S from 8 to 4096, the slots of a unit. The others are
-  0 put KEY VALUE     0 get KEY     0 tick
+  montage-job 3 KINDS S N A MASK
+KINDS has a letter for each of 1 to 16 units: m for a map, q a queue, g a graph.
+S from 8 to 4096 are the slots of a unit, N from 1 to 8 the callers, A up to
+1000000 how often it is tried beside them to move the clock on. MASK is 16 digits
+0 to 9, a to f: which words a crash leaves at their current values.
+Then come lines that cut a caller, or as caller N the attempts, behind K steps:
+  stop C K
+The others are lines of the callers 0 to N-1, each in a thread of its own:
+  C put KEY VALUE     C get KEY           C del KEY
+  C enq UNIT ITEM     C deq UNIT          C len UNIT
+  C addv UNIT V ATTR  C delv UNIT V       C vertex UNIT V     C degree UNIT V
+  C adde UNIT V W ATTR                    C dele UNIT V W
+  C tick              C sync
 A key or a value has at most 24 bytes. A byte from ! to ~ other than % stands for
 itself, any other is % and two digits 0 to 9, a to f. The empty text is % alone.
 
-exit status: 0 done, 2 bad words, 3 bad job, 5 read fault, 6 write fault, 7 out of memory
+exit status: 0 done, 2 bad words, 3 bad job, 5 read fault, 6 write fault,
+7 out of memory, 8 a map unit without an empty box
 ";
 
 /// The answer to `--version`.

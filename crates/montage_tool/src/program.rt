@@ -1,5 +1,6 @@
 // What the program does with the devices of its process, whichever they are.
 ghost use Rattle.std.specs.Prelude.{◌≡◌, Ok, IfOk, OnOk, OnErr, map, string_bytes};
+ghost use Rattle.std.specs.FinMap as finite;
 ghost use Rattle.std.specs.Process.{exit_status};
 ghost use Rattle.montage_tool.specs.Montage.{IsSent};
 ghost use Rattle.montage_tool.specs.Program.{Answers, IsTold};
@@ -9,27 +10,38 @@ use crate::about::question_of;
 use crate::delivery::deliver;
 use crate::montage::{montage, send};
 use crate::status::{Status, exit_code, status_text};
+use index_kit::Index;
 use mont_base::{Sink, Source};
 use std::alloc::{AllocError, Global};
 use std::process::ExitCode;
+use std::sync::Wait;
+use std::thread::Threads;
 
 // Answers what the words ask: of the program itself, or by `montage`.
-pub(crate) fn answer<R: AllocGlobal, J: Source, I: Source, O: Sink, K: Sink>(
+pub(crate) fn answer<
+    R: AllocGlobal + Threads + Wait + Sync,
+    J: Source,
+    I: Source,
+    O: Sink,
+    K: Sink,
+>(
     rt: &R,
     words: &[String],
     job: &mut J,
     image: &mut I,
+    indexes: Vec<Box<dyn Index + Send>>,
     out: &mut O,
     image_out: &mut K,
 ) -> Status
-    ensures answered { Answers J.left J.faults O.taken O.faults (map string_bytes words.now)
+    ensures answered { Answers J.left J.faults O.taken O.faults
+        (map (λ b. finite.len (places b)) indexes.items) (map string_bytes words.now)
         job.old job.new out.old out.new result }
     ensures image { image.new ≡ image.old }
     ensures image_out { image_out.new ≡ image_out.old }
 {
     match question_of(words) {
         Some(question) => say(out, question.text()),
-        None => montage(rt, words, job, image, out, image_out),
+        None => montage(rt, words, job, image, indexes, out, image_out),
     }
 }
 

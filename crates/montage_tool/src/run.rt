@@ -1,103 +1,123 @@
-// A run of a job, from its lines to its report.
-ghost use Rattle.std.specs.Prelude.{MatchResult, ◌≡◌, ◌<◌, ◌≤◌, [], length, true, IfOk, OnOk, count_by};
-ghost use Rattle.job_text.specs.Grammar.{IsFirstJob, IsFirstLine, is_put};
-ghost use Rattle.std.specs.List.{All};
+// A run of a job: from its lines to its report.
+ghost use Rattle.std.specs.Prelude.{◌≡◌, map, Ok, IfOk, IfErr, OnOk};
+ghost use Rattle.std.specs.FinMap as finite;
+ghost use Rattle.heap.specs.Opens.{Opens};
+ghost use Rattle.job_text.specs.Grammar.{IsJob};
 ghost use Rattle.job_text.specs.PlainReport.{report_of};
-ghost use Rattle.montage_tool.specs.Machine.{IsReady};
-ghost use Rattle.montage_tool.specs.Run.{Played, LineDone, IsRun};
+ghost use Rattle.montage.specs.MapBoxes.{HaveEmptyBoxes, LacksBox};
+ghost use Rattle.montage_tool.specs.Gates.{AreGates};
+ghost use Rattle.montage_tool.specs.Run.{opening_of, HasEnded, IsPickOf, IsRun};
 
-use crate::machine::Machine;
-use crate::stopped::Stopped;
-use job_text::{Deed, Job, Line, MOST_LINES, Outcome, Report};
-use mont_base::{FIRST_CLOCK, LAST, Receipt, Sequence};
+use crate::gates::{gate_of, gates_of};
+use heap::{Heap, Seats};
+use heap_pass::HeapName;
+use index_kit::Index;
+use job_report::make_report;
+use job_text::{Job, Outcome, Report};
+use mont_base::{Fuel, Sequence};
+use mont_image::{Image, pick};
+use montage::{OpenRefusal, Ran, Store, run};
 use plain::recover;
 use std::alloc::{AllocError, Global};
+use std::marker::Brand;
+use std::sync::Wait;
+use std::thread::Threads;
+use store_stop::Stopped;
 
-/// Runs a job on a fresh store and reports, with what recovery finds in the words that outlive a
-/// crash at the end.
-pub(crate) fn run(alloc: Global, job: &Job) -> Result<Report, AllocError>
-    requires { IsFirstJob job.now }
-    ensures { IfOk result (λ report. IsRun job.now (report_of report)) }
+/// Runs a job on a store that was never used, with a thread for each caller and one that moves the
+/// clock on. Each map unit is given the next of the boxes. The report tells what recovery finds in
+/// the image that the job's mask picks of the stopped store's words.
+pub(crate) fn run_job<R: Threads + Wait + Sync, I: Index + Send>(
+    rt: &R,
+    alloc: Global,
+    job: &Job,
+    indexes: Vec<I>,
+) -> Result<Report, OpenRefusal>
+    requires { IsJob job.now }
+    ensures run { IfOk result (λ report. IsRun job.now (report_of report)) }
+    ensures boxes { OnOk result (HaveEmptyBoxes job.now.layout
+        (map (λ b. finite.len (I.places b)) indexes.items)) }
+    ensures lacks { IfErr result (λ why. LacksBox job.now.layout
+        (map (λ b. finite.len (I.places b)) indexes.items) why) }
 {
-    let mut machine = Machine::new(alloc, job.layout)?;
-    let outcomes = play(alloc, &mut machine, job.lines.as_slice())?;
-    let image_clock = machine.clock;
-    let Stopped {
-        words,
-        base_clock,
-        base,
-        histories,
-    } = machine.stop(alloc)?;
-    let contents = recover(alloc, job.layout, words.dur.as_slice())?;
-    let mut by_caller = Sequence::new(alloc);
-    by_caller.push(Sequence::from_vec(outcomes))?;
-    Ok(Report {
-        layout: job.layout,
-        callers: job.callers,
-        base_clock,
-        base,
-        histories,
-        outcomes: by_caller,
-        image_clock,
-        contents,
+    let gates = gates_of(alloc, job)?;
+    let (heap, seats) = Heap::fresh(alloc, job.layout, job.callers)?;
+    let ended = run_on::<_, Brand, _>(rt, alloc, heap, seats, gates, job, indexes)?;
+    Ok(report_on(alloc, job, ended)?)
+}
+
+// A run whose store was stopped.
+#[derive(Drop)]
+struct Ended {
+    outcomes: Sequence<Sequence<Outcome>>,
+    stopped: Stopped,
+}
+
+// Runs a job on the heap that N names.
+fn run_on<R: Threads + Wait + Sync, N: HeapName + Send + Sync, I: Index + Send>(
+    rt: &R,
+    alloc: Global,
+    heap: Heap,
+    seats: Seats,
+    gates: Vec<Fuel>,
+    job: &Job,
+    indexes: Vec<I>,
+) -> Result<Ended, OpenRefusal>
+    requires named { heap ≡ N.heap }
+    requires opens { Opens (opening_of job.now) N.heap seats.units.items seats.advancer
+        seats.callers.items }
+    requires gates { AreGates job.now.stops job.now.callers gates.items }
+    requires job { IsJob job.now }
+    ensures ended { IfOk result (λ e. HasEnded job.now e.outcomes e.stopped) }
+    ensures boxes { OnOk result (HaveEmptyBoxes job.now.layout
+        (map (λ b. finite.len (I.places b)) indexes.items)) }
+    ensures lacks { IfErr result (λ why. LacksBox job.now.layout
+        (map (λ b. finite.len (I.places b)) indexes.items) why) }
+{
+    let mut gate = gate_of(job.stops.as_slice(), job.callers);
+    let (store, mut passes) = Store::<N, I>::fresh(alloc, heap, seats, gates, indexes)?;
+    let ran = run(rt, alloc, &store, job, &mut passes, &mut gate);
+    let stopped = store.stop(alloc, passes);
+    ended_with(ran, stopped)
+}
+
+// What the run and the stop gave, where neither lacked memory.
+fn ended_with(
+    ran: Result<Ran, AllocError>,
+    stopped: Result<Stopped, AllocError>,
+) -> Result<Ended, OpenRefusal>
+    ensures ended { IfOk result (λ e. (ran ≡ Ok (record { outcomes = e.outcomes }))
+        × (stopped ≡ Ok e.stopped)) }
+    ensures memory { IfErr result (λ why. why ≡ OpenRefusal.Memory) }
+{
+    Ok(Ended {
+        outcomes: ran?.outcomes,
+        stopped: stopped?,
     })
 }
 
-// Runs the lines in order.
-fn play(alloc: Global, machine: &mut Machine, lines: &[Line]) -> Result<Vec<Outcome>, AllocError>
-    requires ready { IsReady machine.old }
-    requires history { machine.old.history.items ≡ [] }
-    requires records { machine.old.records.items ≡ [] }
-    requires clock { machine.old.clock ≡ FIRST_CLOCK }
-    requires lines { All IsFirstLine lines.now }
-    requires few_lines { length lines.now < MOST_LINES }
-    requires few_puts { count_by is_put lines.now ≤ machine.old.layout.slots }
-    ensures ready { OnOk result (IsReady machine.new) }
-    ensures layout { OnOk result (machine.new.layout ≡ machine.old.layout) }
-    ensures played { IfOk result (λ outcomes. Played machine.new.layout
-        machine.new.history.items machine.new.clock lines.now outcomes.items) }
+// The report of a job that was run.
+fn report_on(alloc: Global, job: &Job, ended: Ended) -> Result<Report, AllocError>
+    requires job { IsJob job.now }
+    requires ended { HasEnded job.now ended.outcomes ended.stopped }
+    ensures { IfOk result (λ report. IsRun job.now (report_of report)) }
 {
-    let mut outcomes = Vec::new(alloc);
-    for line in lines {
-        let outcome = play_line(machine, line)?;
-        outcomes.push(outcome)?;
-    }
-    Ok(outcomes)
+    let Ended { outcomes, stopped } = ended;
+    let image = picked(alloc, job, &outcomes, &stopped)?;
+    let contents = recover(alloc, job.layout, image.words.as_slice())?;
+    let clock = image.clock();
+    Ok(make_report(job, stopped, outcomes, clock, contents))
 }
 
-// Runs one line.
-fn play_line(machine: &mut Machine, line: &Line) -> Result<Outcome, AllocError>
-    requires ready { IsReady machine.old }
-    requires line { IsFirstLine line.now }
-    requires room { is_put line.now ≡ true
-        → length machine.old.records.items < machine.old.layout.slots }
-    requires few { length machine.old.history.items < LAST }
-    requires clock { machine.old.clock < LAST }
-    ensures ready { OnOk result (IsReady machine.new) }
-    ensures done { IfOk result (LineDone machine.old machine.new line.now) }
+// The image that the job's mask picks.
+fn picked(
+    alloc: Global,
+    job: &Job,
+    outcomes: &Sequence<Sequence<Outcome>>,
+    stopped: &Stopped,
+) -> Result<Image, AllocError>
+    requires { HasEnded job.now outcomes.now stopped.now }
+    ensures { IfOk result (λ image. IsPickOf job.now stopped.now image.words) }
 {
-    match line.deed {
-        Deed::Call { op } => outcome_of(machine.call(op)),
-        Deed::Tick => {
-            machine.tick();
-            Ok(Outcome::Ticked {
-                epoch: machine.clock,
-            })
-        }
-        Deed::Sync => unreachable!(),
-    }
-}
-
-// The outcome of an operation, by its receipt.
-fn outcome_of(answer: Result<Receipt, AllocError>) -> Result<Outcome, AllocError>
-    ensures { MatchResult answer (λ receipt. result ≡ Ok (Outcome.At receipt.unit receipt.place))
-        (λ error. result ≡ Err error) }
-{
-    match answer {
-        Ok(receipt) => Ok(Outcome::At {
-            unit: receipt.unit,
-            place: receipt.place,
-        }),
-        Err(AllocError) => Err(AllocError),
-    }
+    pick(alloc, &stopped.words, job.mask)
 }

@@ -3,6 +3,7 @@ ghost use Rattle.std.specs.Prelude.{◌≡◌, IfOk, Some, string_bytes};
 ghost use Rattle.montage_tool.specs.Status.{exit_code_of, status_bytes, fault_word, source_word, sink_word};
 
 use job_text::JobFault;
+use mont_base::Unit;
 use std::alloc::{AllocError, Global};
 use std::fmt;
 
@@ -21,6 +22,8 @@ pub enum Status {
     WriteFault { which: SinkName },
     /// Memory ran out.
     Memory,
+    /// The lowest map unit that has no box, or one that holds so many keys.
+    BadIndex { unit: Unit, len: Option<u64> },
 }
 
 /// What the tool reads.
@@ -48,6 +51,7 @@ pub fn exit_code(status: &Status) -> u8
         Status::ReadFault { .. } => 5,
         Status::WriteFault { .. } => 6,
         Status::Memory => 7,
+        Status::BadIndex { .. } => 8,
     }
 }
 
@@ -72,6 +76,7 @@ impl fmt::Display for Status {
             Status::ReadFault { which } => write!(f, "montage: read fault: {which}"),
             Status::WriteFault { which } => write!(f, "montage: write fault: {which}"),
             Status::Memory => write!(f, "montage: out of memory"),
+            Status::BadIndex { unit, .. } => write!(f, "montage: index {unit}"),
         }
     }
 }

@@ -1,0 +1,18 @@
+use Rattle.std.proofs.Common.{arith}
+use Rattle.job_text.specs.declared.limits.TheConstants.{READ_BYTES}
+use Rattle.montage_tool.proofs.Serving.{run_reported}
+use Rattle.montage_tool.proofs.montage.read_and_run.Goals as goal
+
+pub returns-in-Ok : goal.returns-in-Ok
+returns-in-Ok g c =
+    let read = c.in-Ok.ensures in
+    run_reported g.J.Source.left g.J.Source.faults g.O.Sink.taken g.O.Sink.faults _ c.args.job.now c.read_job.new.source c.args.out.now
+    c.report_job.new.out c.in-Ok.job
+    (record {
+      of_job = record { is_job = read.spelled.0; spelled = read.spelled.1 };
+      same = λ i is text. read.accepted i is text;
+      few = (READ_BYTES, omega arith, read.taken.0);
+      ended = read.taken.1;
+      kept = read.cause;
+    })
+    c.report_job.result c.report_job.ensures
