@@ -16,9 +16,9 @@ use std::alloc::{AllocError, Global};
 use std::marker::PhantomData;
 use std::sync::Wait;
 
-/// A caller of the heap that N names: its number and its pass.
+// A caller of the heap that N names: its number and its pass.
 #[derive(Drop)]
-pub struct Caller<N: HeapName, G: Gate> {
+pub(crate) struct Caller<N: HeapName, G: Gate> {
     number: u64,
     pass: Pass<G>,
     of: PhantomData<N>,
@@ -26,8 +26,8 @@ pub struct Caller<N: HeapName, G: Gate> {
 }
 
 impl<N: HeapName, G: Gate> Caller<N, G> {
-    /// The caller of a pass.
-    pub fn new(pass: Pass<G>) -> Caller<N, G>
+    // The caller of a pass.
+    pub(crate) fn new(pass: Pass<G>) -> Caller<N, G>
         requires { pass.ticket.table ≡ N.heap.table }
     {
         Caller {
@@ -37,20 +37,25 @@ impl<N: HeapName, G: Gate> Caller<N, G> {
         }
     }
 
-    /// Its number.
-    pub fn number(&self) -> u64
+    // Its number.
+    pub(crate) fn number(&self) -> u64
         ensures { result ≡ self.now.number }
     {
         self.number
     }
 
-    /// The receipts of its answered calls.
-    pub fn receipts(&self) -> &[Receipt] {
+    // The receipts of its answered calls.
+    pub(crate) fn receipts(&self) -> &[Receipt] {
         self.pass.receipts.as_slice()
     }
 
-    /// Gives the pass back.
-    pub fn into_pass(self) -> Pass<G>
+    // The gate that its steps ask.
+    pub(crate) fn gate(&self) -> &G {
+        &self.pass.gate
+    }
+
+    // Gives the pass back.
+    pub(crate) fn into_pass(self) -> Pass<G>
         ensures { IsSeatOfCaller N.heap self.number result.ticket }
     {
         let Caller {
@@ -61,8 +66,8 @@ impl<N: HeapName, G: Gate> Caller<N, G> {
         pass
     }
 
-    /// Calls the structure of the operation. It fails where the store has none.
-    pub fn call<R: Wait, I: Index>(
+    // Calls the structure of the operation. It fails where the store has none.
+    pub(crate) fn call<R: Wait, I: Index>(
         &mut self,
         rt: &R,
         store: &Store<N, I>,
@@ -73,8 +78,8 @@ impl<N: HeapName, G: Gate> Caller<N, G> {
         carry_out(rt, store, &mut self.pass, op)
     }
 
-    /// Advances the clock.
-    pub fn tick<R: Wait, I: Index>(
+    // Advances the clock.
+    pub(crate) fn tick<R: Wait, I: Index>(
         &mut self,
         rt: &R,
         store: &Store<N, I>,
@@ -84,8 +89,8 @@ impl<N: HeapName, G: Gate> Caller<N, G> {
         store.tick(rt, &mut self.pass)
     }
 
-    /// Waits until all that it has seen is durable.
-    pub fn sync<R: Wait, I: Index>(
+    // Waits until all that it has seen is durable.
+    pub(crate) fn sync<R: Wait, I: Index>(
         &mut self,
         rt: &R,
         store: &Store<N, I>,
@@ -95,16 +100,20 @@ impl<N: HeapName, G: Gate> Caller<N, G> {
         store.sync(rt, &mut self.pass)
     }
 
-    /// What it has seen.
-    pub fn tell<I: Index>(&mut self, alloc: Global, store: &Store<N, I>) -> Result<News, AllocError>
+    // What it has seen.
+    pub(crate) fn tell<I: Index>(
+        &mut self,
+        alloc: Global,
+        store: &Store<N, I>,
+    ) -> Result<News, AllocError>
         ensures same { self.new.number ≡ self.old.number }
         ensures news { IfOk result (λ news. news.table ≡ N.heap.table) }
     {
         tell(alloc, store.heap(), &mut self.pass)
     }
 
-    /// It has now seen what another had.
-    pub fn hear<I: Index>(&mut self, store: &Store<N, I>, news: News)
+    // It has now seen what another had.
+    pub(crate) fn hear<I: Index>(&mut self, store: &Store<N, I>, news: News)
         requires { news.table ≡ N.heap.table }
         ensures { self.new.number ≡ self.old.number }
     {

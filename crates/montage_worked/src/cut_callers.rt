@@ -1,20 +1,15 @@
 // Callers that are cut in the middle of a call.
-ghost use Rattle.std.specs.Prelude.{◌≡◌, ◌≤◌};
-ghost use Rattle.montage_worked.specs.Opened.{IsNewHeap};
-
 use crate::callers::Caller;
 use crate::draws::Draws;
-use crate::ended::end;
 use crate::judging::judge;
-use crate::opened::{indexes, new_heap, open};
-use advance::AdvanceRefusal;
+use crate::opened::{indexes, new_heap};
+use crate::playing::{Play, played};
+use crate::wrong::Wrong;
 use caller::SyncRefusal;
-use heap::{Heap, Seats};
 use heap_pass::HeapName;
 use index_kit::Index;
 use mont_base::{CallRefusal, Fuel, Op, Text, Unit};
 use montage::Store;
-use std::alloc::Global;
 use std::marker::Brand;
 use std::sync::Wait;
 use std::test::Fail;
@@ -25,50 +20,58 @@ const GRAPH: Unit = 2;
 
 // The first caller is cut in a put. The map is halted for good; the queue still answers, and what
 // it answers never gets durable.
-fn cut_in_a_put<N: HeapName, I: Index>(
-    rt: &impl Wait,
-    alloc: Global,
-    heap: Heap,
-    seats: Seats,
-    indexes: Vec<I>,
-) -> Result<(), Fail>
-    requires named { heap ≡ N.heap }
-    requires opens { IsNewHeap 2 N.heap seats.units.items seats.advancer seats.callers.items }
-{
-    let layout = heap.layout();
-    let gates = vec![in alloc; Fuel::new(6), Fuel::endless()]?;
-    let (store, mut callers) = open::<N, I, Fuel>(alloc, heap, seats, indexes, gates)?;
-    let mut second = callers.pop().ok_or("no caller")?;
-    let mut first = callers.pop().ok_or("no other caller")?;
-    let key = Text::of_number(1);
-    let value = Text::of_number(10);
-    let cut = first.call(rt, &store, &Op::Put { key, value })?;
-    let halted = second.call(rt, &store, &Op::Get { key })?;
-    let receipt = second.call(
-        rt,
-        &store,
-        &Op::Enq {
-            unit: QUEUE,
-            item: 5,
-        },
-    )??;
-    let synced = second.sync(rt, &store);
-    if cut != Err(CallRefusal::Cut { unit: 0 })
-        || halted != Err(CallRefusal::Halted { unit: 0, by: 0 })
-        || receipt.entry.epoch != 2
-        || synced != Err(SyncRefusal::Stuck { unit: 0, epoch: 2 })
-    {
-        return Err(Fail::new("another answer"));
+struct CutInPut;
+
+impl<R: Wait> Play<R, Fuel> for CutInPut {
+    fn play<N: HeapName + Send, I: Index + Send>(
+        &self,
+        rt: &R,
+        store: &Store<N, I>,
+        callers: &mut [Caller<N, Fuel>],
+    ) -> Result<(), Wrong> {
+        if callers.len() != 2 {
+            return Err(Wrong::Callers);
+        }
+        let key = Text::of_number(1);
+        let value = Text::of_number(10);
+        let cut = callers[0].call(rt, store, &Op::Put { key, value })?;
+        if !matches!(cut, Err(CallRefusal::Cut { unit: 0 })) {
+            return Err(Wrong::Answer);
+        }
+        go_on(rt, store, &mut callers[1])
     }
-    let ended = end(alloc, store, vec![in alloc; first, second]?)?;
-    judge(alloc, layout, &ended)
+}
+
+// What the other caller is answered.
+fn go_on<R: Wait, N: HeapName, I: Index>(
+    rt: &R,
+    store: &Store<N, I>,
+    caller: &mut Caller<N, Fuel>,
+) -> Result<(), Wrong> {
+    let key = Text::of_number(1);
+    let halted = caller.call(rt, store, &Op::Get { key })?;
+    if !matches!(halted, Err(CallRefusal::Halted { unit: 0, by: 0 })) {
+        return Err(Wrong::Answer);
+    }
+    let (unit, item) = (QUEUE, 5);
+    let receipt = caller.call(rt, store, &Op::Enq { unit, item })??;
+    if receipt.entry.epoch != 2 {
+        return Err(Wrong::Answer);
+    }
+    match caller.sync(rt, store) {
+        Err(SyncRefusal::Stuck { unit: 0, epoch: 2 }) => Ok(()),
+        _ => Err(Wrong::Answer),
+    }
 }
 
 #[test]
 fn a_cut_halts_its_unit_alone(rt: HostRuntime) -> Result<(), Fail> {
     let alloc = rt.alloc();
     let (heap, seats) = new_heap(alloc, b"mqg", 8, 2)?;
-    cut_in_a_put::<Brand, _>(&rt, alloc, heap, seats, indexes(alloc, 1)?)
+    let gates = vec![in alloc; Fuel::new(6), Fuel::endless()]?;
+    let boxes = indexes(alloc, 1)?;
+    let ended = played::<_, Brand, _, _, _>(&rt, alloc, heap, seats, boxes, gates, &CutInPut)?;
+    judge(alloc, &ended)
 }
 
 // How many stores are tried, each of whose three callers is cut before some step.
@@ -79,59 +82,61 @@ const MOST_STEPS: u64 = 900;
 const TURNS: u64 = 60;
 
 // The callers take turns until each is cut or has had its turns.
-fn cut_somewhere<N: HeapName, I: Index>(
-    rt: &impl Wait,
-    alloc: Global,
-    heap: Heap,
-    seats: Seats,
-    indexes: Vec<I>,
+#[derive(Drop)]
+struct CutSomewhere {
     seed: u64,
-) -> Result<(), Fail>
-    requires named { heap ≡ N.heap }
-    requires opens { IsNewHeap 3 N.heap seats.units.items seats.advancer seats.callers.items }
-{
-    let layout = heap.layout();
-    let mut draws = Draws::new(seed);
-    let gates = vec![in alloc;
-        Fuel::new(draws.below(MOST_STEPS)),
-        Fuel::new(draws.below(MOST_STEPS)),
-        Fuel::new(draws.below(MOST_STEPS)),
-    ]?;
-    let (store, mut callers) = open::<N, I, Fuel>(alloc, heap, seats, indexes, gates)?;
-    let mut third = callers.pop().ok_or("no caller")?;
-    let mut second = callers.pop().ok_or("no second caller")?;
-    let mut first = callers.pop().ok_or("no first caller")?;
-    let mut lives = [true, true, true];
-    for _ in 0..TURNS {
-        lives[0] = lives[0] && makes_turn(rt, &store, &mut first, &mut draws)?;
-        lives[1] = lives[1] && makes_turn(rt, &store, &mut second, &mut draws)?;
-        lives[2] = lives[2] && makes_turn(rt, &store, &mut third, &mut draws)?;
-    }
-    let ended = end(alloc, store, vec![in alloc; first, second, third]?)?;
-    judge(alloc, layout, &ended)
 }
 
-// Makes a call, now and then an advance. Tells whether the caller goes on.
-fn makes_turn<N: HeapName, I: Index>(
-    rt: &impl Wait,
+impl<R: Wait> Play<R, Fuel> for CutSomewhere {
+    fn play<N: HeapName + Send, I: Index + Send>(
+        &self,
+        rt: &R,
+        store: &Store<N, I>,
+        callers: &mut [Caller<N, Fuel>],
+    ) -> Result<(), Wrong> {
+        let mut draws = Draws::new(self.seed);
+        for _ in 0..TURNS {
+            for caller in callers.iter_mut() {
+                make_turn(rt, store, caller, &mut draws)?;
+            }
+        }
+        Ok(())
+    }
+}
+
+// Makes a call, now and then an advance, unless the caller was cut.
+fn make_turn<R: Wait, N: HeapName, I: Index>(
+    rt: &R,
     store: &Store<N, I>,
     caller: &mut Caller<N, Fuel>,
     draws: &mut Draws,
-) -> Result<bool, Fail> {
-    if draws.below(4) == 0 {
-        let ticked = caller.tick(rt, store);
-        return Ok(ticked != Err(AdvanceRefusal::Cut));
+) -> Result<(), Wrong> {
+    if caller.gate().cuts > 0 {
+        return Ok(());
     }
-    let called = caller.call(rt, store, &draws.op(QUEUE, GRAPH))?;
-    Ok(!matches!(called, Err(CallRefusal::Cut { .. })))
+    if draws.below(4) == 0 {
+        let _ticked = caller.tick(rt, store);
+    } else {
+        let _called = caller.call(rt, store, &draws.op(QUEUE, GRAPH))?;
+    }
+    Ok(())
 }
 
 #[test]
 fn cut_callers_leave_a_cut(rt: HostRuntime) -> Result<(), Fail> {
     let alloc = rt.alloc();
     for seed in 0..STORES {
+        let mut draws = Draws::new(seed);
         let (heap, seats) = new_heap(alloc, b"mqg", 16, 3)?;
-        cut_somewhere::<Brand, _>(&rt, alloc, heap, seats, indexes(alloc, 1)?, seed)?;
+        let gates = vec![in alloc;
+            Fuel::new(draws.below(MOST_STEPS)),
+            Fuel::new(draws.below(MOST_STEPS)),
+            Fuel::new(draws.below(MOST_STEPS)),
+        ]?;
+        let boxes = indexes(alloc, 1)?;
+        let play = CutSomewhere { seed };
+        let ended = played::<_, Brand, _, _, _>(&rt, alloc, heap, seats, boxes, gates, &play)?;
+        judge(alloc, &ended)?;
     }
     Ok(())
 }

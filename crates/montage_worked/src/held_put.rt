@@ -1,23 +1,26 @@
 // A caller is held in the middle of a put: the clock may move once beyond its epoch, and another
 // unit answers, while it is held.
 ghost use Rattle.std.specs.Prelude.{◌≡◌, ℕ, false, true};
-ghost use Rattle.montage_worked.specs.Opened.{IsNewHeap};
+ghost use Rattle.std.specs.Thread.{IsSync};
 
 use crate::callers::Caller;
-use crate::opened::{indexes, new_heap, open};
+use crate::judging::judge;
+use crate::opened::{indexes, new_heap};
+use crate::playing::{Play, played};
+use crate::wrong::Wrong;
 use advance::AdvanceRefusal;
-use heap::{Heap, Seats};
 use heap_pass::HeapName;
 use index_kit::Index;
-use mont_base::{Cut, Epoch, Gate, Op, Reply, Text};
+use mont_base::{Cut, Gate, Op, Reply, Text, Unit};
 use montage::Store;
-use std::alloc::Global;
+use std::alloc::{AllocError, Global};
 use std::marker::Brand;
 use std::sync::atomic::{AtomicU64, Ordering};
 use std::sync::{Arc, Wait};
 use std::test::Fail;
-use std::thread;
-use std::thread::Threads;
+use std::thread::{Threads, for_each_mut};
+
+const QUEUE: Unit = 1;
 
 // How often a caller looks for what it waits for, by one load each time.
 const TURNS: u64 = 1_000_000_000;
@@ -25,18 +28,20 @@ const TURNS: u64 = 1_000_000_000;
 // How many steps of the put are made before it is held.
 const STEPS: u64 = 5;
 
-// How many parties answer while the put is held.
-const PARTIES: u64 = 2;
+// How many parties beside the first caller are to answer while the put is held.
+const OTHERS: u64 = 2;
 
 // What the threads tell each other.
 #[derive(Drop)]
 struct Signals {
     // 1 once the put is held.
     held: AtomicU64,
-    // How many parties have answered.
+    // How many of the others have answered.
     answered: AtomicU64,
     // 1 once the put was held for all its turns.
     late: AtomicU64,
+    // How many parties had the answers that are wanted.
+    well: AtomicU64,
 }
 
 impl Signals {
@@ -45,6 +50,7 @@ impl Signals {
             held: AtomicU64::new(0),
             answered: AtomicU64::new(0),
             late: AtomicU64::new(0),
+            well: AtomicU64::new(0),
         }
     }
 }
@@ -90,144 +96,142 @@ impl Gate for Holding {
 // Waits until the other parties have answered.
 fn hold(signals: &Signals) {
     signals.held.store(1, Ordering::SeqCst);
-    if !comes(PARTIES, &signals.answered) {
+    if !comes(OTHERS, &signals.answered) {
         signals.late.store(1, Ordering::SeqCst);
     }
 }
 
-// What a party was answered.
-#[derive(Clone, Copy, Debug, PartialEq, Eq)]
-enum Answer {
-    Put { reply: Reply, epoch: Epoch },
-    Ticked { first: Ticked, second: Ticked },
-    Counted { reply: Reply },
-    Refused,
-}
-
-type Ticked = Result<Epoch, AdvanceRefusal>;
-
 // The first caller puts, the second advances the clock twice, the third counts a queue. The two
 // begin once the put is held.
+#[derive(Drop)]
+struct HeldPut {
+    signals: Arc<Signals, Global>,
+}
+
+impl<R: Threads + Wait + Sync> Play<R, Holding> for HeldPut {
+    fn play<N: HeapName + Send, I: Index + Send>(
+        &self,
+        rt: &R,
+        store: &Store<N, I>,
+        callers: &mut [Caller<N, Holding>],
+    ) -> Result<(), Wrong> {
+        let threads = callers.len().max(1);
+        let signals: &Signals = &self.signals;
+        for_each_mut(
+            rt,
+            callers,
+            threads,
+            &|_, caller: &mut Caller<N, Holding>| { take_part(rt, store, signals, caller) },
+        );
+        if signals.late.load(Ordering::SeqCst) != 0 {
+            return Err(Wrong::Late);
+        }
+        if signals.well.load(Ordering::SeqCst) != OTHERS + 1 {
+            return Err(Wrong::Answer);
+        }
+        Ok(())
+    }
+}
+
 fn take_part<R: Wait, N: HeapName, I: Index>(
     rt: &R,
     store: &Store<N, I>,
     signals: &Signals,
-    caller: Caller<N, Holding>,
-) -> Answer {
-    let mut caller = caller;
-    if caller.number() == 0 {
-        return put(rt, store, &mut caller);
-    }
-    if !comes(1, &signals.held) {
-        return Answer::Refused;
-    }
-    let answer = if caller.number() == 1 {
-        Answer::Ticked {
-            first: caller.tick(rt, store),
-            second: caller.tick(rt, store),
-        }
+    caller: &mut Caller<N, Holding>,
+) {
+    let well = if caller.number() == 0 {
+        puts(rt, store, caller)
     } else {
-        count(rt, store, &mut caller)
+        answers(rt, store, signals, caller)
     };
-    signals.answered.fetch_add(1, Ordering::SeqCst);
-    answer
+    if well {
+        signals.well.fetch_add(1, Ordering::SeqCst);
+    }
 }
 
-fn put<R: Wait, N: HeapName, I: Index>(
+// Whether the put is answered at epoch 2.
+fn puts<R: Wait, N: HeapName, I: Index>(
     rt: &R,
     store: &Store<N, I>,
     caller: &mut Caller<N, Holding>,
-) -> Answer {
+) -> bool {
     let key = Text::of_number(1);
     let value = Text::of_number(10);
-    let op = Op::Put { key, value };
-    let called = caller.call(rt, store, &op);
-    match called {
-        Ok(Ok(receipt)) => Answer::Put {
-            reply: receipt.entry.reply,
-            epoch: receipt.entry.epoch,
-        },
-        _ => Answer::Refused,
+    match caller.call(rt, store, &Op::Put { key, value }) {
+        Ok(Ok(receipt)) => {
+            receipt.entry.epoch == 2 && matches!(receipt.entry.reply, Reply::Nothing)
+        }
+        _ => false,
     }
 }
 
-fn count<R: Wait, N: HeapName, I: Index>(
+// Whether another caller is answered as it is to be, once the put is held.
+fn answers<R: Wait, N: HeapName, I: Index>(
+    rt: &R,
+    store: &Store<N, I>,
+    signals: &Signals,
+    caller: &mut Caller<N, Holding>,
+) -> bool {
+    if !comes(1, &signals.held) {
+        return false;
+    }
+    let well = if caller.number() == 1 {
+        ticks(rt, store, caller)
+    } else {
+        counts(rt, store, caller)
+    };
+    signals.answered.fetch_add(1, Ordering::SeqCst);
+    well
+}
+
+// Whether the clock moves to 3, and no further.
+fn ticks<R: Wait, N: HeapName, I: Index>(
     rt: &R,
     store: &Store<N, I>,
     caller: &mut Caller<N, Holding>,
-) -> Answer {
-    let op = Op::Len { unit: 1 };
-    let called = caller.call(rt, store, &op);
-    match called {
-        Ok(Ok(receipt)) => Answer::Counted {
-            reply: receipt.entry.reply,
-        },
-        _ => Answer::Refused,
+) -> bool {
+    let first = caller.tick(rt, store);
+    let second = caller.tick(rt, store);
+    let waits = AdvanceRefusal::NotYet {
+        unit: 0,
+        epoch: 2,
+        cut: false,
+    };
+    first == Ok(3) && second == Err(waits)
+}
+
+// Whether the queue has no items.
+fn counts<R: Wait, N: HeapName, I: Index>(
+    rt: &R,
+    store: &Store<N, I>,
+    caller: &mut Caller<N, Holding>,
+) -> bool {
+    match caller.call(rt, store, &Op::Len { unit: QUEUE }) {
+        Ok(Ok(receipt)) => matches!(receipt.entry.reply, Reply::Count { number: 0 }),
+        _ => false,
     }
 }
 
-fn hold_a_put<R: Threads + Wait + Sync, N: HeapName + Send + Sync, I: Index + Send>(
-    rt: &R,
-    alloc: Global,
-    heap: Heap,
-    seats: Seats,
-    indexes: Vec<I>,
-) -> Result<(), Fail>
-    requires named { heap ≡ N.heap }
-    requires opens { IsNewHeap 3 N.heap seats.units.items seats.advancer seats.callers.items }
-{
-    let signals = Arc::new(alloc, Signals::new())?;
-    let gates = vec![in alloc;
-        Holding {
-            signals: Arc::try_clone(&signals)?,
-            left: Some(STEPS)
-        },
-        Holding {
-            signals: Arc::try_clone(&signals)?,
-            left: None
-        },
-        Holding {
-            signals: Arc::try_clone(&signals)?,
-            left: None
-        },
-    ]?;
-    let (store, callers) = open::<N, I, Holding>(alloc, heap, seats, indexes, gates)?;
-    let shared = &store;
-    let told: &Signals = &signals;
-    let answers = thread::map_vec(
-        rt,
-        callers,
-        &|caller: Caller<N, Holding>| { take_part(rt, shared, told, caller) },
-    )?;
-    if signals.late.load(Ordering::SeqCst) != 0 {
-        return Err(Fail::new("the others didn't answer while the put was held"));
-    }
-    let wanted = [
-        Answer::Put {
-            reply: Reply::Nothing,
-            epoch: 2,
-        },
-        Answer::Ticked {
-            first: Ok(3),
-            second: Err(AdvanceRefusal::NotYet {
-                unit: 0,
-                epoch: 2,
-                cut: false,
-            }),
-        },
-        Answer::Counted {
-            reply: Reply::Count { number: 0 },
-        },
-    ];
-    if answers.as_slice() != wanted.as_slice() {
-        return Err(Fail::new("another answer"));
-    }
-    Ok(())
+// A gate that holds before a step, or that doesn't hold.
+fn gate(signals: &Arc<Signals, Global>, left: Option<u64>) -> Result<Holding, AllocError> {
+    Ok(Holding {
+        signals: Arc::try_clone(signals)?,
+        left,
+    })
 }
 
 #[test]
 fn others_answer_while_a_put_is_held(rt: HostRuntime) -> Result<(), Fail> {
     let alloc = rt.alloc();
     let (heap, seats) = new_heap(alloc, b"mqg", 8, 3)?;
-    hold_a_put::<_, Brand, _>(&rt, alloc, heap, seats, indexes(alloc, 1)?)
+    let signals = Arc::new(alloc, Signals::new())?;
+    let gates = vec![in alloc;
+        gate(&signals, Some(STEPS))?,
+        gate(&signals, None)?,
+        gate(&signals, None)?,
+    ]?;
+    let boxes = indexes(alloc, 1)?;
+    let play = HeldPut { signals };
+    let ended = played::<_, Brand, _, _, _>(&rt, alloc, heap, seats, boxes, gates, &play)?;
+    judge(alloc, &ended)
 }

@@ -11,7 +11,8 @@ const IMAGES: u64 = 64;
 
 // The histories are legal and tell each answer once, in its caller's order; and recovery rebuilds
 // one cut of them from each image that is tried.
-pub(crate) fn judge(alloc: Global, layout: Layout, ended: &Ended) -> Result<(), Fail> {
+pub(crate) fn judge(alloc: Global, ended: &Ended) -> Result<(), Fail> {
+    let layout = ended.stopped.words.layout;
     let histories = ended.stopped.histories.as_slice();
     if !are_legal(alloc, layout, histories)? {
         return Err(Fail::new("a history isn't legal"));

@@ -5,6 +5,7 @@
 //! The crate has tests alone: beside the store's calls they would have all of it proved again.
 #![tactic(auto)]
 
+#[cfg(test)]
 mod callers;
 #[cfg(test)]
 mod cut_callers;
@@ -23,10 +24,12 @@ mod many_callers;
 #[cfg(test)]
 mod opened;
 #[cfg(test)]
+mod playing;
+#[cfg(test)]
 mod replies;
+#[cfg(test)]
 mod structure_calls;
 #[cfg(test)]
 mod syncs;
-
-pub use callers::Caller;
-pub use structure_calls::NoSuchCall;
+#[cfg(test)]
+mod wrong;

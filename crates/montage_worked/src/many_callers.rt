@@ -1,24 +1,21 @@
 // Threads call a store beside an advancer.
-ghost use Rattle.std.specs.Prelude.{◌≡◌};
-ghost use Rattle.montage_worked.specs.Opened.{IsNewHeap};
+ghost use Rattle.std.specs.Thread.{IsSync};
 
 use crate::callers::Caller;
 use crate::draws::Draws;
-use crate::ended::end;
 use crate::judging::judge;
-use crate::opened::{indexes, new_heap, open};
-use heap::{Heap, Seats};
+use crate::opened::{indexes, new_heap};
+use crate::playing::{Play, played};
+use crate::wrong::Wrong;
 use heap_pass::HeapName;
 use index_kit::Index;
 use mont_base::{CallRefusal, Op, Steady, Unit};
 use montage::Store;
-use std::alloc::Global;
 use std::marker::Brand;
 use std::sync::Wait;
 use std::sync::atomic::{AtomicU64, Ordering};
 use std::test::Fail;
-use std::thread;
-use std::thread::Threads;
+use std::thread::{Threads, for_each_mut};
 
 const WORKERS: u64 = 4;
 
@@ -28,26 +25,64 @@ const QUEUE: Unit = 4;
 
 const GRAPH: Unit = 5;
 
-// The first callers work, the last moves the clock on until they have done so. Tells whether all
-// went well.
+// Workers call the store, and one caller more moves the clock on.
+#[derive(Drop)]
+struct Working {
+    // How many workers are done.
+    done: AtomicU64,
+    // How many of them made all their calls.
+    well: AtomicU64,
+}
+
+impl Working {
+    fn new() -> Working {
+        Working {
+            done: AtomicU64::new(0),
+            well: AtomicU64::new(0),
+        }
+    }
+}
+
+impl<R: Threads + Wait + Sync> Play<R, Steady> for Working {
+    fn play<N: HeapName + Send, I: Index + Send>(
+        &self,
+        rt: &R,
+        store: &Store<N, I>,
+        callers: &mut [Caller<N, Steady>],
+    ) -> Result<(), Wrong> {
+        let threads = callers.len().max(1);
+        for_each_mut(
+            rt,
+            callers,
+            threads,
+            &|_, caller: &mut Caller<N, Steady>| { take_part(rt, store, self, caller) },
+        );
+        if self.well.load(Ordering::SeqCst) != WORKERS {
+            return Err(Wrong::Answer);
+        }
+        Ok(())
+    }
+}
+
+// The first callers work, the last moves the clock on until they have done so.
 fn take_part<R: Wait, N: HeapName, I: Index>(
     rt: &R,
     store: &Store<N, I>,
-    done: &AtomicU64,
-    caller: Caller<N, Steady>,
-) -> (Caller<N, Steady>, bool) {
-    let mut caller = caller;
+    working: &Working,
+    caller: &mut Caller<N, Steady>,
+) {
     if caller.number() == WORKERS {
-        tick_along(rt, store, done, &mut caller);
-        return (caller, true);
+        tick_along(rt, store, &working.done, caller);
+        return;
     }
-    let well = work(rt, store, &mut caller);
-    done.fetch_add(1, Ordering::SeqCst);
-    (caller, well)
+    if works(rt, store, caller) {
+        working.well.fetch_add(1, Ordering::SeqCst);
+    }
+    working.done.fetch_add(1, Ordering::SeqCst);
 }
 
-// Makes its calls.
-fn work<R: Wait, N: HeapName, I: Index>(
+// Makes its calls. Tells whether each was answered, or found its unit full.
+fn works<R: Wait, N: HeapName, I: Index>(
     rt: &R,
     store: &Store<N, I>,
     caller: &mut Caller<N, Steady>,
@@ -90,44 +125,13 @@ fn tick_along<R: Wait, N: HeapName, I: Index>(
     unreachable!()
 }
 
-fn work_beside<R: Threads + Wait + Sync, N: HeapName + Send + Sync, I: Index + Send>(
-    rt: &R,
-    alloc: Global,
-    heap: Heap,
-    seats: Seats,
-    indexes: Vec<I>,
-) -> Result<(), Fail>
-    requires named { heap ≡ N.heap }
-    requires opens { IsNewHeap 5 N.heap seats.units.items seats.advancer seats.callers.items }
-{
-    let layout = heap.layout();
-    let gates = vec![in alloc; Steady, Steady, Steady, Steady, Steady]?;
-    let (store, callers) = open::<N, I, Steady>(alloc, heap, seats, indexes, gates)?;
-    let shared = &store;
-    let done = AtomicU64::new(0);
-    let counted = &done;
-    let ran = thread::map_vec(
-        rt,
-        callers,
-        &|caller: Caller<N, Steady>| { take_part(rt, shared, counted, caller) },
-    )?;
-    let mut callers = Vec::new(alloc);
-    for (caller, well) in ran {
-        if !well {
-            return Err(Fail::new("a caller didn't make all its calls"));
-        }
-        callers.push(caller)?;
-    }
-    if callers.len() as u64 != WORKERS + 1 {
-        return Err(Fail::new("other callers"));
-    }
-    let ended = end(alloc, store, callers)?;
-    judge(alloc, layout, &ended)
-}
-
 #[test]
 fn threads_leave_a_legal_history(rt: HostRuntime) -> Result<(), Fail> {
     let alloc = rt.alloc();
     let (heap, seats) = new_heap(alloc, b"mmmmqg", 256, 5)?;
-    work_beside::<_, Brand, _>(&rt, alloc, heap, seats, indexes(alloc, 4)?)
+    let gates = vec![in alloc; Steady, Steady, Steady, Steady, Steady]?;
+    let boxes = indexes(alloc, 4)?;
+    let play = Working::new();
+    let ended = played::<_, Brand, _, _, _>(&rt, alloc, heap, seats, boxes, gates, &play)?;
+    judge(alloc, &ended)
 }

@@ -1,5 +1,5 @@
 // A store that was never used, and its callers.
-ghost use Rattle.std.specs.Prelude.{◌≡◌, ◌≤◌, map, vec_len, IfOk};
+ghost use Rattle.std.specs.Prelude.{◌≡◌, ◌≤◌, [], map, vec_len, vec_capacity, IfOk};
 ghost use Rattle.heap.specs.Stops.{AreCallersOf};
 ghost use Rattle.montage.specs.FreshStore.{IsFreshHeap};
 ghost use Rattle.montage_worked.specs.Opened.{IsNewHeap};
@@ -10,7 +10,7 @@ use heap_pass::{HeapName, Pass};
 use index_kit::{Index, SortedIndex};
 use mont_base::{Gate, Kinds, Layout};
 use montage::Store;
-use std::alloc::{AllocError, Global};
+use std::alloc::Global;
 use std::test::Fail;
 
 // A heap of units of these kinds, each with so many slots, for so many callers.
@@ -48,22 +48,25 @@ pub(crate) fn open<N: HeapName, I: Index, G: Gate + Drop>(
     requires named { heap ≡ N.heap }
     requires opens { IsNewHeap (vec_len gates) N.heap seats.units.items seats.advancer
         seats.callers.items }
+    ensures { IfOk result (λ r. vec_len r.1 ≡ N.heap.opening.callers) }
 {
+    let room = Vec::with_capacity(alloc, gates.len())?;
     let (store, passes) = Store::<N, I>::fresh(alloc, heap, seats, gates, indexes)?;
-    let callers = callers_of(alloc, passes)?;
-    Ok((store, callers))
+    Ok((store, callers_of(passes, room)))
 }
 
-// The callers of these passes, in their order.
+// The callers of these passes, in their order, in a vector that has room for them.
 fn callers_of<N: HeapName, G: Gate + Drop>(
-    alloc: Global,
     passes: Vec<Pass<G>>,
-) -> Result<Vec<Caller<N, G>>, AllocError>
-    requires { AreCallersOf N.heap (map (λ p. p.ticket) passes.items) }
+    mut callers: Vec<Caller<N, G>>,
+) -> Vec<Caller<N, G>>
+    requires passes { AreCallersOf N.heap (map (λ p. p.ticket) passes.items) }
+    requires none { callers.items ≡ [] }
+    requires room { vec_len passes ≤ vec_capacity callers }
+    ensures { vec_len result ≡ vec_len passes }
 {
-    let mut callers = Vec::new(alloc);
     for pass in passes {
-        callers.push(Caller::new(pass))?;
+        callers.push_reserved(Caller::new(pass));
     }
-    Ok(callers)
+    callers
 }

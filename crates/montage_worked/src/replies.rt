@@ -1,13 +1,13 @@
 // Each structure call once, with its reply.
-ghost use Rattle.std.specs.Prelude.{◌≡◌};
-ghost use Rattle.montage_worked.specs.Opened.{IsNewHeap};
-
-use crate::opened::{indexes, new_heap, open};
-use heap::{Heap, Seats};
+use crate::callers::Caller;
+use crate::judging::judge;
+use crate::opened::{indexes, new_heap};
+use crate::playing::{Play, played};
+use crate::wrong::Wrong;
 use heap_pass::HeapName;
 use index_kit::Index;
-use mont_base::{Op, Reply, Steady, Text, Unit};
-use std::alloc::Global;
+use mont_base::{Gate, Op, Reply, Steady, Text, Unit};
+use montage::Store;
 use std::marker::Brand;
 use std::sync::Wait;
 use std::test::Fail;
@@ -66,27 +66,36 @@ fn on_graph() -> [(Op, Reply); 8] {
     ]
 }
 
-fn each_is_answered<N: HeapName, I: Index>(
-    rt: &impl Wait,
-    alloc: Global,
-    heap: Heap,
-    seats: Seats,
-    indexes: Vec<I>,
-) -> Result<(), Fail>
-    requires named { heap ≡ N.heap }
-    requires opens { IsNewHeap 1 N.heap seats.units.items seats.advancer seats.callers.items }
-{
-    let gates = vec![in alloc; Steady]?;
-    let (store, mut callers) = open::<N, I, Steady>(alloc, heap, seats, indexes, gates)?;
-    let mut caller = callers.pop().ok_or("no caller")?;
-    let mut calls = Vec::new(alloc);
-    calls.extend_from_slice(&on_map())?;
-    calls.extend_from_slice(&on_queue())?;
-    calls.extend_from_slice(&on_graph())?;
-    for (op, reply) in &calls {
-        let receipt = caller.call(rt, &store, op)??;
+// One caller makes each call.
+struct EachCall;
+
+impl<R: Wait> Play<R, Steady> for EachCall {
+    fn play<N: HeapName + Send, I: Index + Send>(
+        &self,
+        rt: &R,
+        store: &Store<N, I>,
+        callers: &mut [Caller<N, Steady>],
+    ) -> Result<(), Wrong> {
+        for caller in callers {
+            are_answered(rt, store, caller, &on_map())?;
+            are_answered(rt, store, caller, &on_queue())?;
+            are_answered(rt, store, caller, &on_graph())?;
+        }
+        Ok(())
+    }
+}
+
+// Makes these calls. It fails at another reply.
+fn are_answered<R: Wait, N: HeapName, I: Index, G: Gate>(
+    rt: &R,
+    store: &Store<N, I>,
+    caller: &mut Caller<N, G>,
+    calls: &[(Op, Reply)],
+) -> Result<(), Wrong> {
+    for (op, reply) in calls {
+        let receipt = caller.call(rt, store, op)??;
         if receipt.entry.op != *op || receipt.entry.reply != *reply {
-            return Err(Fail::new("another reply"));
+            return Err(Wrong::Answer);
         }
     }
     Ok(())
@@ -96,5 +105,8 @@ fn each_is_answered<N: HeapName, I: Index>(
 fn each_call_is_answered(rt: HostRuntime) -> Result<(), Fail> {
     let alloc = rt.alloc();
     let (heap, seats) = new_heap(alloc, b"mqg", 8, 1)?;
-    each_is_answered::<Brand, _>(&rt, alloc, heap, seats, indexes(alloc, 1)?)
+    let gates = vec![in alloc; Steady]?;
+    let boxes = indexes(alloc, 1)?;
+    let ended = played::<_, Brand, _, _, _>(&rt, alloc, heap, seats, boxes, gates, &EachCall)?;
+    judge(alloc, &ended)
 }

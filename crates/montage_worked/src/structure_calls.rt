@@ -9,9 +9,9 @@ use mont_base::{CallRefusal, Gate, Layout, Op, Receipt, Unit, UnitKind};
 use montage::Store;
 use std::sync::Wait;
 
-/// The store has no unit for the operation.
+// The store has no unit for the operation.
 #[derive(Clone, Copy, Debug, PartialEq, Eq)]
-pub struct NoSuchCall;
+pub(crate) struct NoSuchCall;
 
 // Carries an operation out by the call of its name.
 pub(crate) fn carry_out<R: Wait, N: HeapName, I: Index, G: Gate>(
