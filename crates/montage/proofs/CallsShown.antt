@@ -137,7 +137,8 @@ module _ (heap : HeapShown) (before behind : RegionShown) (q r : CallerShown) (o
 
   -- the state on which it was planned is the one to which the entries lead
   module _ (stood : IsStanding heap before) (reply : Reply) (changes : List Change) (plan : IsPlan before op reply changes)
-      (states : List State) (recovered : IsRecovered heap.opening.layout heap.opening.words states) (showed : ShowsHistory heap before) where
+      (states : List State) (recovered : IsRecovered heap.opening.layout heap.opening.words states)
+      (showed : ShowsHistory heap before) where
     abbrev opened : State
     opened = base_state (opened_at (clock_of heap.opening.words) states) before.books.unit
 

@@ -12,7 +12,8 @@ use Rattle.montage.specs.SeatsBack.{AreSeatsBelow}
 use Rattle.montage.specs.UnitAt.{region_of, StandsAt}
 
 -- the unit of a structure is one of the heap's
-pub is_inside : {I : Type 0} (heap : HeapShown) (number : ℕ) (s : Structure I) → StandsAt heap number s → number < units_of heap.opening.layout
+pub is_inside : {I : Type 0} (heap : HeapShown) (number : ℕ) (s : Structure I) → StandsAt heap number s
+    → number < units_of heap.opening.layout
 is_inside heap number s k =
     subst (λ (x : ℕ × Shape). x.0 < units_of x.1) (λ i. (k.of_unit i, k.stands.of_heap.layout i)) k.seated.inside
 
@@ -23,7 +24,8 @@ module _ (heap : HeapShown) (number : ℕ) (seats : List UnitShown) (k : AreSeat
   pub as_many : number < units_of heap.opening.layout → length seats ≡ number
   as_many inside = let many = k.many in omega (arith, many, inside)
 
-  pub one_taken : {I : Type 0} (s : Structure I) → StandsAt heap number s → AreSeatsBelow heap (number + 1) (seats ++ (region_of s).seat ∷ [])
+  pub one_taken : {I : Type 0} (s : Structure I) → StandsAt heap number s
+      → AreSeatsBelow heap (number + 1) (seats ++ (region_of s).seat ∷ [])
   one_taken s stands =
       let inside = is_inside heap number s stands in
       let many = as_many inside in

@@ -15,8 +15,8 @@ region_of (Map unit) = unit.region
 region_of (Queue unit) = unit.region
 region_of (Graph unit) = unit.region
 
--- A region's books are those of the unit that its seat shows, a unit of the layout: they tell who was
--- cut in it, and how many entries it has.
+-- A region's books are those of the unit that its seat shows, a unit of the layout: they tell who
+-- was cut in it, and how many entries it has.
 pub record IsSeated (r : RegionShown) : Type 0 where
   pub of_seat : r.books.unit ≡ r.seat.held.unit
   pub inside : r.books.unit < units_of r.books.layout
@@ -39,9 +39,12 @@ FitsNumber heap number (Some b) = StandsAt heap number b.value
 -- ---- each of these has one proof at most
 pub StandsAt-prop : {I : Type 0} (heap : HeapShown) (number : ℕ) (s : Structure I)
     → IsProp (StandsAt heap number s)
-StandsAt-prop heap number s = hlevel (props, standing_once, counted_once, Coded-set coded_ℕ, Coded-set (coded_option coded_ℕ))
+StandsAt-prop heap number s =
+    hlevel
+    (props, standing_once, counted_once, Coded-set coded_ℕ, Coded-set (coded_option coded_ℕ))
 
-pub FitsNumber-prop : {I Z : Type 0} (heap : HeapShown) (number : ℕ) (s : Option (Box (Structure I) Z))
+pub FitsNumber-prop :
+    {I Z : Type 0} (heap : HeapShown) (number : ℕ) (s : Option (Box (Structure I) Z))
     → IsProp (FitsNumber heap number s)
 FitsNumber-prop heap number None = hlevel props
 FitsNumber-prop heap number (Some b) = StandsAt-prop heap number b.value

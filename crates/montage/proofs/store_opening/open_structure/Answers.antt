@@ -27,21 +27,24 @@ fresh-requires-in-Map-clause-none g c =
     let heap = g.N.HeapName.heap in
     let layout = subst IsLayout c.requires.layout c.units.ensures.layout in
     let books = c.in_ok-region.ensures.books ∙ ap (λ (l : Shape). fresh_books l c.args.unit) c.requires.layout in
-    first_is_empty heap c.args.unit c.args.seat c.requires.unused c.requires.seat layout c.in_ok-region.region c.in_ok-region.ensures.seat books
+    first_is_empty heap c.args.unit c.args.seat c.requires.unused c.requires.seat layout c.in_ok-region.region
+    c.in_ok-region.ensures.seat books
 
 pub fresh-requires-in-Queue-clause-empty : goal.fresh-requires-in-Queue-clause-empty
 fresh-requires-in-Queue-clause-empty g c =
     let heap = g.N.HeapName.heap in
     let layout = subst IsLayout c.requires.layout c.units.ensures.layout in
     let books = c.in_ok-region.ensures.books ∙ ap (λ (l : Shape). fresh_books l c.args.unit) c.requires.layout in
-    first_is_empty heap c.args.unit c.args.seat c.requires.unused c.requires.seat layout c.in_ok-region.region c.in_ok-region.ensures.seat books
+    first_is_empty heap c.args.unit c.args.seat c.requires.unused c.requires.seat layout c.in_ok-region.region
+    c.in_ok-region.ensures.seat books
 
 pub fresh-requires-in-Graph-clause-none : goal.fresh-requires-in-Graph-clause-none
 fresh-requires-in-Graph-clause-none g c =
     let heap = g.N.HeapName.heap in
     let layout = subst IsLayout c.requires.layout c.units.ensures.layout in
     let books = c.in_ok-region.ensures.books ∙ ap (λ (l : Shape). fresh_books l c.args.unit) c.requires.layout in
-    first_is_empty heap c.args.unit c.args.seat c.requires.unused c.requires.seat layout c.in_ok-region.region c.in_ok-region.ensures.seat books
+    first_is_empty heap c.args.unit c.args.seat c.requires.unused c.requires.seat layout c.in_ok-region.region
+    c.in_ok-region.ensures.seat books
 
 pub returns-in_err-index-in-Map-clause-lacks : goal.returns-in_err-index-in-Map-clause-lacks
 returns-in_err-index-in-Map-clause-lacks g c =
@@ -58,7 +61,8 @@ returns-in_ok-index-in-Map-clause-stands g c =
     let heap = g.N.HeapName.heap in
     let layout = subst IsLayout c.requires.layout c.units.ensures.layout in
     let books = c.in_ok-region.ensures.books ∙ ap (λ (l : Shape). fresh_books l c.args.unit) c.requires.layout in
-    first_stands_at heap c.args.unit c.args.seat c.requires.unused c.requires.seat layout c.in_ok-region.region c.in_ok-region.ensures.seat books c.in_ok-region.ensures.agrees
+    first_stands_at heap c.args.unit c.args.seat c.requires.unused c.requires.seat layout c.in_ok-region.region
+    c.in_ok-region.ensures.seat books c.in_ok-region.ensures.agrees
     (Map c.fresh-in-Map.result) c.fresh-in-Map.ensures.region
 
 pub returns-in_ok-index-in-Map-clause-boxes : goal.returns-in_ok-index-in-Map-clause-boxes
@@ -73,21 +77,25 @@ returns-in_ok-fresh-in-Queue-clause-stands g c =
     let heap = g.N.HeapName.heap in
     let layout = subst IsLayout c.requires.layout c.units.ensures.layout in
     let books = c.in_ok-region.ensures.books ∙ ap (λ (l : Shape). fresh_books l c.args.unit) c.requires.layout in
-    first_stands_at heap c.args.unit c.args.seat c.requires.unused c.requires.seat layout c.in_ok-region.region c.in_ok-region.ensures.seat books c.in_ok-region.ensures.agrees
+    first_stands_at heap c.args.unit c.args.seat c.requires.unused c.requires.seat layout c.in_ok-region.region
+    c.in_ok-region.ensures.seat books c.in_ok-region.ensures.agrees
     (Queue c.in_ok-fresh-in-Queue.field-0) c.in_ok-fresh-in-Queue.ensures.region
 
 pub returns-in_ok-fresh-in-Queue-clause-boxes : goal.returns-in_ok-fresh-in-Queue-clause-boxes
 returns-in_ok-fresh-in-Queue-clause-boxes g c =
-    gives_to_other c.args.layout c.args.unit kinds.Queue (map (λ b. finite.len (g.I.Index.places b)) (into_iter_items c.args.boxes.now)) (c.kind.ensures ∙ ap Some c.in-Queue.is) refl
+    gives_to_other c.args.layout c.args.unit kinds.Queue
+    (map (λ b. finite.len (g.I.Index.places b)) (into_iter_items c.args.boxes.now)) (c.kind.ensures ∙ ap Some c.in-Queue.is) refl
 
 pub returns-in_ok-fresh-in-Graph-clause-stands : goal.returns-in_ok-fresh-in-Graph-clause-stands
 returns-in_ok-fresh-in-Graph-clause-stands g c =
     let heap = g.N.HeapName.heap in
     let layout = subst IsLayout c.requires.layout c.units.ensures.layout in
     let books = c.in_ok-region.ensures.books ∙ ap (λ (l : Shape). fresh_books l c.args.unit) c.requires.layout in
-    first_stands_at heap c.args.unit c.args.seat c.requires.unused c.requires.seat layout c.in_ok-region.region c.in_ok-region.ensures.seat books c.in_ok-region.ensures.agrees
+    first_stands_at heap c.args.unit c.args.seat c.requires.unused c.requires.seat layout c.in_ok-region.region
+    c.in_ok-region.ensures.seat books c.in_ok-region.ensures.agrees
     (Graph c.in_ok-fresh-in-Graph.field-0) c.in_ok-fresh-in-Graph.ensures.region
 
 pub returns-in_ok-fresh-in-Graph-clause-boxes : goal.returns-in_ok-fresh-in-Graph-clause-boxes
 returns-in_ok-fresh-in-Graph-clause-boxes g c =
-    gives_to_other c.args.layout c.args.unit kinds.Graph (map (λ b. finite.len (g.I.Index.places b)) (into_iter_items c.args.boxes.now)) (c.kind.ensures ∙ ap Some c.in-Graph.is) refl
+    gives_to_other c.args.layout c.args.unit kinds.Graph
+    (map (λ b. finite.len (g.I.Index.places b)) (into_iter_items c.args.boxes.now)) (c.kind.ensures ∙ ap Some c.in-Graph.is) refl

@@ -17,8 +17,9 @@ pub open_structure-requires-clause-seat : goal.open_structure-requires-clause-se
 open_structure-requires-clause-seat g c =
     let i = c.loop-seat.invariant in
     let many = i.many in
-    seat_here g.N.HeapName.heap c.args.seats.items c.loop-seat.yielded c.loop-seat.seat-iterator.rest.items _ c.in-Some.seat c.len-unit.result
-    c.requires.seats i.seats c.in-Some.ensures.steps.0 (omega (arith, c.len-unit.ensures, many, c.loop-seat.structures.ok.0))
+    seat_here g.N.HeapName.heap c.args.seats.items c.loop-seat.yielded c.loop-seat.seat-iterator.rest.items _ c.in-Some.seat
+    c.len-unit.result c.requires.seats i.seats c.in-Some.ensures.steps.0
+    (omega (arith, c.len-unit.ensures, many, c.loop-seat.structures.ok.0))
 
 pub push_reserved-requires : goal.push_reserved-requires
 push_reserved-requires g c =

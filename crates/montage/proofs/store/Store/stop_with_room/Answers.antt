@@ -62,7 +62,8 @@ stop_store-requires-clause-seats g c =
     let named = g.N.HeapName.heap in
     let seats = c.take_seat-16.new.seats.items in
     let callers : List CallerShown = map (λ p. p.ticket) c.args.passes.items in
-    let table = subst (λ (a : AdvShown). a.table ≡ named.table) (sym c.into_seat-advancer.ensures) c.into_part.ensures.heap.of_heap.of_table in
+    let table = subst (λ (a : AdvShown). a.table ≡ named.table) (sym c.into_seat-advancer.ensures)
+    c.into_part.ensures.heap.of_heap.of_table in
     subst (λ (heap : HeapShown). AreAllSeats heap seats c.into_seat-advancer.result callers) (sym c.self.invariant.of_heap)
     (all_taken named 16 seats c.into_seat-advancer.result callers c.take_seat-16.ensures.seats c.requires.few table c.requires.passes)
 

@@ -25,14 +25,16 @@ pub invariant_of-self : goal.invariant_of-self
 invariant_of-self g c = record {
   fits = subst (λ (h : HeapShown). StandsAt h g.row.UNIT c.apply.new.self) c.requires.heap
       (stands_behind c.args.heap.now g.row.UNIT c.deref_mut.result.now c.apply.new.self c.args.pass.now.ticket c.apply.new.pass.ticket
-      c.args.op.now c.apply.result (found g (goal.at.invariant_of-self g c).After-apply) c.apply.ensures.stands c.apply.ensures.checked c.apply.ensures.answered c.apply.ensures.refused);
+      c.args.op.now c.apply.result (found g (goal.at.invariant_of-self g c).After-apply) c.apply.ensures.stands
+      c.apply.ensures.checked c.apply.ensures.answered c.apply.ensures.refused);
 }
 
 pub returns-clause-answered : goal.returns-clause-answered
 returns-clause-answered g c =
     let k = found g (goal.at.returns-clause-answered g c).After-apply in
     call_answered c.args.heap.now g.row.UNIT (region_of c.deref_mut.result.now) (region_of c.apply.new.self) c.args.pass.now.ticket
-    c.apply.new.pass.ticket c.args.op.now k.of_unit k.stands k.counted k.seated c.apply.result c.apply.ensures.checked c.apply.ensures.answered
+    c.apply.new.pass.ticket c.args.op.now k.of_unit k.stands k.counted k.seated c.apply.result c.apply.ensures.checked
+    c.apply.ensures.answered
 
 pub returns-clause-refused : goal.returns-clause-refused
 returns-clause-refused g c =
