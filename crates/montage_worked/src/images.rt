@@ -1,4 +1,7 @@
 // Images that a crash permits of a store's words, and what they hold.
+ghost use Rattle.std.specs.Prelude.{IsTrue};
+ghost use Rattle.mont_image.specs.Picking.{HasClock};
+
 use mont_base::{Entry, Epoch, FIRST_CLOCK, LAST, Layout, Sequence, Words};
 use mont_image::pick;
 use plain::{Contents, UnitState, cut_at, is_well_formed, recover, state_after};
@@ -17,11 +20,11 @@ pub(crate) fn picked(alloc: Global, words: &Words, mask: u64) -> Result<Sequence
     Ok(pick(alloc, words, mask)?.words)
 }
 
-fn has_clock(words: &Sequence<u64>) -> bool {
-    match words.get(0) {
-        Some(clock) => (FIRST_CLOCK..=LAST).contains(clock),
-        None => false,
-    }
+fn has_clock(words: &Sequence<u64>) -> bool
+    ensures { IsTrue result → HasClock words.now }
+{
+    let words = words.as_slice();
+    !words.is_empty() && FIRST_CLOCK <= words[0] && words[0] <= LAST
 }
 
 // What recovery rebuilds from an image.
