@@ -1,7 +1,6 @@
 // A caller is held in the middle of a put: the clock may move once beyond its epoch, and another
 // unit answers, while it is held.
 ghost use Rattle.std.specs.Prelude.{◌≡◌, ℕ, false, true};
-ghost use Rattle.std.specs.Thread.{IsSync};
 
 use crate::callers::Caller;
 use crate::judging::judge;
@@ -115,14 +114,8 @@ impl<R: Threads + Wait + Sync> Play<R, Holding> for HeldPut {
         store: &Store<N, I>,
         callers: &mut [Caller<N, Holding>],
     ) -> Result<(), Wrong> {
-        let threads = callers.len().max(1);
         let signals: &Signals = &self.signals;
-        for_each_mut(
-            rt,
-            callers,
-            threads,
-            &|_, caller: &mut Caller<N, Holding>| { take_part(rt, store, signals, caller) },
-        );
+        all_take_part(rt, store, signals, callers);
         if signals.late.load(Ordering::SeqCst) != 0 {
             return Err(Wrong::Late);
         }
@@ -133,6 +126,23 @@ impl<R: Threads + Wait + Sync> Play<R, Holding> for HeldPut {
     }
 }
 
+// Each caller takes part in a thread of its own.
+fn all_take_part<R: Threads + Wait + Sync, N: HeapName + Send, I: Index + Send>(
+    rt: &R,
+    store: &Store<N, I>,
+    signals: &Signals,
+    callers: &mut [Caller<N, Holding>],
+) {
+    let threads = callers.len().max(1);
+    for_each_mut(
+        rt,
+        callers,
+        threads,
+        &|_, caller: &mut Caller<N, Holding>| { take_part(rt, store, signals, caller) },
+    );
+}
+
+// The first caller puts, and the others look on.
 fn take_part<R: Wait, N: HeapName, I: Index>(
     rt: &R,
     store: &Store<N, I>,

@@ -1,6 +1,4 @@
 // Threads call a store beside an advancer.
-ghost use Rattle.std.specs.Thread.{IsSync};
-
 use crate::callers::Caller;
 use crate::draws::Draws;
 use crate::judging::judge;
@@ -50,18 +48,28 @@ impl<R: Threads + Wait + Sync> Play<R, Steady> for Working {
         store: &Store<N, I>,
         callers: &mut [Caller<N, Steady>],
     ) -> Result<(), Wrong> {
-        let threads = callers.len().max(1);
-        for_each_mut(
-            rt,
-            callers,
-            threads,
-            &|_, caller: &mut Caller<N, Steady>| { take_part(rt, store, self, caller) },
-        );
+        all_take_part(rt, store, self, callers);
         if self.well.load(Ordering::SeqCst) != WORKERS {
             return Err(Wrong::Answer);
         }
         Ok(())
     }
+}
+
+// Each caller takes part in a thread of its own.
+fn all_take_part<R: Threads + Wait + Sync, N: HeapName + Send, I: Index + Send>(
+    rt: &R,
+    store: &Store<N, I>,
+    working: &Working,
+    callers: &mut [Caller<N, Steady>],
+) {
+    let threads = callers.len().max(1);
+    for_each_mut(
+        rt,
+        callers,
+        threads,
+        &|_, caller: &mut Caller<N, Steady>| { take_part(rt, store, working, caller) },
+    );
 }
 
 // The first callers work, the last moves the clock on until they have done so.

@@ -1,4 +1,4 @@
 use Rattle.montage_worked.proofs.cut_callers.cut_callers_leave_a_cut.Given as goal
 
-abbrev pub ghosts-cut_somewhere : goal.ghosts-cut_somewhere
-ghosts-cut_somewhere g a = record { heap = a.heap }
+abbrev pub ghosts-played : goal.ghosts-played
+ghosts-played g a = record { heap = a.heap }

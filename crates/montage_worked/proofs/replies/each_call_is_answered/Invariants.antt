@@ -1,4 +1,4 @@
 use Rattle.montage_worked.proofs.replies.each_call_is_answered.Given as goal
 
-abbrev pub ghosts-each_is_answered : goal.ghosts-each_is_answered
-ghosts-each_is_answered g a = record { heap = a.heap }
+abbrev pub ghosts-played : goal.ghosts-played
+ghosts-played g a = record { heap = a.heap }
