@@ -23,7 +23,7 @@ const GRAPH: Unit = 2;
 struct CutInPut;
 
 impl<R: Wait> Play<R, Fuel> for CutInPut {
-    fn play<N: HeapName + Send, I: Index + Send>(
+    fn play<N: HeapName, I: Index>(
         &self,
         rt: &R,
         store: &Store<N, I>,
@@ -88,7 +88,7 @@ struct CutSomewhere {
 }
 
 impl<R: Wait> Play<R, Fuel> for CutSomewhere {
-    fn play<N: HeapName + Send, I: Index + Send>(
+    fn play<N: HeapName, I: Index>(
         &self,
         rt: &R,
         store: &Store<N, I>,

@@ -5,8 +5,7 @@ ghost use Rattle.std.specs.Prelude.{◌≡◌, ℕ, false, true};
 use crate::callers::Caller;
 use crate::judging::judge;
 use crate::opened::{indexes, new_heap};
-use crate::playing::{Play, played};
-use crate::wrong::Wrong;
+use crate::playing::{Part, played_in_threads};
 use advance::AdvanceRefusal;
 use heap_pass::HeapName;
 use index_kit::Index;
@@ -17,7 +16,6 @@ use std::marker::Brand;
 use std::sync::atomic::{AtomicU64, Ordering};
 use std::sync::{Arc, Wait};
 use std::test::Fail;
-use std::thread::{Threads, for_each_mut};
 
 const QUEUE: Unit = 1;
 
@@ -107,55 +105,22 @@ struct HeldPut {
     signals: Arc<Signals, Global>,
 }
 
-impl<R: Threads + Wait + Sync> Play<R, Holding> for HeldPut {
-    fn play<N: HeapName + Send, I: Index + Send>(
+impl<R: Wait> Part<R, Holding> for HeldPut {
+    fn take<N: HeapName, I: Index>(
         &self,
         rt: &R,
         store: &Store<N, I>,
-        callers: &mut [Caller<N, Holding>],
-    ) -> Result<(), Wrong> {
+        caller: &mut Caller<N, Holding>,
+    ) {
         let signals: &Signals = &self.signals;
-        all_take_part(rt, store, signals, callers);
-        if signals.late.load(Ordering::SeqCst) != 0 {
-            return Err(Wrong::Late);
+        let well = if caller.number() == 0 {
+            puts(rt, store, caller)
+        } else {
+            answers(rt, store, signals, caller)
+        };
+        if well {
+            signals.well.fetch_add(1, Ordering::SeqCst);
         }
-        if signals.well.load(Ordering::SeqCst) != OTHERS + 1 {
-            return Err(Wrong::Answer);
-        }
-        Ok(())
-    }
-}
-
-// Each caller takes part in a thread of its own.
-fn all_take_part<R: Threads + Wait + Sync, N: HeapName + Send, I: Index + Send>(
-    rt: &R,
-    store: &Store<N, I>,
-    signals: &Signals,
-    callers: &mut [Caller<N, Holding>],
-) {
-    let threads = callers.len().max(1);
-    for_each_mut(
-        rt,
-        callers,
-        threads,
-        &|_, caller: &mut Caller<N, Holding>| { take_part(rt, store, signals, caller) },
-    );
-}
-
-// The first caller puts, and the others look on.
-fn take_part<R: Wait, N: HeapName, I: Index>(
-    rt: &R,
-    store: &Store<N, I>,
-    signals: &Signals,
-    caller: &mut Caller<N, Holding>,
-) {
-    let well = if caller.number() == 0 {
-        puts(rt, store, caller)
-    } else {
-        answers(rt, store, signals, caller)
-    };
-    if well {
-        signals.well.fetch_add(1, Ordering::SeqCst);
     }
 }
 
@@ -241,7 +206,15 @@ fn others_answer_while_a_put_is_held(rt: HostRuntime) -> Result<(), Fail> {
         gate(&signals, None)?,
     ]?;
     let boxes = indexes(alloc, 1)?;
-    let play = HeldPut { signals };
-    let ended = played::<_, Brand, _, _, _>(&rt, alloc, heap, seats, boxes, gates, &play)?;
+    let part = HeldPut { signals };
+    let ended = played_in_threads::<_, Brand, _, _, _>(
+        &rt, alloc, heap, seats, boxes, gates, &part,
+    )?;
+    if part.signals.late.load(Ordering::SeqCst) != 0 {
+        return Err(Fail::new("the others didn't answer while the put was held"));
+    }
+    if part.signals.well.load(Ordering::SeqCst) != OTHERS + 1 {
+        return Err(Fail::new("another answer"));
+    }
     judge(alloc, &ended)
 }

@@ -3,8 +3,7 @@ use crate::callers::Caller;
 use crate::draws::Draws;
 use crate::judging::judge;
 use crate::opened::{indexes, new_heap};
-use crate::playing::{Play, played};
-use crate::wrong::Wrong;
+use crate::playing::{Part, played_in_threads};
 use heap_pass::HeapName;
 use index_kit::Index;
 use mont_base::{CallRefusal, Op, Steady, Unit};
@@ -13,7 +12,6 @@ use std::marker::Brand;
 use std::sync::Wait;
 use std::sync::atomic::{AtomicU64, Ordering};
 use std::test::Fail;
-use std::thread::{Threads, for_each_mut};
 
 const WORKERS: u64 = 4;
 
@@ -41,52 +39,23 @@ impl Working {
     }
 }
 
-impl<R: Threads + Wait + Sync> Play<R, Steady> for Working {
-    fn play<N: HeapName + Send, I: Index + Send>(
+// The first callers work, the last moves the clock on until they have done so.
+impl<R: Wait> Part<R, Steady> for Working {
+    fn take<N: HeapName, I: Index>(
         &self,
         rt: &R,
         store: &Store<N, I>,
-        callers: &mut [Caller<N, Steady>],
-    ) -> Result<(), Wrong> {
-        all_take_part(rt, store, self, callers);
-        if self.well.load(Ordering::SeqCst) != WORKERS {
-            return Err(Wrong::Answer);
+        caller: &mut Caller<N, Steady>,
+    ) {
+        if caller.number() == WORKERS {
+            tick_along(rt, store, &self.done, caller);
+            return;
         }
-        Ok(())
+        if works(rt, store, caller) {
+            self.well.fetch_add(1, Ordering::SeqCst);
+        }
+        self.done.fetch_add(1, Ordering::SeqCst);
     }
-}
-
-// Each caller takes part in a thread of its own.
-fn all_take_part<R: Threads + Wait + Sync, N: HeapName + Send, I: Index + Send>(
-    rt: &R,
-    store: &Store<N, I>,
-    working: &Working,
-    callers: &mut [Caller<N, Steady>],
-) {
-    let threads = callers.len().max(1);
-    for_each_mut(
-        rt,
-        callers,
-        threads,
-        &|_, caller: &mut Caller<N, Steady>| { take_part(rt, store, working, caller) },
-    );
-}
-
-// The first callers work, the last moves the clock on until they have done so.
-fn take_part<R: Wait, N: HeapName, I: Index>(
-    rt: &R,
-    store: &Store<N, I>,
-    working: &Working,
-    caller: &mut Caller<N, Steady>,
-) {
-    if caller.number() == WORKERS {
-        tick_along(rt, store, &working.done, caller);
-        return;
-    }
-    if works(rt, store, caller) {
-        working.well.fetch_add(1, Ordering::SeqCst);
-    }
-    working.done.fetch_add(1, Ordering::SeqCst);
 }
 
 // Makes its calls. Tells whether each was answered, or found its unit full.
@@ -139,7 +108,12 @@ fn threads_leave_a_legal_history(rt: HostRuntime) -> Result<(), Fail> {
     let (heap, seats) = new_heap(alloc, b"mmmmqg", 256, 5)?;
     let gates = vec![in alloc; Steady, Steady, Steady, Steady, Steady]?;
     let boxes = indexes(alloc, 4)?;
-    let play = Working::new();
-    let ended = played::<_, Brand, _, _, _>(&rt, alloc, heap, seats, boxes, gates, &play)?;
+    let part = Working::new();
+    let ended = played_in_threads::<_, Brand, _, _, _>(
+        &rt, alloc, heap, seats, boxes, gates, &part,
+    )?;
+    if part.well.load(Ordering::SeqCst) != WORKERS {
+        return Err(Fail::new("a caller didn't make all its calls"));
+    }
     judge(alloc, &ended)
 }

@@ -70,7 +70,7 @@ fn on_graph() -> [(Op, Reply); 8] {
 struct EachCall;
 
 impl<R: Wait> Play<R, Steady> for EachCall {
-    fn play<N: HeapName + Send, I: Index + Send>(
+    fn play<N: HeapName, I: Index>(
         &self,
         rt: &R,
         store: &Store<N, I>,

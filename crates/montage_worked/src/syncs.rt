@@ -23,7 +23,7 @@ struct ToldAndSynced {
 }
 
 impl<R: Wait> Play<R, Steady> for ToldAndSynced {
-    fn play<N: HeapName + Send, I: Index + Send>(
+    fn play<N: HeapName, I: Index>(
         &self,
         rt: &R,
         store: &Store<N, I>,

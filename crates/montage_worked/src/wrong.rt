@@ -15,8 +15,6 @@ pub(crate) enum Wrong {
     Refused { why: CallRefusal },
     // Another answer came.
     Answer,
-    // The others didn't answer while a caller was held.
-    Late,
     // There is too little memory.
     Memory,
 }
