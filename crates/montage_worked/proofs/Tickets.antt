@@ -48,3 +48,12 @@ module _ (heap : HeapShown) where
     many = let long = length-map xs ticket in omega (arith, long, none, as_many, all);
     each = each;
   }
+
+-- ---- a list that grows beside another
+pub as_long : {A B : Type 0} (old new : List A) (x : A) (ys : List B) (y : B) → new ≡ old ++ x ∷ [] → length old ≡ length ys
+    → length new ≡ length (ys ++ y ∷ [])
+as_long old new x ys y is same =
+    let grown : length new ≡ length (old ++ x ∷ []) = ap length is in
+    let more = length-append old (x ∷ []) in
+    let more_there = length-append ys (y ∷ []) in
+    omega (arith, grown, more, more_there, same)
