@@ -1,11 +1,10 @@
 -- What a caller has of a call, from what the call found and left of its unit.
-use Rattle.std.proofs.Common.{◌≡◌, ℕ, suc, ◌+◌, ◌≤◌, ◌<◌, List, [], ◌∷◌, ◌++◌, length, max, true, false, refl, sym, ap, ◌∙◌, subst, arith}
-use Rattle.std.specs.Prelude.{slice_get, slice_index, slice_set, Option, Some, None, ◌||◌, Ok, Err, IfOk, IfErr}
+use Rattle.std.proofs.Common.{◌≡◌, ℕ, ◌+◌, List, [], ◌∷◌, ◌++◌, length, true, refl, sym, ap, ◌∙◌, subst, arith}
+use Rattle.std.specs.Prelude.{slice_index, slice_set, Some, Ok, Err, IfOk, IfErr}
 use Rattle.std.specs.List.{AllZip}
 use Rattle.std.specs.declared.result.Result.{Result}
 use Rattle.std.proofs.lemmas.Option.{get_or_from_slice_get}
 use Rattle.std.proofs.lemmas.Slice.Zip.{AllZip-long}
-use Rattle.mont_base.specs.declared.operation.Entry.{Entry}
 use Rattle.mont_base.specs.declared.operation.Op.{Op}
 use Rattle.mont_base.specs.declared.operation.Receipt.{Receipt}
 use Rattle.mont_base.specs.declared.operation.Reply.{Reply}
@@ -23,15 +22,11 @@ use Rattle.mont_laws.specs.Effects.{IsOpOf}
 use Rattle.mont_laws.specs.Structures.{HasStructure}
 use Rattle.mont_laws.proofs.Shown.{one_state}
 use Rattle.job_text.specs.Causes.{effects_then}
-use Rattle.core_steps.specs.declared.parts.CallerPart.{CallerPart}
 use Rattle.core_steps.specs.declared.parts.Mark.{Mark}
-use Rattle.core_steps.specs.Answering.{entry_of}
 use Rattle.core_steps.specs.CallerClauses.{view_of}
 use Rattle.core_steps.specs.Notes.{mark_of}
 use Rattle.core_steps.specs.Opened.{opened_at}
 use Rattle.core_steps.specs.Sound.{base_state}
-use Rattle.heap_rule.specs.declared.views.CallerHeld.{CallerHeld}
-use Rattle.heap_rule.specs.Views.{caller_cut}
 use Rattle.heap.specs.HeapShown.{HeapShown, CallerShown}
 use Rattle.slots.specs.Books.{RegionShown}
 use Rattle.op_guard.specs.Guarding.{HasNoted, IsFull}
@@ -44,7 +39,7 @@ use Rattle.structure_call.proofs.Counted.{numbers_end}
 use Rattle.structure_call.proofs.SoundHistories.{sound_shows, shows_before}
 use Rattle.caller.specs.Telling.{has_mark}
 use Rattle.caller.proofs.TakenNotes.{joined_has, or_right}
-use Rattle.montage.specs.StoreCalls.{RepliesBehind, HasContinued, IsAnswered, KeepsAnswers, NeedsRoom, NeedsNumber, HasLearntWhy, IsRefused}
+use Rattle.montage.specs.StoreCalls.{RepliesBehind, ContinuesCaller, IsAnswered, KeepsCaller, NeedsRoom, NeedsNumber, TellsWhy, IsRefused}
 use Rattle.montage.specs.UnitAt.{IsSeated}
 use Rattle.montage.proofs.NumbersAtEnd.{number_at_end}
 
@@ -92,8 +87,8 @@ module _ (heap : HeapShown) (before behind : RegionShown) (q r : CallerShown) (o
       a.judged.shown (a.showed states recovered) in
       a.judged.replies ∙ ap (λ (s : State). (step s op).reply) (same ∙ ap led (sym unit_is))
 
-  pub has_continued : HasContinued heap q r op receipt
-  has_continued = record {
+  pub continues_caller : ContinuesCaller heap q r op receipt
+  continues_caller = record {
     table = ap (λ (x : CallerShown). x.table) a.caller;
     caller = ap (λ (x : CallerShown). x.held.caller) a.caller;
     of_unit = named;
@@ -111,8 +106,8 @@ module _ (heap : HeapShown) (before behind : RegionShown) (q r : CallerShown) (o
 
 -- ---- a refusal
 module _ (new : RegionShown) (q r : CallerShown) (noted : HasNoted new q r) where
-  keeps_noted : KeepsAnswers q r
-  keeps_noted = record {
+  keeps_caller : KeepsCaller q r
+  keeps_caller = record {
     table = ap (λ (x : CallerShown). x.table) noted;
     caller = ap (λ (x : CallerShown). x.held.caller) noted;
     calls = ap (λ (x : CallerShown). x.held.part.calls) noted;
@@ -196,16 +191,16 @@ module _ (heap : HeapShown) (before behind : RegionShown) (q r : CallerShown) (o
             (base_state (opened_at (clock_of heap.opening.words) states) (sym full.keeps.of_unit i)) (sym full.keeps.history i) clock)
             ∙ sym (full.room states recovered)
 
-    pub learnt_why : (why : CallRefusal) → LeavesCall heap before behind q r op why → HasLearntWhy heap before.books.unit q r op why
-    learnt_why (Halted unit by) k = (k.0, keeps_noted before q r k.2.noted, marked by k.1 k.2)
-    learnt_why (CountEnd which) k = (keeps_noted before q r k.ends.1.noted, needs_number which k)
-    learnt_why Memory k = k.1
-    learnt_why (Full need free clock) k =
+    pub tells_why : (why : CallRefusal) → LeavesCall heap before behind q r op why → TellsWhy heap before.books.unit q r op why
+    tells_why (Halted unit by) k = (k.0, keeps_caller before q r k.2.noted, marked by k.1 k.2)
+    tells_why (CountEnd which) k = (keeps_caller before q r k.ends.1.noted, needs_number which k)
+    tells_why Memory k = k.1
+    tells_why (Full need free clock) k =
         let full = k.leaves.1 in
         let now = ap (λ (x : CallerShown). x.held.part.durable) full.noted in
         let loaded = full.reclaimed.clock_is in
-        (keeps_noted behind q r full.noted, needs_room need free clock k, omega (arith, now, loaded))
-    learnt_why (Cut unit) k = (k.leaves.0, k.leaves.1.caller)
+        (keeps_caller behind q r full.noted, needs_room need free clock k, omega (arith, now, loaded))
+    tells_why (Cut unit) k = (k.leaves.0, k.leaves.1.caller)
 
 -- ---- what a call answers
 module _ (heap : HeapShown) (number : ℕ) (before behind : RegionShown) (q r : CallerShown) (op : Op)
@@ -219,7 +214,7 @@ module _ (heap : HeapShown) (number : ℕ) (before behind : RegionShown) (q r : 
           → IfOk x (λ (receipt : Receipt). HasAnsweredCall heap before behind q r op receipt)
           → IfOk x (λ (receipt : Receipt). IsAnswered heap q r op receipt)
       answered_by (Ok receipt) may a = record {
-        caller = has_continued heap before behind q r op receipt seated a;
+        caller = continues_caller heap before behind q r op receipt seated a;
         before = before;
         behind = behind;
         of_unit = same_unit heap before behind q r op receipt seated a;
@@ -241,7 +236,7 @@ module _ (heap : HeapShown) (number : ℕ) (before behind : RegionShown) (q r : 
       refused_by (Err why) may k = record {
         unit = before.books.unit;
         named = is_op.of_unit ∙ ap Some (sym of_unit);
-        learnt = learnt_why heap before behind q r op seated stood counted why k;
+        learnt = tells_why heap before behind q r op seated stood counted why k;
         before = before;
         behind = behind;
         of_unit = refl;

@@ -1,10 +1,10 @@
 -- What the seats of a store that was never used show.
 use Rattle.std.proofs.Common.{◌≡◌, ℕ, zero, suc, ◌+◌, ◌≤◌, ◌<◌, List, [], ◌∷◌, ◌++◌, length, refl, sym, ap, ◌∙◌, subst, arith, length-append}
-use Rattle.std.specs.Prelude.{IsTrue, All, slice_get, Option, Some, None, IsSome, Box}
+use Rattle.std.specs.Prelude.{map, IsTrue, All, slice_get, Option, Some, None, IsSome, Box}
 use Rattle.std.specs.Option.{option_to_list}
 use Rattle.std.proofs.lemmas.Bool.{false≢true}
 use Rattle.std.proofs.lemmas.List.{length-replicate}
-use Rattle.std.proofs.lemmas.List.Elements.{All-nil, All-push}
+use Rattle.std.proofs.lemmas.List.Elements.{All-nil, All-push, All-head, All-tail, All-cons, All-weaker}
 use Rattle.mont_base.specs.declared.constants.TheConstants.{FIRST_CLOCK}
 use Rattle.mont_base.specs.declared.record.Held.{Held}
 use Rattle.mont_base.specs.Image.{clock_of, empty_states, records_of, IsRecovered}
@@ -30,6 +30,7 @@ use Rattle.slots.specs.Books.{RegionShown, BooksShown, Agrees}
 use Rattle.structure_call.specs.Counting.{HasCounted, records_opened}
 use Rattle.structure_call.specs.Standing.{IsIdle, IsStanding}
 use Rattle.structure_call.proofs.Counted.{fresh_are_counted}
+use Rattle.job_run.specs.Run.{IsFresh}
 use Rattle.montage.specs.FreshStore.{IsFirstSeat, AreFirstSeats, AreUnitsFrom, IsFreshHeap, IsNeverUsed}
 use Rattle.montage.specs.declared.unit_at.Structure.{Structure}
 use Rattle.montage.specs.Store.{AreAllCallers}
@@ -77,15 +78,35 @@ next_fits heap n old new (Some b) items some k =
     let both : AreUnitsFrom heap n (b ∷ new) = subst (AreUnitsFrom heap n) items k in
     (both.0, subst (λ (m : ℕ). AreUnitsFrom heap m new) (omega arith) both.1)
 
--- no caller was answered
-abbrev IsUnanswered : CallerShown → Type 0
-IsUnanswered t = t.held.part.receipts ≡ []
+-- the tickets of callers that were neither answered nor cut yet
+abbrev pub IsFirstTicket : HeapShown → CallerShown → Type 0
+IsFirstTicket heap t = IsFresh (λ (s : CallerShown). s.table ≡ heap.table) (λ (s : CallerShown). s.held) t × (t.held.part.cuts ≡ [])
 
-unanswered : (heap : HeapShown) (n : ℕ) → All IsUnanswered (dealt_callers heap.table heap.opening n)
-unanswered heap zero = All-nil IsUnanswered
-unanswered heap (suc n) =
-    All-push IsUnanswered (dealt_callers heap.table heap.opening n) (record { table = heap.table; held = first_caller heap.opening n })
-    (unanswered heap n) refl
+dealt_are_first : (heap : HeapShown) (n : ℕ) → All (IsFirstTicket heap) (dealt_callers heap.table heap.opening n)
+dealt_are_first heap zero = All-nil (IsFirstTicket heap)
+dealt_are_first heap (suc n) =
+    All-push (IsFirstTicket heap) (dealt_callers heap.table heap.opening n)
+    (record { table = heap.table; held = first_caller heap.opening n }) (dealt_are_first heap n)
+    (record { own = refl; unanswered = record { calls = refl; receipts = refl } }, refl)
+
+-- and the passes that show them
+module _ {P : Type 0} (heap : HeapShown) (ticket : P → CallerShown) where
+  shown_by : (Q : P → Type 0) → ((p : P) → IsFirstTicket heap (ticket p) → Q p) → (ps : List P)
+      → All (IsFirstTicket heap) (map ticket ps) → All Q ps
+  shown_by Q shows [] k = All-nil Q
+  shown_by Q shows (p ∷ ps) k =
+      All-cons Q p ps (shows p (All-head (IsFirstTicket heap) (ticket p) (map ticket ps) k))
+      (shown_by Q shows ps (All-tail (IsFirstTicket heap) (ticket p) (map ticket ps) k))
+
+  pub fresh_passes : (ps : List P) → All (IsFirstTicket heap) (map ticket ps)
+      → All (IsFresh (λ (p : P). (ticket p).table ≡ heap.table) (λ (p : P). (ticket p).held)) ps
+  fresh_passes =
+      shown_by (IsFresh (λ (p : P). (ticket p).table ≡ heap.table) (λ (p : P). (ticket p).held))
+      (λ p first. record { own = first.0.own; unanswered = first.0.unanswered })
+
+  pub uncut_passes : (ps : List P) → All (IsFirstTicket heap) (map ticket ps)
+      → All (λ (p : P). (ticket p).held.part.cuts ≡ []) ps
+  uncut_passes = shown_by (λ (p : P). (ticket p).held.part.cuts ≡ []) (λ p first. first.1)
 
 -- ---- what a unit's seat shows
 module _ (s : Shape) (layout : IsLayout s) (callers u : ℕ) (low : u < units_of s) where
@@ -127,9 +148,13 @@ module _ (heap : HeapShown) (units : List UnitShown) (advancer : AdvShown) (call
     each = each_dealt heap (units_of heap.opening.layout) (omega arith);
   })
 
+  pub tickets_are_first : All (IsFirstTicket heap) callers
+  tickets_are_first = subst (All (IsFirstTicket heap)) (sym opens.each_caller) (dealt_are_first heap heap.opening.callers)
+
   pub none_answered : All (λ (t : CallerShown). t.held.part.receipts ≡ []) callers
-  none_answered = subst (All IsUnanswered) (sym opens.each_caller)
-      (unanswered heap heap.opening.callers)
+  none_answered =
+      All-weaker (IsFirstTicket heap) (λ (t : CallerShown). t.held.part.receipts ≡ []) (λ t first. first.0.unanswered.receipts) callers
+      tickets_are_first
 
   pub as_many_callers : length callers ≡ heap.opening.callers
   as_many_callers = (opened_are_all heap.opening heap units advancer callers opens).caller_count

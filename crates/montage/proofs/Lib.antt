@@ -4,6 +4,9 @@ mod NumbersAtEnd
 mod CallsShown
 mod UnitStands
 mod Ticks
+mod CallsAsked
+mod ClocksAsked
+mod CallersLeft
 mod SeatsTaken
 mod KeptBases
 mod UnitOps

@@ -36,7 +36,7 @@ use Rattle.slots.specs.Beginning.{greatest, serial_of}
 use Rattle.slots.specs.Books.{RegionShown}
 use Rattle.structure_call.specs.Calling.{is_insertion, is_enqueuing}
 use Rattle.structure_call.specs.Counting.{LacksVersion, LacksSerial, LacksNumber, sum_over, insertions, enqueued, changes_made, is_version_of, version_if, version_among, records_opened, objects_opened, opened_with}
-use Rattle.montage.specs.StoreCalls.{opened_records}
+use Rattle.job_worker.specs.Asking.{opened_records}
 use Rattle.montage.specs.UnitAt.{IsSeated}
 
 -- ---- sums over a history

@@ -1,7 +1,8 @@
 -- What a caller has of a tick.
-use Rattle.std.proofs.Common.{◌≡◌, ℕ, ◌+◌, ◌≤◌, ◌<◌, List, length, max, Bool, true, false, refl, sym, ap, ◌∙◌, subst, arith}
-use Rattle.std.specs.Prelude.{map, Ok, Err, None, ◌||◌, IsTrue, IfOk, IfErr, OnErr}
+use Rattle.std.proofs.Common.{◌≡◌, ℕ, ◌<◌, List, length, true, false, refl, sym, ap, ◌∙◌, subst, arith}
+use Rattle.std.specs.Prelude.{map, Ok, Err, None, IsTrue, IfOk, IfErr, OnErr}
 use Rattle.std.specs.declared.result.Result.{Result}
+use Rattle.mont_base.specs.Image.{clock_of}
 use Rattle.mont_base.specs.Layout.{units_of}
 use Rattle.core_steps.specs.declared.parts.Mark.{Mark}
 use Rattle.heap_rule.specs.declared.views.AdvHeld.{AdvHeld}
@@ -23,35 +24,36 @@ module _ (heap : HeapShown) (found behind : AdvShown) (q r : CallerShown)
       table = q.table;
       held = caller_heard q.held (note_of_advancer (length q.held.part.fronts) behind.held);
     }) where
-  learnt_clock : (answer : Result ℕ AdvanceRefusal) → Advances (advancer_shown found.held q.held) behind.held answer
-      → HasLearntClock q r answer
-  learnt_clock (Ok clock) k =
+  learnt_clock : (answer : Result ℕ AdvanceRefusal) → IfOk answer (λ clock. clock_of heap.opening.words < clock)
+      → Advances (advancer_shown found.held q.held) behind.held answer → HasLearntClock heap q r answer
+  learnt_clock (Ok clock) begun k =
       let above = k.above in
       let reached = k.reached in
       let durable = k.durable in
       let now = ap (λ (x : CallerShown). x.held.part.durable) noted in
-      (omega (arith, above), omega (arith, reached), omega (arith, now, durable, above))
-  learnt_clock (Err (NotYet unit epoch true)) k =
+      (begun, omega (arith, above), omega (arith, reached), omega (arith, now, durable, above))
+  learnt_clock (Err (NotYet unit epoch true)) begun k =
       let m : Mark = record { unit = unit; by = None } in
       let marks : List Mark = map (λ (u : ℕ). let n : Mark = record { unit = u; by = None } in n) behind.held.odd in
       ap (λ (x : CallerShown). has_mark x.held.part.marks m) noted
       ∙ joined_has q.held.part.marks marks m
       (or_right (has_mark q.held.part.marks m) (has_mark marks m) (odd_has behind.held.odd unit (k.1.marked refl)))
-  learnt_clock (Err (NotYet unit epoch false)) k = tt
-  learnt_clock (Err Cut) k = tt
-  learnt_clock (Err ClockEnd) k = tt
+  learnt_clock (Err (NotYet unit epoch false)) begun k = tt
+  learnt_clock (Err Cut) begun k = tt
+  learnt_clock (Err ClockEnd) begun k = tt
 
   pub has_ticked : (answer : Result ℕ AdvanceRefusal) → IsAdvancerOf heap found
+      → IfOk answer (λ clock. clock_of heap.opening.words < clock)
       → Advances (advancer_shown found.held q.held) behind.held answer
       → (IsAtEnd (advancer_shown found.held q.held) → answer ≡ Err ClockEnd) → HasTicked heap q r answer
-  has_ticked answer of_heap advances at_end = record {
+  has_ticked answer of_heap begun advances at_end = record {
     found = found;
     behind = behind;
     of_heap = of_heap;
     advances = advances;
     at_end = λ k. at_end (record { rests = k.rests; last = k.last });
     noted = noted;
-    learnt = learnt_clock answer advances;
+    learnt = learnt_clock answer begun advances;
   }
 
 -- ---- the advancer behind its lock
@@ -87,8 +89,9 @@ pub ticked_by : (heap : HeapShown) (found shown behind : AdvShown) (q told r : C
       held = caller_heard told.held (note_of_advancer (length told.held.part.fronts) behind.held);
     }
     → IfOk answer (λ clock. IsAdvanced shown.held clock behind.held) → OnErr answer (IsUnderWay shown.held behind.held)
-    → IfErr answer (λ why. HasReason why shown.held behind.held) → (IsAtEnd shown.held → answer ≡ Err ClockEnd) → HasTicked heap q r answer
-ticked_by heap found shown behind q told r answer of_heap shows same noted done left why at_end =
+    → IfErr answer (λ why. HasReason why shown.held behind.held) → (IsAtEnd shown.held → answer ≡ Err ClockEnd)
+    → IfOk answer (λ clock. clock_of heap.opening.words < clock) → HasTicked heap q r answer
+ticked_by heap found shown behind q told r answer of_heap shows same noted done left why at_end begun =
     let held = ap (λ (a : AdvShown). a.held) shows in
     has_ticked heap found behind q r
     (noted
@@ -96,6 +99,6 @@ ticked_by heap found shown behind q told r answer of_heap shows same noted done 
       table = t.table;
       held = caller_heard t.held (note_of_advancer (length t.held.part.fronts) behind.held);
     } in x) same)
-    answer of_heap
+    answer of_heap begun
     (subst (λ (a : AdvHeld). Advances a behind.held answer) held (advances_by shown.held behind.held answer done left why))
     (subst (λ (a : AdvHeld). IsAtEnd a → answer ≡ Err ClockEnd) held at_end)

@@ -1,19 +1,15 @@
 -- What a call of a structure leaves of its caller, and what its refusals tell. The unit stands
 -- behind a lock, so a call names it as it found and left it.
-use Rattle.std.specs.Prelude.{◌≡◌, ℕ, ◌<◌, ◌≤◌, true, List, [], ◌∷◌, ◌++◌, length, map, slice_get, slice_set, Some, Err}
-use Rattle.std.specs.declared.result.Result.{Result}
-use Rattle.std.specs.List.{range_with_len}
+use Rattle.std.specs.Prelude.{◌≡◌, ℕ, ◌≤◌, true, List, [], ◌∷◌, ◌++◌, length, slice_get, slice_set, Some, Err}
 use Rattle.mont_base.specs.declared.operation.Entry.{Entry}
 use Rattle.mont_base.specs.declared.operation.Op.{Op}
 use Rattle.mont_base.specs.declared.operation.Receipt.{Receipt}
 use Rattle.mont_base.specs.declared.operation.Reply.{Reply}
-use Rattle.mont_base.specs.declared.record.Held.{Held}
 use Rattle.mont_base.specs.declared.refusal.CallRefusal.{CallRefusal}
 use Rattle.mont_base.specs.declared.refusal.CallRefusal.TheVariants.{Halted, CountEnd, Memory, Full, Cut}
 use Rattle.mont_base.specs.declared.refusal.Which.{Which}
 use Rattle.mont_base.specs.History.{state_after}
-use Rattle.mont_base.specs.Image.{clock_of, records_of, IsRecovered}
-use Rattle.mont_base.specs.Layout.{units_of}
+use Rattle.mont_base.specs.Image.{clock_of, IsRecovered}
 use Rattle.mont_base.specs.Room.{room_of}
 use Rattle.mont_base.specs.Seen.{ContinuesView}
 use Rattle.mont_base.specs.State.{State, step, unit_of_op}
@@ -23,7 +19,6 @@ use Rattle.core_steps.specs.Answering.{entry_of}
 use Rattle.core_steps.specs.CallerClauses.{view_of}
 use Rattle.core_steps.specs.Opened.{opened_at}
 use Rattle.core_steps.specs.Sound.{base_state}
-use Rattle.heap_rule.specs.declared.rule.Opening.{Opening}
 use Rattle.heap_rule.specs.Views.{caller_cut}
 use Rattle.heap.specs.HeapShown.{HeapShown, CallerShown}
 use Rattle.slots.specs.Books.{RegionShown}
@@ -31,6 +26,7 @@ use Rattle.structure_call.specs.Calling.{HasAnsweredCall, LeavesCall, was_checke
 use Rattle.structure_call.specs.Checking.{MayBeCalled}
 use Rattle.structure_call.specs.Standing.{IsStanding}
 use Rattle.caller.specs.Telling.{has_mark}
+use Rattle.job_worker.specs.Asking.{opened_records}
 use Rattle.montage.specs.UnitAt.{IsSeated}
 
 -- This holds of what the unit held when the store was opened, by whatever states recovery gives.
@@ -48,7 +44,7 @@ RepliesBehind heap unit history op reply =
 
 -- The call is one entry of the unit's history. The entry stands behind all that the caller had
 -- seen, at no earlier epoch; from then on the caller has seen it, and all entries before it.
-pub record HasContinued
+pub record ContinuesCaller
     (heap : HeapShown) (q r : CallerShown) (op : Op) (receipt : Receipt) : Type 0 where
   pub table : r.table ≡ q.table
   pub caller : r.held.caller ≡ q.held.caller
@@ -67,7 +63,7 @@ pub record HasContinued
 -- and what the unit was before and behind it
 pub record IsAnswered
     (heap : HeapShown) (q r : CallerShown) (op : Op) (receipt : Receipt) : Type 0 where
-  pub caller : HasContinued heap q r op receipt
+  pub caller : ContinuesCaller heap q r op receipt
   pub before : RegionShown
   pub behind : RegionShown
   pub of_unit : before.books.unit ≡ receipt.unit
@@ -78,7 +74,7 @@ pub record IsAnswered
 -- ---- refused: what the caller has of it
 -- No answer is lost, nothing that was seen is forgotten, and nothing more is known to be durable
 -- than the caller has seen.
-pub record KeepsAnswers (q r : CallerShown) : Type 0 where
+pub record KeepsCaller (q r : CallerShown) : Type 0 where
   pub table : r.table ≡ q.table
   pub caller : r.held.caller ≡ q.held.caller
   pub calls : r.held.part.calls ≡ q.held.part.calls
@@ -104,11 +100,6 @@ NeedsRoom heap unit r op need free clock = HasLearntCause heap unit r (λ base h
     LacksRoom (length (effects_then base history op))
     (room_of heap.opening.layout.slots base history clock) need free)
 
--- the records that each unit was opened with
-abbrev pub opened_records : Opening → List (List Held)
-opened_records o =
-    map (records_of o.layout o.words) (range_with_len 0 (units_of o.layout))
-
 -- The number was at its end then, behind so many calls of the caller, by the records that the unit
 -- was opened with and by its entries.
 abbrev pub NeedsNumber : HeapShown → ℕ → CallerShown → CallerShown → Op → Which → Type 0
@@ -117,17 +108,17 @@ NeedsNumber heap unit q r op which =
     (IsAtEnd (records_in (opened_records heap.opening) unit) q.held.part.calls which op)
 
 -- what a refusal of an operation of the unit tells
-abbrev pub HasLearntWhy :
+abbrev pub TellsWhy :
     HeapShown → ℕ → CallerShown → CallerShown → Op → CallRefusal → Type 0
-HasLearntWhy heap unit q r op (Halted halted by) =
-    (halted ≡ unit) × KeepsAnswers q r
+TellsWhy heap unit q r op (Halted halted by) =
+    (halted ≡ unit) × KeepsCaller q r
     × (has_mark r.held.part.marks (record { unit = unit; by = Some by }) ≡ true)
-HasLearntWhy heap unit q r op (CountEnd which) =
-    KeepsAnswers q r × NeedsNumber heap unit q r op which
-HasLearntWhy heap unit q r op Memory = r ≡ q
-HasLearntWhy heap unit q r op (Full need free clock) =
-    KeepsAnswers q r × NeedsRoom heap unit r op need free clock × (clock ≤ r.held.part.durable)
-HasLearntWhy heap unit q r op (Cut cut) =
+TellsWhy heap unit q r op (CountEnd which) =
+    KeepsCaller q r × NeedsNumber heap unit q r op which
+TellsWhy heap unit q r op Memory = r ≡ q
+TellsWhy heap unit q r op (Full need free clock) =
+    KeepsCaller q r × NeedsRoom heap unit r op need free clock × (clock ≤ r.held.part.durable)
+TellsWhy heap unit q r op (Cut cut) =
     (cut ≡ unit) × (r ≡ record { table = q.table; held = caller_cut q.held unit })
 
 -- and what the unit was before and behind it
@@ -135,7 +126,7 @@ pub record IsRefused
     (heap : HeapShown) (q r : CallerShown) (op : Op) (why : CallRefusal) : Type 0 where
   pub unit : ℕ
   pub named : unit_of_op heap.opening.layout op ≡ Some unit
-  pub learnt : HasLearntWhy heap unit q r op why
+  pub learnt : TellsWhy heap unit q r op why
   pub before : RegionShown
   pub behind : RegionShown
   pub of_unit : before.books.unit ≡ unit

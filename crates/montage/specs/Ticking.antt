@@ -1,13 +1,14 @@
 -- What a tick leaves of its caller, and what its refusals tell.
-use Rattle.std.specs.Prelude.{◌≡◌, ℕ, ◌<◌, ◌≤◌, true, length, Ok, Err, Some, None}
+use Rattle.std.specs.Prelude.{◌≡◌, ℕ, ◌<◌, ◌≤◌, true, length, Ok, Err, None}
 use Rattle.std.specs.declared.result.Result.{Result}
+use Rattle.mont_base.specs.Image.{clock_of}
 use Rattle.heap_rule.specs.declared.views.AdvHeld.{AdvHeld}
 use Rattle.heap_rule.specs.Views.{advancer_shown, caller_heard, note_of_advancer}
 use Rattle.heap.specs.HeapShown.{HeapShown, AdvShown, CallerShown}
 use Rattle.heap_pass.specs.OfHeap.{IsAdvancerOf}
 use Rattle.advance.specs.declared.refusal.AdvanceRefusal.{AdvanceRefusal}
-use Rattle.advance.specs.declared.refusal.AdvanceRefusal.TheVariants.{NotYet, Cut, ClockEnd}
-use Rattle.advance.specs.Advance.{IsSameSeat, IsAdvanced, IsUnderWay, HasReason, IsAtEnd}
+use Rattle.advance.specs.declared.refusal.AdvanceRefusal.TheVariants.{NotYet, ClockEnd}
+use Rattle.advance.specs.Advance.{IsAdvanced, IsUnderWay, HasReason, IsAtEnd}
 use Rattle.caller.specs.Telling.{has_mark}
 
 -- what the advance made of the advancer's seat
@@ -16,12 +17,14 @@ Advances before behind (Ok clock) = IsAdvanced before clock behind
 Advances before behind (Err why) = IsUnderWay before behind × HasReason why before behind
 
 -- what the caller has of the answer
-abbrev pub HasLearntClock : CallerShown → CallerShown → Result ℕ AdvanceRefusal → Type 0
-HasLearntClock q r (Ok clock) =
-    (q.held.part.durable < clock) × (q.held.part.newest ≤ clock) × (r.held.part.durable ≡ clock)
-HasLearntClock q r (Err (NotYet unit epoch true)) =
+abbrev pub HasLearntClock :
+    HeapShown → CallerShown → CallerShown → Result ℕ AdvanceRefusal → Type 0
+HasLearntClock heap q r (Ok clock) =
+    (clock_of heap.opening.words < clock) × (q.held.part.durable < clock)
+    × (q.held.part.newest ≤ clock) × (r.held.part.durable ≡ clock)
+HasLearntClock heap q r (Err (NotYet unit epoch true)) =
     has_mark r.held.part.marks (record { unit = unit; by = None }) ≡ true
-HasLearntClock q r (Err _) = Unit {0}
+HasLearntClock heap q r (Err _) = Unit {0}
 
 -- The advancer's seat was shown what the caller had seen, its advance was then gone on with, and
 -- the caller took a note of it, whatever came of that.
@@ -36,4 +39,4 @@ pub record HasTicked
     table = q.table;
     held = caller_heard q.held (note_of_advancer (length q.held.part.fronts) behind.held);
   }
-  pub learnt : HasLearntClock q r answer
+  pub learnt : HasLearntClock heap q r answer

@@ -33,7 +33,7 @@ impl<N: HeapName, I: Index> Store<N, I> {
             pass.new.ticket (ops.AddV unit vertex attr) why) }
     {
         let op = Op::AddV { unit, vertex, attr };
-        self.call(rt, pass, unit, &op)
+        self.call_unit(rt, pass, unit, &op)
     }
 
     /// Removes a vertex with every edge from or to it, all in one entry, and answers its attribute.
@@ -54,7 +54,7 @@ impl<N: HeapName, I: Index> Store<N, I> {
             pass.new.ticket (ops.DelV unit vertex) why) }
     {
         let op = Op::DelV { unit, vertex };
-        self.call(rt, pass, unit, &op)
+        self.call_unit(rt, pass, unit, &op)
     }
 
     /// Looks a vertex up.
@@ -75,7 +75,7 @@ impl<N: HeapName, I: Index> Store<N, I> {
             pass.new.ticket (ops.Vertex unit vertex) why) }
     {
         let op = Op::Vertex { unit, vertex };
-        self.call(rt, pass, unit, &op)
+        self.call_unit(rt, pass, unit, &op)
     }
 
     /// Counts the edges from or to a vertex.
@@ -96,7 +96,7 @@ impl<N: HeapName, I: Index> Store<N, I> {
             pass.new.ticket (ops.Degree unit vertex) why) }
     {
         let op = Op::Degree { unit, vertex };
-        self.call(rt, pass, unit, &op)
+        self.call_unit(rt, pass, unit, &op)
     }
 
     /// Sets the attribute of the edge from one vertex to another, and answers the one that it had.
@@ -124,7 +124,7 @@ impl<N: HeapName, I: Index> Store<N, I> {
             to,
             attr,
         };
-        self.call(rt, pass, unit, &op)
+        self.call_unit(rt, pass, unit, &op)
     }
 
     /// Removes an edge, and answers the attribute that it had.
@@ -146,6 +146,6 @@ impl<N: HeapName, I: Index> Store<N, I> {
             pass.new.ticket (ops.DelE unit from to) why) }
     {
         let op = Op::DelE { unit, from, to };
-        self.call(rt, pass, unit, &op)
+        self.call_unit(rt, pass, unit, &op)
     }
 }

@@ -1,12 +1,15 @@
 //! The store: the heap, each unit behind a lock of its own, and the advancer behind another. Its
-//! structure calls are made by callers on threads of their own; what `Store::stop` ensures is the
-//! promise of the whole store.
+//! structure calls are made by callers on threads of their own, as `run` starts them for a job;
+//! what `Store::stop` ensures is the promise of the whole store.
 #![tactic(auto)]
 
+mod asking;
+mod attempting;
 mod graph_calls;
 mod map_calls;
 mod open_refusal;
 mod queue_calls;
+mod running;
 mod store;
 mod store_end;
 mod store_opening;
@@ -14,5 +17,7 @@ mod ticking;
 mod unit_at;
 mod unit_calls;
 
+pub use job_run::Ran;
 pub use open_refusal::OpenRefusal;
+pub use running::run;
 pub use store::Store;

@@ -33,7 +33,7 @@ impl<N: HeapName, I: Index> Store<N, I> {
     {
         let _value = value.len();
         let op = Op::Put { key, value };
-        self.call(rt, pass, self.unit_of_key(&key), &op)
+        self.call_unit(rt, pass, self.unit_of_key(&key), &op)
     }
 
     /// Looks a key up.
@@ -53,7 +53,7 @@ impl<N: HeapName, I: Index> Store<N, I> {
             pass.new.ticket (ops.Get key) why) }
     {
         let op = Op::Get { key };
-        self.call(rt, pass, self.unit_of_key(&key), &op)
+        self.call_unit(rt, pass, self.unit_of_key(&key), &op)
     }
 
     /// Removes a key, and answers the value that it had.
@@ -73,7 +73,7 @@ impl<N: HeapName, I: Index> Store<N, I> {
             pass.new.ticket (ops.Del key) why) }
     {
         let op = Op::Del { key };
-        self.call(rt, pass, self.unit_of_key(&key), &op)
+        self.call_unit(rt, pass, self.unit_of_key(&key), &op)
     }
 
     // The map unit that keeps a key.

@@ -32,7 +32,7 @@ impl<N: HeapName, I: Index> Store<N, I> {
             pass.new.ticket (ops.Enq unit item) why) }
     {
         let op = Op::Enq { unit, item };
-        self.call(rt, pass, unit, &op)
+        self.call_unit(rt, pass, unit, &op)
     }
 
     /// Takes the first item.
@@ -52,7 +52,7 @@ impl<N: HeapName, I: Index> Store<N, I> {
             pass.new.ticket (ops.Deq unit) why) }
     {
         let op = Op::Deq { unit };
-        self.call(rt, pass, unit, &op)
+        self.call_unit(rt, pass, unit, &op)
     }
 
     /// Counts the items.
@@ -72,6 +72,6 @@ impl<N: HeapName, I: Index> Store<N, I> {
             pass.new.ticket (ops.Len unit) why) }
     {
         let op = Op::Len { unit };
-        self.call(rt, pass, unit, &op)
+        self.call_unit(rt, pass, unit, &op)
     }
 }

@@ -53,7 +53,8 @@ impl<N: HeapName, I: Index> Model for Store<N, I> {
 impl<N: HeapName, I: Index> Store<N, I> {
     /// The heap that N names.
     pub fn heap(&self) -> &Heap
-        ensures { result.now ≡ N.heap }
+        ensures named { self.now ≡ N.heap }
+        ensures heap { result.now ≡ N.heap }
     {
         &self.heap
     }

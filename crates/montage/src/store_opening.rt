@@ -4,6 +4,7 @@ ghost use Rattle.std.specs.FinMap as finite;
 ghost use Rattle.std.specs.Option.{option_map};
 ghost use Rattle.std.specs.Vec.Iter.{into_iter_items};
 ghost use Rattle.heap.specs.HeapShown.{CallerShown};
+ghost use Rattle.job_run.specs.Run.{IsFresh};
 ghost use Rattle.montage.specs.FreshStore.{IsFreshHeap, IsNeverUsed, IsFirstSeat, AreFirstSeats, AreUnitsFrom};
 ghost use Rattle.montage.specs.MapBoxes.{HaveEmptyBoxes, LacksBox, GivesBox, RefusesBox};
 ghost use Rattle.montage.specs.Store.{AreAllCallers};
@@ -45,6 +46,9 @@ impl<N: HeapName, I: Index> Store<N, I> {
         ensures tickets { IfOk result (λ r. map (λ p. p.ticket) r.1.items
             ≡ seats.callers.items) }
         ensures callers { IfOk result (λ r. AreAllCallers N.heap (map (λ p. p.ticket) r.1.items)) }
+        ensures fresh { IfOk result (λ r. All (IsFresh (λ p. p.ticket.table ≡ N.heap.table)
+            (λ p. p.ticket.held)) r.1.items) }
+        ensures uncut { IfOk result (λ r. All (λ p. p.ticket.held.part.cuts ≡ []) r.1.items) }
         ensures gates { IfOk result (λ r. map (λ p. p.gate) r.1.items ≡ gates.items) }
         ensures boxes { OnOk result (HaveEmptyBoxes N.heap.opening.layout
             (map (λ b. finite.len (I.places b)) indexes.items)) }

@@ -15,7 +15,7 @@ use std::sync::{Mutex, Wait};
 
 impl<N: HeapName, I: Index> Store<N, I> {
     // Carries an operation of the unit out, under the unit's lock.
-    pub(crate) fn call<R: Wait, G: Gate>(
+    pub(crate) fn call_unit<R: Wait, G: Gate>(
         &self,
         rt: &R,
         pass: &mut Pass<G>,

@@ -1,5 +1,5 @@
 use Rattle.std.proofs.Common.{rules, ◌≡◌, ◌∙◌, List, map, sym, ap, refl, subst, arith}
-use Rattle.std.specs.Prelude.{Ok, Err, IfErr, IsErrAnd}
+use Rattle.std.specs.Prelude.{All, Ok, Err, IfErr, IsErrAnd}
 use Rattle.std.specs.FinMap as finite
 use Rattle.std.specs.declared.result.Result.{Result}
 use Rattle.mont_base.specs.declared.constants.TheConstants.{FIRST_CLOCK}
@@ -12,7 +12,7 @@ use Rattle.heap_pass.specs.OfLayout.{IsOfLayout}
 use Rattle.montage.specs.FreshStore.{AreUnitsFrom}
 use Rattle.montage.specs.MapBoxes.{HaveEmptyBoxes, LacksBox}
 use Rattle.montage.specs.Store.{AreAllCallers}
-use Rattle.montage.proofs.FirstSeats.{seats_are_first, none_answered, never_used, as_many_callers, all_callers, advancer_fits, advancer_rests, advancer_clock, is_base}
+use Rattle.montage.proofs.FirstSeats.{IsFirstTicket, fresh_passes, uncut_passes, tickets_are_first, seats_are_first, none_answered, never_used, as_many_callers, all_callers, advancer_fits, advancer_rests, advancer_clock, is_base}
 use Rattle.montage.proofs.store.Store.fresh.Goals as goal
 
 at_exit : {X E : Type 0} (r : Result X E) (e : E) (Q : E → Type 0) → IsErrAnd r (λ d. d ≡ e) → Q e → IfErr r Q
@@ -129,10 +129,14 @@ pub returns : goal.returns
 returns g c =
     let s = c.args.seats in
     let same = c.layout-layout.ensures ∙ ap (λ (h : HeapShown). h.opening.layout) c.requires.named in
+    let first = subst (All (IsFirstTicket g.N.HeapName.heap)) (sym c.in_ok-passes.ensures.tickets)
+    (tickets_are_first g.N.HeapName.heap s.units.items s.advancer s.callers.items c.requires.opens) in
     record {
       tickets = c.in_ok-passes.ensures.tickets;
       callers = subst (λ (cs : List CallerShown). AreAllCallers g.N.HeapName.heap cs) (sym c.in_ok-passes.ensures.tickets)
           (all_callers g.N.HeapName.heap s.units.items s.advancer s.callers.items c.requires.opens);
+      fresh = fresh_passes g.N.HeapName.heap (λ p. p.ticket) c.in_ok-passes.passes.items first;
+      uncut = uncut_passes g.N.HeapName.heap (λ p. p.ticket) c.in_ok-passes.passes.items first;
       gates = c.in_ok-passes.ensures.gates;
       boxes = subst (λ (l : Shape). HaveEmptyBoxes l (map (λ b. finite.len (g.I.Index.places b)) c.args.indexes.items)) same
           c.in_ok-structures.ensures.boxes;

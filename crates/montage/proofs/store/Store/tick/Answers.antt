@@ -1,4 +1,6 @@
-use Rattle.std.proofs.Common.{ap, refl, sym, subst, ◌∙◌}
+use Rattle.std.proofs.Common.{◌<◌, ap, refl, sym, subst, ◌∙◌}
+use Rattle.std.specs.Prelude.{IfOk}
+use Rattle.mont_base.specs.Image.{clock_of}
 use Rattle.heap.specs.HeapShown.{HeapShown, AdvShown, CallerShown}
 use Rattle.heap_pass.specs.OfHeap.{IsAdvancerOf}
 use Rattle.montage.proofs.Ticks.{shown_fits, same_fits, ticked_by}
@@ -55,3 +57,5 @@ returns-clause-ticked g c =
     ticked_by g.N.HeapName.heap named.part c.show.new.self c.advance-answer.new.self c.args.pass.now.ticket c.show.new.ticket
     c.take_note.new.pass.ticket c.advance-answer.result named.of_heap c.show.ensures.advancer c.show.ensures.caller
     c.take_note.ensures.caller e.ok e.refused e.reason e.clock_end
+    (subst (λ (h : HeapShown). IfOk c.advance-answer.result (λ clock. clock_of h.opening.words < clock))
+    c.self.invariant.of_heap e.begun)
