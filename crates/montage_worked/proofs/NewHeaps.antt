@@ -1,5 +1,5 @@
 -- A heap that was made for so many callers.
-use Rattle.std.proofs.Common.{◌≡◌, ℕ, ap}
+use Rattle.std.proofs.Common.{ℕ, ap}
 use Rattle.std.specs.Prelude.{List}
 use Rattle.mont_base.specs.Layout.{Shape}
 use Rattle.heap_rule.specs.declared.rule.Opening.{Opening}

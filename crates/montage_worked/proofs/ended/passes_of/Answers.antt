@@ -1,4 +1,4 @@
-use Rattle.std.proofs.Common.{rules, ◌≡◌, length, map}
+use Rattle.std.proofs.Common.{rules, ◌≡◌, length}
 use Rattle.montage_worked.proofs.Tickets.{one_more_of, one_more_back}
 use Rattle.montage_worked.proofs.ended.passes_of.Goals as goal
 
