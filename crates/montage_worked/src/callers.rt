@@ -2,7 +2,7 @@
 ghost use Rattle.std.specs.Prelude.{◌≡◌, IfOk};
 ghost use Rattle.heap.specs.Stops.{IsSeatOfCaller};
 ghost use Rattle.heap_rule.specs.Views.{note_of_caller};
-ghost use Rattle.montage_worked.specs.Callers.{IsSeatOfCaller-prop};
+ghost use Rattle.montage_worked.specs.Callers.{once};
 
 use crate::structure_calls::{NoSuchCall, carry_out};
 use advance::AdvanceRefusal;
@@ -22,7 +22,7 @@ pub(crate) struct Caller<N: HeapName, G: Gate> {
     number: u64,
     pass: Pass<G>,
     of: PhantomData<N>,
-    ghost seat: { IsSeatOfCaller N.heap number pass.ticket } by { IsSeatOfCaller-prop N.heap number pass.ticket },
+    ghost seat: { IsSeatOfCaller N.heap number pass.ticket } by { once N.heap number pass.ticket },
 }
 
 impl<N: HeapName, G: Gate> Caller<N, G> {
