@@ -1,5 +1,5 @@
 -- Where a job stops nobody, a faithful report tells that all its lines were carried out.
-use Rattle.std.proofs.Common.{◌≡◌, ℕ, ◌+◌, ◌<◌, ◌≤◌, true, false, List, [], ◌∷◌, length, take, drop, refl, sym, subst, arith}
+use Rattle.std.proofs.Common.{◌≡◌, ℕ, ◌+◌, ◌<◌, true, false, List, [], length, take, drop, refl, sym, subst, arith}
 use Rattle.std.specs.Prelude.{slice_get, Some, Any}
 use Rattle.std.proofs.lemmas.Option.{slice_get_within}
 use Rattle.mont_base.specs.declared.record.Held.{Held}
@@ -11,7 +11,7 @@ use Rattle.job_text.specs.declared.job.Job.{Job}
 use Rattle.job_text.specs.declared.job.Stop.{Stop}
 use Rattle.job_text.specs.declared.outcome.Outcome.{Outcome}
 use Rattle.job_text.specs.declared.outcome.Outcome.TheVariants.{At, Synced, Ticked, Stuck, ClockEnd, Full, CountEnd, Halted, CutIn, Cut}
-use Rattle.job_text.specs.AnsweredLines.{Answers, AnswersLines}
+use Rattle.job_text.specs.AnsweredLines.{Answers}
 use Rattle.job_text.specs.Causes.{WasCutIn}
 use Rattle.job_text.specs.Faithful.{HasStop, IsFaithful}
 use Rattle.job_text.specs.Outcomes.{is_cut}

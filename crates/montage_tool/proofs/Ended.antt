@@ -1,16 +1,15 @@
 -- A job that was run on a store that was then stopped, and the report of it.
-use Rattle.std.proofs.Common.{◌≡◌, ◌≢◌, ℕ, ◌≤◌, List, [], ◌∷◌, length, map, replicate, refl, sym, ap, ◌∙◌, subst, arith}
-use Rattle.std.specs.Prelude.{All, slice_get, Option, Some, None, IsSome, Ok, Err, IfOk, OnErr}
+use Rattle.std.proofs.Common.{◌≡◌, ◌≢◌, ℕ, List, [], length, map, replicate, refl, sym, ap, ◌∙◌, subst, arith}
+use Rattle.std.specs.Prelude.{All, Option, Some, None, IsSome, Ok, Err, IfOk, OnErr}
 use Rattle.std.specs.declared.result.Result.{Result}
 use Rattle.std.proofs.lemmas.List.{length-map}
-use Rattle.mont_base.specs.declared.constants.TheConstants.{FIRST_CLOCK, LAST}
+use Rattle.mont_base.specs.declared.constants.TheConstants.{FIRST_CLOCK}
 use Rattle.mont_base.specs.declared.gate.Fuel.{Fuel}
 use Rattle.mont_base.specs.declared.record.Held.{Held}
 use Rattle.mont_base.specs.Gates.{is_endless}
 use Rattle.mont_base.specs.Image.{IsRecovered, clock_of, IsWellFormed, empty_states}
 use Rattle.mont_base.specs.Layout.{Shape, units_of, words_of}
 use Rattle.mont_base.specs.State.{State, unit_of_op}
-use Rattle.plain.specs.declared.contents.Contents.{Contents}
 use Rattle.plain.specs.States.{states_of}
 use Rattle.core_steps.proofs.RowFacts.{all_at}
 use Rattle.heap_rule.specs.declared.rule.Opening.{Opening}

@@ -1,5 +1,5 @@
 -- A gate that cuts is that of a caller whom the job stops.
-use Rattle.std.proofs.Common.{◌≡◌, ℕ, suc, ◌+◌, ◌≤◌, ◌⊎◌, inl, inr, Bool, true, false, List, [], ◌∷◌, refl, sym, ap, ◌∙◌, subst, arith}
+use Rattle.std.proofs.Common.{◌≡◌, ℕ, suc, ◌⊎◌, inl, inr, Bool, true, false, List, [], ◌∷◌, refl, ap, ◌∙◌, arith}
 use Rattle.std.specs.Prelude.{◌==◌, Some, None, Any, if◌then◌else◌}
 use Rattle.mont_base.specs.declared.gate.Fuel.{Fuel}
 use Rattle.mont_base.specs.Faults.{Rose}

@@ -2,7 +2,6 @@
 use Rattle.std.proofs.Common.{◌≡◌, ℕ, zero, suc, ◌+◌, List, [], ◌∷◌, map, replicate, refl, sym, ap, ◌∙◌}
 use Rattle.std.specs.List.{range_with_len}
 use Rattle.mont_base.specs.declared.constants.TheConstants.{FIRST_CLOCK}
-use Rattle.mont_base.specs.declared.record.Held.{Held}
 use Rattle.mont_base.specs.Image.{empty_states, records_of}
 use Rattle.mont_base.specs.Layout.{Shape, IsLayout, units_of}
 use Rattle.mont_base.specs.State.{State}

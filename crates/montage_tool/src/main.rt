@@ -12,7 +12,6 @@ mod forms;
 mod gates;
 #[cfg(test)]
 mod meeting;
-mod montage;
 mod program;
 #[cfg(test)]
 mod rows;
@@ -20,6 +19,7 @@ mod run;
 mod status;
 #[cfg(test)]
 mod tests;
+mod top_call;
 
 use adapters::{FileSink, FileSource, StdSink, StdSource};
 use command_line::{file_word, words_of};

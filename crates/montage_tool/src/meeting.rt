@@ -1,8 +1,8 @@
 // Two callers whose boxes wait for each other: neither put ends before both were begun.
 ghost use Rattle.std.specs.Prelude.{◌≡◌};
 
-use crate::montage::montage;
 use crate::status::Status;
+use crate::top_call::montage;
 use index_kit::{Index, SortedIndex};
 use mont_base::{MemSink, MemSource, Text};
 use std::alloc::{AllocError, Global};

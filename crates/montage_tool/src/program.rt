@@ -8,8 +8,8 @@ ghost use Rattle.montage_tool.specs.Status.{exit_code_of, status_line};
 
 use crate::about::question_of;
 use crate::delivery::deliver;
-use crate::montage::{montage, send};
 use crate::status::{Status, exit_code, status_text};
+use crate::top_call::{montage, send};
 use index_kit::Index;
 use mont_base::{Sink, Source};
 use std::alloc::{AllocError, Global};

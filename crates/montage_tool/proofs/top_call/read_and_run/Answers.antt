@@ -1,7 +1,7 @@
 use Rattle.std.proofs.Common.{arith}
 use Rattle.job_text.specs.declared.limits.TheConstants.{READ_BYTES}
 use Rattle.montage_tool.proofs.Serving.{run_reported}
-use Rattle.montage_tool.proofs.montage.read_and_run.Goals as goal
+use Rattle.montage_tool.proofs.top_call.read_and_run.Goals as goal
 
 pub returns-in-Ok : goal.returns-in-Ok
 returns-in-Ok g c =

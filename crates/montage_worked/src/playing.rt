@@ -1,0 +1,97 @@
+// What callers do with a store, between its opening and its stop.
+ghost use Rattle.std.specs.Prelude.{◌≡◌, vec_len};
+ghost use Rattle.montage_worked.specs.Opened.{IsNewHeap};
+
+use crate::callers::Caller;
+use crate::ended::{Ended, end};
+use crate::opened::open;
+use crate::wrong::Wrong;
+use heap::{Heap, Seats};
+use heap_pass::HeapName;
+use index_kit::Index;
+use mont_base::Gate;
+use montage::Store;
+use std::alloc::Global;
+use std::sync::Wait;
+use std::test::Fail;
+use std::thread::{Threads, for_each_mut};
+
+// What the callers of a store do one after another, whose gates are of the kind G.
+pub(crate) trait Play<R: Wait, G: Gate> {
+    // It fails where an answer isn't the one that is wanted.
+    fn play<N: HeapName, I: Index>(
+        &self,
+        rt: &R,
+        store: &Store<N, I>,
+        callers: &mut [Caller<N, G>],
+    ) -> Result<(), Wrong>;
+}
+
+// What each caller of a store does in a thread of its own.
+pub(crate) trait Part<R: Wait, G: Gate> {
+    fn take<N: HeapName, I: Index>(&self, rt: &R, store: &Store<N, I>, caller: &mut Caller<N, G>);
+}
+
+// Opens a store for callers with these gates, lets them play, and stops it. Who owns a store pays
+// for each early return with the drop of sixteen locks, so a play only borrows it.
+pub(crate) fn played<R: Wait, N: HeapName, I: Index, G: Gate + Drop, P: Play<R, G>>(
+    rt: &R,
+    alloc: Global,
+    heap: Heap,
+    seats: Seats,
+    indexes: Vec<I>,
+    gates: Vec<G>,
+    play: &P,
+) -> Result<Ended, Fail>
+    requires named { heap ≡ N.heap }
+    requires opens { IsNewHeap (vec_len gates) N.heap seats.units.items seats.advancer
+        seats.callers.items }
+{
+    let (store, mut callers) = open::<N, I, G>(alloc, heap, seats, indexes, gates)?;
+    let went = play.play(rt, &store, callers.as_mut_slice());
+    let ended = end(alloc, store, callers)?;
+    went?;
+    Ok(ended)
+}
+
+// Opens a store for callers with these gates, lets each take its part in a thread of its own, and
+// stops it.
+pub(crate) fn played_in_threads<
+    R: Threads + Wait + Sync,
+    N: HeapName + Send + Sync,
+    I: Index + Send,
+    G: Gate + Drop + Send,
+    P: Part<R, G> + Sync,
+>(
+    rt: &R,
+    alloc: Global,
+    heap: Heap,
+    seats: Seats,
+    indexes: Vec<I>,
+    gates: Vec<G>,
+    part: &P,
+) -> Result<Ended, Fail>
+    requires named { heap ≡ N.heap }
+    requires opens { IsNewHeap (vec_len gates) N.heap seats.units.items seats.advancer
+        seats.callers.items }
+{
+    let (store, mut callers) = open::<N, I, G>(alloc, heap, seats, indexes, gates)?;
+    take_parts(rt, &store, callers.as_mut_slice(), part);
+    end(alloc, store, callers)
+}
+
+fn take_parts<
+    R: Threads + Wait + Sync,
+    N: HeapName + Send + Sync,
+    I: Index + Send,
+    G: Gate + Send,
+    P: Part<R, G> + Sync,
+>(rt: &R, store: &Store<N, I>, callers: &mut [Caller<N, G>], part: &P) {
+    let threads = callers.len().max(1);
+    for_each_mut(
+        rt,
+        callers,
+        threads,
+        &|_, caller: &mut Caller<N, G>| { part.take(rt, store, caller) },
+    );
+}
