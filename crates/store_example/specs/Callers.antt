@@ -1,6 +1,14 @@
--- Whose passes they are.
+-- The callers of the example, and whose passes they are.
 use Rattle.std.specs.Prelude.{◌≡◌, ℕ, List, length, slice_get, Some}
-use Rattle.heap.specs.HeapShown.{CallerShown}
+use Rattle.heap.specs.HeapShown.{HeapShown, UnitShown, AdvShown, CallerShown}
+use Rattle.montage.specs.FreshStore.{IsFreshHeap}
+
+-- a heap of two callers, of which no step was made
+pub record IsForTwo
+    (heap : HeapShown) (units : List UnitShown) (advancer : AdvShown) (callers : List CallerShown)
+    : Type 0 where
+  pub fresh : IsFreshHeap heap units advancer callers
+  pub two : heap.opening.callers ≡ 2
 
 -- the same caller, of the same heap
 pub record IsSameCaller (old new : CallerShown) : Type 0 where

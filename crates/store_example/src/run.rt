@@ -1,8 +1,7 @@
 // Two callers on a store of their own.
-ghost use Rattle.std.specs.Prelude.{◌≡◌, All, IfOk};
-ghost use Rattle.montage.specs.FreshStore.{IsFreshHeap};
+ghost use Rattle.std.specs.Prelude.{◌≡◌, All, IfOk, vec_len};
 ghost use Rattle.plain.specs.States.{states_of};
-ghost use Rattle.store_example.specs.Callers.{IsSameCaller, AreSameCallers};
+ghost use Rattle.store_example.specs.Callers.{IsForTwo, IsSameCaller, AreSameCallers};
 ghost use Rattle.store_example.specs.Outlived.{Outlives};
 
 use crate::crash::recover_after_crash;
@@ -10,9 +9,9 @@ use heap::{Heap, Seats};
 use heap_pass::{HeapName, Pass};
 use index_kit::{Index, SortedIndex};
 use mont_base::{Steady, Text};
-use montage::Store;
+use montage::{OpenRefusal, Store};
 use plain::Contents;
-use std::alloc::Global;
+use std::alloc::{AllocError, Global};
 use std::sync::Wait;
 use std::thread::{Threads, for_each_mut};
 
@@ -25,21 +24,40 @@ pub(crate) fn put_on_threads<R: Threads + Wait + Sync, N: HeapName + Send + Sync
     heap: Heap,
     seats: Seats,
     boxes: Vec<SortedIndex>,
-) -> anyhow::Result<Contents>
+) -> Result<Contents, OpenRefusal>
     requires named { heap ≡ N.heap }
-    requires opens { IsFreshHeap N.heap seats.units.items seats.advancer seats.callers.items }
-    requires callers { N.heap.opening.callers ≡ 2 }
+    requires opens { IsForTwo N.heap seats.units.items seats.advancer seats.callers.items }
     ensures { IfOk result (λ contents. Outlives (states_of contents)) }
 {
-    let gates = vec![in alloc; Steady, Steady]?;
-    let (store, mut passes) = Store::<N, SortedIndex>::fresh(alloc, heap, seats, gates, boxes)?;
-    put_beside(rt, &store, passes.as_mut_slice());
+    let gates = two_gates(alloc)?;
+    let (store, passes) = Store::<N, SortedIndex>::fresh(alloc, heap, seats, gates, boxes)?;
+    let passes = put_beside(rt, &store, passes);
     let stopped = store.stop(alloc, passes)?;
     Ok(recover_after_crash(alloc, &stopped)?)
 }
 
+// A gate for each caller, which never cuts it.
+fn two_gates(alloc: Global) -> Result<Vec<Steady>, AllocError>
+    ensures { IfOk result (λ gates. vec_len gates ≡ 2) }
+{
+    Ok(vec![in alloc; Steady, Steady]?)
+}
+
 // Each caller puts its pair, in a thread of its own.
 fn put_beside<R: Threads + Wait + Sync, N: HeapName + Send + Sync>(
+    rt: &R,
+    store: &Store<N, SortedIndex>,
+    mut passes: Vec<Pass<Steady>>,
+) -> Vec<Pass<Steady>>
+    requires { All (λ p. p.ticket.table ≡ N.heap.table) passes.items }
+    ensures { AreSameCallers (λ p. p.ticket) passes.items result.items }
+{
+    put_each(rt, store, passes.as_mut_slice());
+    passes
+}
+
+// Lends each pass to a thread.
+fn put_each<R: Threads + Wait + Sync, N: HeapName + Send + Sync>(
     rt: &R,
     store: &Store<N, SortedIndex>,
     passes: &mut [Pass<Steady>],
@@ -58,7 +76,7 @@ fn put_beside<R: Threads + Wait + Sync, N: HeapName + Send + Sync>(
     );
 }
 
-// Puts ten times the caller's number at that number, and waits until that is durable.
+// Puts 10 at the caller's number, and waits until that is durable.
 #[tactic(auto, using(crate::proofs::Kept::kept_by_call, crate::proofs::Kept::kept_by_sync))]
 fn put_and_sync<R: Wait, N: HeapName, I: Index>(
     rt: &R,
@@ -72,12 +90,7 @@ fn put_and_sync<R: Wait, N: HeapName, I: Index>(
         return;
     }
     let number = pass.ticket.number();
-    let put = store.put(
-        rt,
-        pass,
-        Text::of_number(number),
-        Text::of_number(10 * number),
-    );
+    let put = store.put(rt, pass, Text::of_number(number), Text::of_number(10));
     if put.is_ok() {
         let _clock = store.sync(rt, pass);
     }
