@@ -10,11 +10,13 @@ pub returns : goal.returns
 returns c =
     let t = c.args.stopped.now in
     let image = c.as_slice.result.now in
-    IfOk-weaker c.recover.result (λ contents. IsRecovered t.words.layout image (states_of contents)) (λ contents. Outlives (states_of contents))
+    let permitted = subst (IsPermitted t.words.cur t.words.dur) (sym c.as_slice.ensures) c.in_ok-image.ensures.permitted in
+    IfOk-weaker c.recover.result (λ contents. IsRecovered t.words.layout image (states_of contents))
+    (λ contents. Outlives (states_of contents))
     (λ contents recovered. record {
       store = t;
       callers = c.requires.callers;
       cut = cut_of image;
       outlives = stopped_stores_outlive_crashes t.words.layout t.base_clock t.base c.requires.callers t image (states_of contents)
-          c.requires.stopped (subst (IsPermitted t.words.cur t.words.dur) (sym c.as_slice.ensures) c.in_ok-image.ensures.permitted) recovered;
+          c.requires.stopped permitted recovered;
     }) c.recover.ensures

@@ -7,6 +7,6 @@ put_beside-passes-requires-after_bounds g c κs within =
 
 pub stop-requires : goal.stop-requires
 stop-requires g c = record {
-  passes = still_all g.N.HeapName.heap (λ p. p.ticket) c.in_ok-store.passes.items c.put_beside-passes.result.items c.put_beside-passes.ensures
-      c.in_ok-store.ensures.callers;
+  passes = still_all g.N.HeapName.heap (λ p. p.ticket) c.in_ok-store.passes.items c.put_beside-passes.result.items
+      c.put_beside-passes.ensures c.in_ok-store.ensures.callers;
 }
