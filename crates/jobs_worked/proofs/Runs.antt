@@ -40,7 +40,8 @@ module _ (layout : Shape) (many : ℕ) (heap : HeapShown) (units : List UnitShow
   same_layout : heap.opening.layout ≡ layout
   same_layout = ap (λ (o : Opening). o.layout) opens.opening
 
-  pub was_stopped : (tickets : List CallerShown) (t : Stopped) → IsStopped heap.opening.layout t.base_clock t.base tickets t → WasStopped layout t
+  pub was_stopped : (tickets : List CallerShown) (t : Stopped)
+      → IsStopped heap.opening.layout t.base_clock t.base tickets t → WasStopped layout t
   was_stopped tickets t stopped = record {
     callers = tickets;
     stopped = subst (λ (s : Shape). IsStopped s t.base_clock t.base tickets t) same_layout stopped;
