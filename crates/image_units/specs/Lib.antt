@@ -1,0 +1,5 @@
+pub mod FaultWords
+pub mod FirstRefusal
+pub mod Found
+pub mod Refusals
+pub mod Versions
