@@ -1,0 +1,80 @@
+-- How an image of the first version becomes one of now, and why it doesn't.
+use Rattle.std.specs.Prelude.{◌≡◌, ◌≢◌, ◌↔◌, ℕ, ◌<◌, List, map, replicate, Option, Some, None}
+use Rattle.mont_base.specs.declared.constants.TheConstants.{FIELDS}
+use Rattle.mont_base.specs.declared.kinds.UnitKind.{UnitKind}
+use Rattle.mont_base.specs.declared.record.Held.{Held}
+use Rattle.mont_base.specs.declared.record.ObjectFault.{ObjectFault}
+use Rattle.mont_base.specs.Image.{IsRecovered, IsWellFormed, clock_of, records_of, words_at}
+use Rattle.mont_base.specs.Layout.{Shape, kind_of, total_of, unit_of_slot, units_of}
+use Rattle.mont_base.specs.Record.{slot_words}
+use Rattle.mont_base.specs.State.{State}
+use Rattle.mont_base.specs.Versions.{live_objects}
+use Rattle.scan.specs.Scanned.{IsLowestFault, IsReadable}
+use Rattle.image_units.specs.declared.refusal.RecoverRefusal.{RecoverRefusal}
+use Rattle.image_units.specs.declared.refusal.RecoverRefusal.TheVariants.{Slot, Twice, Object, Memory}
+use Rattle.image_units.specs.FirstRefusal.{IsTwice}
+use Rattle.image_units.specs.Found.{all_records}
+use Rattle.image_units.specs.Versions.{HasNoRepeat}
+use Rattle.old_image.specs.OldSlots.{live_at, objects_in, widened}
+use Rattle.old_image.specs.OldStructure.{IsFirstOldFault, IsOldRecovered, MakesOldStructure, renewed, renewed_body}
+
+-- ---- what an image holds that was widened
+-- Each slot within the cut is read without fault, no version of a unit stands twice, and the objects
+-- of each unit make a structure.
+pub record IsSound (s : Shape) (wide : List ℕ) : Type 0 where
+  pub readable : IsReadable s wide
+  pub apart : HasNoRepeat (all_records s wide)
+  pub defined : (unit : ℕ) → unit < units_of s → MakesOldStructure s unit (objects_in s wide unit)
+
+-- each slot is read and no version stands twice, but the objects of a unit make no structure: the
+-- lowest such unit
+pub record IsBadOldObject (s : Shape) (wide : List ℕ) (unit slot : ℕ) (fault : ObjectFault)
+    : Type 0 where
+  pub readable : IsReadable s wide
+  pub apart : HasNoRepeat (all_records s wide)
+  pub inside : unit < units_of s
+  pub lower : (k : ℕ) → k < unit → MakesOldStructure s k (objects_in s wide k)
+  pub first : IsFirstOldFault s unit (objects_in s wide unit) slot fault
+
+-- Faults of slots come before versions that stand twice, and these before faults of objects, as with
+-- any image. Memory may run out at any time.
+abbrev pub IsFirstIn : Shape → List ℕ → RecoverRefusal → Type 0
+IsFirstIn s wide (Slot slot fault) = IsLowestFault s wide slot fault
+IsFirstIn s wide (Twice slot other) = IsTwice s wide slot other
+IsFirstIn s wide (Object unit slot fault) = IsBadOldObject s wide unit slot fault
+IsFirstIn s wide Memory = Unit {0}
+
+-- ---- an image of the first version
+abbrev pub IsOldWellFormed : Shape → List ℕ → Type 0
+IsOldWellFormed s image = IsSound s (widened s image)
+
+abbrev pub IsOldFirstRefusal : Shape → List ℕ → RecoverRefusal → Type 0
+IsOldFirstRefusal s image refusal = IsFirstIn s (widened s image) refusal
+
+abbrev pub RefusedOldImagesAreMalformed : Type 0
+RefusedOldImagesAreMalformed = (s : Shape) (image : List ℕ) (refusal : RecoverRefusal)
+    → refusal ≢ Memory → IsOldFirstRefusal s image refusal → IsOldWellFormed s image → ⊥
+
+-- ---- migration
+-- The words of a slot: those of its live record, with the body as it is now; else zeros.
+abbrev pub words_now : Option UnitKind → Option Held → List ℕ
+words_now (Some kind) (Some r) = slot_words r.label (renewed_body kind r.body)
+words_now None (Some r) = replicate FIELDS 0
+words_now kind None = replicate FIELDS 0
+
+abbrev pub migrated_slot : Shape → List ℕ → ℕ → List ℕ
+migrated_slot s wide slot = words_now (kind_of s (unit_of_slot s slot)) (live_at s wide slot)
+
+abbrev pub AreMigrated : Shape → List ℕ → List ℕ → Type 0
+AreMigrated s image now =
+    (slot : ℕ) → slot < total_of s → words_at now slot ≡ migrated_slot s (widened s image) slot
+
+-- Recovery accepts the new image. It has the live objects of the old one with their bodies as they
+-- are now, and the structures that recovery rebuilds of it are those of the old one.
+pub record KeepsStructures (s : Shape) (image now : List ℕ) : Type 0 where
+  pub accepted : IsWellFormed s now
+  pub objects :
+      (unit : ℕ) (kind : UnitKind) → kind_of s unit ≡ Some kind
+      → live_objects (records_of s now unit)
+      ≡ map (renewed kind) (objects_in s (widened s image) unit)
+  pub states : (states : List State) → IsRecovered s now states ↔ IsOldRecovered s image states
