@@ -1,13 +1,20 @@
 // How an image of the first version becomes one of now.
-ghost use Rattle.std.specs.Prelude.{◌≡◌, true, false, IfErr, IfOk, OnOk};
-ghost use Rattle.mont_base.specs.Image.{clock_of};
-ghost use Rattle.old_image.specs.Migration.{AreMigrated, IsOldFirstRefusal, IsOldWellFormed, KeepsStructures, RefusedOldImagesAreMalformed};
+ghost use Rattle.std.specs.Prelude.{◌≡◌, ℕ, ◌+◌, ◌<◌, ◌≤◌, ◌∷◌, ◌++◌, length, take, true, false, IfErr, IfOk, OnOk};
+ghost use Rattle.std.specs.List.{filter_map, flat_map, range_with_len};
+ghost use Rattle.mont_base.specs.declared.constants.TheConstants.{LABEL, LAST};
+ghost use Rattle.mont_base.specs.Image.{clock_of, slots_of, words_at};
+ghost use Rattle.mont_base.specs.Layout.{total_of, units_of, words_of};
+ghost use Rattle.mont_image.specs.StoredImage.{IsOldKinds};
+ghost use Rattle.scan.specs.Scanned.{all_slots};
+ghost use Rattle.old_image.specs.OldSlots.{objects_in};
+ghost use Rattle.old_image.specs.Migration.{AreMigrated, IsOldFirstRefusal, IsOldWellFormed, IsUnitRefusal, KeepsStructures, PushesSlot, RefusedOldImagesAreMalformed, migrated_slot, object_at};
+ghost use Rattle.old_image.specs.Renewal.{KeepsUnit};
 
 use crate::old_records::read_records;
 use crate::renewal::renewed_objects;
 use crate::widening::{widen, words_at};
 use image_units::{RecoverRefusal, check_versions};
-use mont_base::{FIELDS, LABEL, Layout, Object, Sequence, Slot, Unit};
+use mont_base::{BODY, FIELDS, LABEL, Layout, Object, Sequence, Slot, Unit};
 use mont_image::Image;
 use std::alloc::{AllocError, Global};
 
@@ -42,7 +49,16 @@ pub fn refused_old_images_are_malformed()
 {}
 
 // The clock, and the words of all slots as they are now.
-fn migrated_words(alloc: Global, layout: Layout, wide: &[u64]) -> Result<Vec<u64>, RecoverRefusal> {
+fn migrated_words(alloc: Global, layout: Layout, wide: &[u64]) -> Result<Vec<u64>, RecoverRefusal>
+    requires kinds { IsOldKinds layout.kinds }
+    requires size { length wide.now ≡ words_of layout }
+    requires clock { clock_of wide.now ≤ LAST }
+    ensures words { IfOk result (λ v. v.items ≡ clock_of wide.now
+        ∷ flat_map (migrated_slot layout wide.now) (all_slots layout)) }
+    ensures kept { OnOk result ((unit : ℕ) → unit < units_of layout
+        → KeepsUnit layout unit (objects_in layout wide.now unit)) }
+    ensures refused { IfErr result (IsUnitRefusal layout wide.now) }
+{
     let mut words = Vec::new(alloc);
     words.push(wide[0])?;
     for unit in 0..layout.units() {
@@ -59,7 +75,15 @@ fn push_unit(
     wide: &[u64],
     unit: Unit,
     objects: &[Object],
-) -> Result<(), AllocError> {
+) -> Result<(), AllocError>
+    requires size { length wide.now ≡ words_of layout.now }
+    requires clock { clock_of wide.now ≤ LAST }
+    requires unit { unit < units_of layout.now }
+    requires objects { objects.now
+        ≡ filter_map (object_at layout.now wide.now) (slots_of layout.now unit) }
+    ensures { OnOk result (words.new.items ≡ words.old.items
+        ++ flat_map (migrated_slot layout.now wide.now) (slots_of layout.now unit)) }
+{
     let first = unit * layout.slots();
     let mut rest = objects;
     for place in 0..layout.slots() {
@@ -75,11 +99,18 @@ fn push_slot<'a>(
     wide: &[u64],
     slot: Slot,
     objects: &'a [Object],
-) -> Result<&'a [Object], AllocError> {
+) -> Result<&'a [Object], AllocError>
+    requires size { length wide.now ≡ words_of layout.now }
+    requires clock { clock_of wide.now ≤ LAST }
+    requires slot { slot < total_of layout.now }
+    ensures { IfOk result (λ behind. (left : ℕ) → objects.now
+        ≡ filter_map (object_at layout.now wide.now) (range_with_len slot (1 + left))
+        → PushesSlot layout.now wide.now slot left words.old.items words.new.items behind.now) }
+{
     match objects.split_first() {
-        Some((object, rest)) if object.slot == slot => {
-            words.extend_from_slice(&words_now(layout, wide, object))?;
-            Ok(rest)
+        Some((object, behind)) if object.slot == slot => {
+            words.extend_from_slice(&words_now(layout, wide, slot, &object.body))?;
+            Ok(behind)
         }
         _ => {
             words.extend_from_slice(&[0; FIELDS])?;
@@ -88,9 +119,13 @@ fn push_slot<'a>(
     }
 }
 
-// The words of an object's slot: its label as it was, and its body.
-fn words_now(layout: &Layout, wide: &[u64], object: &Object) -> [u64; FIELDS] {
-    let mut words = words_at(layout, wide, object.slot);
-    words[LABEL..].copy_from_slice(&object.body);
+// The words of a slot with its label as it was, and this body.
+fn words_now(layout: &Layout, wide: &[u64], slot: Slot, body: &[u64; BODY]) -> [u64; FIELDS]
+    requires size { length wide.now ≡ words_of layout.now }
+    requires slot { slot < total_of layout.now }
+    ensures { result ≡ take LABEL (words_at wide.now slot) ++ body.now }
+{
+    let mut words = words_at(layout, wide, slot);
+    words[LABEL..].copy_from_slice(body);
     words
 }

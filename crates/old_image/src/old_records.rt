@@ -1,6 +1,7 @@
 // The records of an old image whose slots were widened.
-ghost use Rattle.std.specs.Prelude.{◌≡◌, ◌<◌, ◌≤◌, length, IfErr, IfOk, MatchResult, OnOk};
-ghost use Rattle.mont_base.specs.declared.constants.TheConstants.{LAST};
+ghost use Rattle.std.specs.Prelude.{◌≡◌, ◌+◌, ◌*◌, ◌<◌, ◌≤◌, ◌++◌, [], length, IfErr, IfOk, MatchResult, OnOk};
+ghost use Rattle.std.specs.List.{cons_option};
+ghost use Rattle.mont_base.specs.declared.constants.TheConstants.{FIELDS, LAST};
 ghost use Rattle.mont_base.specs.Image.{clock_of, is_in_cut, record_at};
 ghost use Rattle.mont_base.specs.Layout.{total_of, words_of};
 ghost use Rattle.scan.specs.Scanned.{HasFault, IsReadAt, IsReadable};
@@ -11,7 +12,7 @@ use crate::widening::words_at;
 use image_units::RecoverRefusal;
 use mont_base::{FIELDS, Held, Layout, Slot, SlotFault};
 use payload::read_words;
-use std::alloc::Global;
+use std::alloc::{AllocError, Global};
 
 // The records within the cut, by rising slot, or the lowest slot that holds none.
 pub(crate) fn read_records(
@@ -28,12 +29,21 @@ pub(crate) fn read_records(
     let mut records = Vec::new(alloc);
     for slot in 0..layout.total() {
         match read_slot(layout, wide, slot) {
-            Ok(Some(held)) => records.push(held)?,
-            Ok(None) => {}
+            Ok(found) => add(&mut records, found)?,
             Err(fault) => return Err(RecoverRefusal::Slot { slot, fault }),
         }
     }
     Ok(records)
+}
+
+// Adds a record, if there is one.
+fn add(records: &mut Vec<Held>, found: Option<Held>) -> Result<(), AllocError>
+    ensures { OnOk result (records.new.items ≡ records.old.items ++ cons_option found []) }
+{
+    if let Some(held) = found {
+        records.push(held)?;
+    }
+    Ok(())
 }
 
 // The record of a slot, if it is within the cut.

@@ -4,11 +4,12 @@ ghost use Rattle.mont_base.specs.declared.constants.TheConstants.{LAST};
 ghost use Rattle.mont_base.specs.declared.kinds.UnitKind.TheVariants as kinds;
 ghost use Rattle.mont_base.specs.Image.{clock_of};
 ghost use Rattle.mont_base.specs.Layout.{kind_of, units_of, words_of};
-ghost use Rattle.mont_base.specs.Structure.{object_fault};
+ghost use Rattle.mont_base.specs.Texts.{are_zero};
 ghost use Rattle.mont_image.specs.StoredImage.{IsOldKinds};
+ghost use Rattle.plain.specs.Built.{MakesStructure};
 ghost use Rattle.old_image.specs.OldSlots.{objects_in};
-ghost use Rattle.old_image.specs.OldStructure.{MakesOldStructure, numbers_in, renewed};
-ghost use Rattle.old_image.specs.Renewal.{AreFrontPairs, AreRenewed, IsObjectRefusal, IsOldObjectRefusal};
+ghost use Rattle.old_image.specs.OldStructure.{numbers_in, renewed};
+ghost use Rattle.old_image.specs.Renewal.{AreFrontPairs, AreRenewed, IsObjectRefusal, IsOldObjectRefusal, KeepsUnit};
 
 use image_units::RecoverRefusal;
 use mont_base::{BODY, Layout, Object, ObjectFault, Slot, Text, Unit, UnitKind};
@@ -28,7 +29,7 @@ pub(crate) fn renewed_objects(
     requires clock { clock_of wide.now ≤ LAST }
     requires unit { unit < units_of layout }
     ensures renewed { IfOk result (λ v. AreRenewed layout unit (objects_in layout wide.now unit) v.items) }
-    ensures defined { OnOk result (MakesOldStructure layout unit (objects_in layout wide.now unit)) }
+    ensures kept { OnOk result (KeepsUnit layout unit (objects_in layout wide.now unit)) }
     ensures refused { IfErr result
         (IsOldObjectRefusal layout unit (objects_in layout wide.now unit)) }
 {
@@ -50,7 +51,14 @@ fn renewed_pairs(
     layout: Layout,
     unit: Unit,
     objects: &[Object],
-) -> Result<Vec<Object>, RecoverRefusal> {
+) -> Result<Vec<Object>, RecoverRefusal>
+    requires old { IsOldKinds layout.kinds }
+    requires unit { unit < units_of layout }
+    requires map { kind_of layout unit ≡ Some kinds.Map }
+    ensures renewed { IfOk result (λ v. v.items ≡ map (renewed kinds.Map) objects.now) }
+    ensures kept { OnOk result (KeepsUnit layout unit objects.now) }
+    ensures refused { IfErr result (IsOldObjectRefusal layout unit objects.now) }
+{
     let front = front_pairs(alloc, objects)?;
     check_objects(alloc, layout, unit, &front.pairs)?;
     match front.spare {
@@ -72,7 +80,9 @@ struct Front {
     spare: Option<Slot>,
 }
 
-fn front_pairs(alloc: Global, objects: &[Object]) -> Result<Front, AllocError> {
+fn front_pairs(alloc: Global, objects: &[Object]) -> Result<Front, AllocError>
+    ensures { IfOk result (λ f. AreFrontPairs objects.now f.pairs.items f.spare) }
+{
     let mut pairs = Vec::new(alloc);
     for object in objects {
         match numbers_in(&object.body) {
@@ -91,10 +101,13 @@ fn numbers_in(body: &[u64; BODY]) -> Option<(u64, u64)>
     ensures { result ≡ numbers_in body.now }
 {
     let [key, value, ..] = *body;
-    body[2..]
-        .iter()
-        .all(|word| *word == 0)
-        .then_some((key, value))
+    are_zero(&body[2..]).then_some((key, value))
+}
+
+fn are_zero(words: &[u64]) -> bool
+    ensures { result ≡ are_zero words.now }
+{
+    words.iter().all(|word| *word == 0)
 }
 
 // The object with the digits of its key and its value.
@@ -117,6 +130,7 @@ fn check_objects(
     objects: &[Object],
 ) -> Result<(), RecoverRefusal>
     requires { unit < units_of layout }
+    ensures sound { OnOk result (MakesStructure layout unit objects.now) }
     ensures refused { IfErr result (IsObjectRefusal layout unit objects.now) }
 {
     match build(alloc, layout, unit, objects) {

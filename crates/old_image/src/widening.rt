@@ -1,5 +1,5 @@
 // Slots of eight words, widened to the words that slots have now.
-ghost use Rattle.std.specs.Prelude.{◌≡◌, ◌<◌, ◌*◌, ◌+◌, true, length, IfOk};
+ghost use Rattle.std.specs.Prelude.{◌≡◌, ◌<◌, ◌≤◌, ◌*◌, ◌+◌, true, length, IfOk};
 ghost use Rattle.mont_base.specs.Image.{words_at};
 ghost use Rattle.mont_base.specs.Layout.{total_of, words_of};
 ghost use Rattle.mont_image.specs.declared.image_text.TheConstants.{OLD_FIELDS};
