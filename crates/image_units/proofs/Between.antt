@@ -12,16 +12,16 @@ use Rattle.image_units.specs.UnitSlots.{IsPlaceOf, is_between}
 
 module _ {A : Type 0} (p : A → Bool) where
   -- nothing is kept of what fails, and all of what passes
-  none_kept : (xs : List A) → ((k : ℕ) (d : A) → k < length xs → p (get_or xs k d) ≡ false) → filter p xs ≡ []
+  pub none_kept : (xs : List A) → ((k : ℕ) (d : A) → k < length xs → p (get_or xs k d) ≡ false) → filter p xs ≡ []
   none_kept [] h = refl
   none_kept (x ∷ xs) h = rw (h 0 x (omega arith)) (none_kept xs (λ k d lt. h (suc k) d (omega arith)))
 
-  all_kept : (xs : List A) → ((k : ℕ) (d : A) → k < length xs → p (get_or xs k d) ≡ true) → filter p xs ≡ xs
+  pub all_kept : (xs : List A) → ((k : ℕ) (d : A) → k < length xs → p (get_or xs k d) ≡ true) → filter p xs ≡ xs
   all_kept [] h = refl
   all_kept (x ∷ xs) h =
       rw (h 0 x (omega arith)) (ap (λ (ys : List A). x ∷ ys) (all_kept xs (λ k d lt. h (suc k) d (omega arith))))
 
-inside : (first end n : ℕ) → ltb n first ≡ false → ltb n end ≡ true → is_between first end n ≡ true
+pub inside : (first end n : ℕ) → ltb n first ≡ false → ltb n end ≡ true → is_between first end n ≡ true
 inside first end n low high = grind (arith, nat_tests)
 
 under : (first end n : ℕ) → ltb n first ≡ true → is_between first end n ≡ false
