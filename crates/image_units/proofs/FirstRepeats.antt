@@ -15,7 +15,6 @@ use Rattle.std.proofs.lemmas.List.Elements.{Contains-push_cases, Contains-get_or
 use Rattle.std.proofs.lemmas.List.Folds.{find-append}
 use Rattle.std.proofs.lemmas.Map.Lookups.{CmpEqualImpliesEq, exact_unsigned}
 use Rattle.std.proofs.lemmas.Map.Views.{tells_apart}
-use Rattle.std.proofs.lemmas.Option.{same_Some}
 use Rattle.mont_base.specs.declared.record.Held.{Held}
 use Rattle.mont_laws.specs.UnitRecords.{HasLowerSlot}
 use Rattle.mont_laws.proofs.Members.{no_element, first_element, later_element, element_cases, pair_cases}

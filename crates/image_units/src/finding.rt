@@ -39,7 +39,8 @@ pub fn find_units(
 
 // What was found of each unit, with the structures that their objects make.
 fn build_units(alloc: Global, image: &Image, all: &Scan) -> Result<FoundImage, RecoverRefusal>
-    requires { IsScanned image.now.layout image.now.words all.now }
+    requires new { image.now.old ≡ false }
+    requires scanned { IsScanned image.now.layout image.now.words all.now }
     ensures found { IfOk result (IsFoundImage image.now.layout image.now.words) }
     ensures accepted { OnOk result (IsWellFormed image.now.layout image.now.words) }
     ensures refused { IfErr result (IsFirstRefusal image.now.layout image.now.words) }

@@ -1,4 +1,4 @@
-use Rattle.std.proofs.Common.{arith, rules}
+use Rattle.std.proofs.Common.{arith}
 use Rattle.image_units.specs.UnitSlots.{slot_of}
 use Rattle.image_units.proofs.Between.{places_rise, part_kept}
 use Rattle.image_units.proofs.unit_slots.records_between.Goals as goal

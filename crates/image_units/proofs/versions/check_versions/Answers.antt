@@ -1,4 +1,4 @@
-use Rattle.std.proofs.Common.{◌≡◌, ℕ, [], take, get_or, ap, sym, ◌∙◌, subst}
+use Rattle.std.proofs.Common.{[], take, get_or, ap, sym, ◌∙◌, subst}
 use Rattle.std.specs.BTreeMap as tree
 use Rattle.std.proofs.lemmas.List.{take_all}
 use Rattle.mont_base.specs.declared.record.Held.{Held}
