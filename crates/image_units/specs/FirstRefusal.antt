@@ -1,5 +1,5 @@
 -- The first reason why recovery refuses an image.
-use Rattle.std.specs.Prelude.{◌≡◌, ◌≢◌, ℕ, ◌<◌, List}
+use Rattle.std.specs.Prelude.{◌≢◌, ℕ, ◌<◌, List}
 use Rattle.mont_base.specs.declared.record.ObjectFault.{ObjectFault}
 use Rattle.mont_base.specs.Image.{IsWellFormed, records_of}
 use Rattle.mont_base.specs.Layout.{Shape, units_of}

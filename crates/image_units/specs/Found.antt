@@ -5,9 +5,11 @@ use Rattle.mont_base.specs.Image.{IsRecovered, records_of, slots_of}
 use Rattle.mont_base.specs.Layout.{Shape, units_of}
 use Rattle.mont_base.specs.Versions.{live_objects}
 use Rattle.plain.specs.States.{states_of}
-use Rattle.scan.specs.Scanned.{all_slots, is_lost, records_among}
+use Rattle.scan.specs.declared.scanned.Scan.{Scan}
+use Rattle.scan.specs.Scanned.{IsReadable, all_slots, is_lost, lost_among, records_among}
 use Rattle.image_units.specs.declared.found.FoundImage.{FoundImage}
 use Rattle.image_units.specs.declared.found.FoundUnit.{FoundUnit}
+use Rattle.image_units.specs.Versions.{HasNoRepeat}
 
 -- the records of all units within the cut, by rising slot
 abbrev pub all_records : Shape → List ℕ → List Held
@@ -30,3 +32,10 @@ pub record IsFoundImage (s : Shape) (image : List ℕ) (found : FoundImage) : Ty
   pub many : length found.units ≡ units_of s
   pub each : AreFoundUnits s image found.units
   pub contents : IsRecovered s image (states_of found.contents)
+
+-- all slots were scanned, each within the cut is read, and no version stands twice
+pub record IsScanned (s : Shape) (image : List ℕ) (all : Scan) : Type 0 where
+  pub records : all.records ≡ all_records s image
+  pub lost : all.lost ≡ lost_among image (all_slots s)
+  pub readable : IsReadable s image
+  pub apart : HasNoRepeat (all_records s image)

@@ -5,6 +5,10 @@ use Rattle.mont_base.specs.declared.record.Held.{Held}
 use Rattle.image_units.specs.declared.refusal.RecoverRefusal.{RecoverRefusal}
 use Rattle.image_units.specs.declared.refusal.RecoverRefusal.TheVariants.{Slot, Twice, Object, Memory}
 
+-- what tells versions apart
+abbrev pub version_of : Held → ℕ × ℕ × ℕ
+version_of r = (r.label.unit, r.label.identity, r.label.version)
+
 -- one version of one identity of one unit
 pub record IsSameVersion (r q : Held) : Type 0 where
   pub unit : r.label.unit ≡ q.label.unit

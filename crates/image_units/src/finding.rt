@@ -1,14 +1,15 @@
 // How an image is looked through, unit by unit.
 ghost use Rattle.std.specs.Prelude.{◌≡◌, ◌<◌, ◌≤◌, false, IfErr, IfOk, OnOk};
 ghost use Rattle.mont_base.specs.Image.{IsWellFormed};
+ghost use Rattle.mont_base.specs.Layout.{units_of};
 ghost use Rattle.image_units.specs.FirstRefusal.{IsFirstRefusal};
-ghost use Rattle.image_units.specs.Found.{IsFoundImage};
+ghost use Rattle.image_units.specs.Found.{IsFoundImage, IsFoundUnit, IsScanned};
 
 use crate::found::{FoundImage, FoundUnit};
 use crate::refusal::RecoverRefusal;
 use crate::unit_slots::{records_between, slots_between};
 use crate::versions::check_versions;
-use mont_base::{Layout, Sequence, Unit};
+use mont_base::{Sequence, Unit};
 use mont_image::Image;
 use plain::{Contents, build, live_objects};
 use scan::{Scan, scan};
@@ -36,14 +37,19 @@ pub fn find_units(
     build_units(alloc, image, &all)
 }
 
-// What was found of each unit, with the structure that its objects make.
-fn build_units(alloc: Global, image: &Image, all: &Scan) -> Result<FoundImage, RecoverRefusal> {
-    let layout = image.layout;
+// What was found of each unit, with the structures that their objects make.
+fn build_units(alloc: Global, image: &Image, all: &Scan) -> Result<FoundImage, RecoverRefusal>
+    requires new { image.now.old ≡ false }
+    requires scanned { IsScanned image.now.layout image.now.words all.now }
+    ensures found { IfOk result (IsFoundImage image.now.layout image.now.words) }
+    ensures accepted { OnOk result (IsWellFormed image.now.layout image.now.words) }
+    ensures refused { IfErr result (IsFirstRefusal image.now.layout image.now.words) }
+{
     let mut units = Sequence::new(alloc);
     let mut states = Sequence::new(alloc);
-    for unit in 0..layout.units() {
-        let found = unit_of(alloc, &layout, all, unit)?;
-        match build(alloc, layout, unit, found.objects.as_slice()) {
+    for unit in 0..image.layout.units() {
+        let found = find_unit(alloc, image, all, unit)?;
+        match build(alloc, image.layout, unit, found.objects.as_slice()) {
             Ok(state) => states.push(state)?,
             Err(refusal) => return Err(RecoverRefusal::of_build(unit, refusal)),
         }
@@ -54,14 +60,14 @@ fn build_units(alloc: Global, image: &Image, all: &Scan) -> Result<FoundImage, R
 }
 
 // What was found of one unit.
-fn unit_of(
-    alloc: Global,
-    layout: &Layout,
-    all: &Scan,
-    unit: Unit,
-) -> Result<FoundUnit, AllocError> {
-    let first = unit * layout.slots();
-    let end = first + layout.slots();
+fn find_unit(alloc: Global, image: &Image, all: &Scan, unit: Unit) -> Result<FoundUnit, AllocError>
+    requires scanned { IsScanned image.now.layout image.now.words all.now }
+    requires unit { unit < units_of image.now.layout }
+    ensures { IfOk result (IsFoundUnit image.now.layout image.now.words unit) }
+{
+    let slots = image.layout.slots();
+    let first = unit * slots;
+    let end = first + slots;
     let records = records_between(all.records.as_slice(), first, end);
     let lost = slots_between(all.lost.as_slice(), first, end);
     Ok(FoundUnit {

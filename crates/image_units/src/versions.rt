@@ -1,7 +1,7 @@
 // Whether a version of an identity stands twice in a unit.
 ghost use Rattle.std.specs.Prelude.{◌≡◌, AllPairs, IfErr, OnOk};
 ghost use Rattle.mont_laws.specs.UnitRecords.{HasLowerSlot};
-ghost use Rattle.image_units.specs.Versions.{HasNoRepeat, IsRepeatRefusal};
+ghost use Rattle.image_units.specs.Versions.{HasNoRepeat, IsRepeatRefusal, version_of};
 
 use crate::refusal::RecoverRefusal;
 use mont_base::{Held, Slot, Unit};
@@ -28,6 +28,8 @@ pub fn check_versions(alloc: Global, records: &[Held]) -> Result<(), RecoverRefu
     Ok(())
 }
 
-fn version_of(held: &Held) -> Version {
+fn version_of(held: &Held) -> Version
+    ensures { result ≡ version_of held.now }
+{
     (held.label.unit, held.label.identity, held.label.version)
 }
