@@ -30,7 +30,7 @@ module _ (m : ℕ) where
   Is n ds = key_number m ds ≡ n % m
 
   single : (n : ℕ) → n < 10 → key_number m ((48 + n) ∷ []) ≡ n % m
-  single n low = ap (λ k. (0 * 10 + k) % m) (digit_is n low)
+  single n low = let none : 0 * 10 + n ≡ n = omega arith in ap (λ k. (0 * 10 + k) % m) (digit_is n low) ∙ ap (λ k. k % m) none
 
   longer : (n : ℕ) (ds : List ℕ) → 10 ≤ n → key_number m ds ≡ n / 10 % m → key_number m (ds ++ (48 + n % 10) ∷ []) ≡ n % m
   longer n ds high h =
@@ -61,10 +61,11 @@ module _ (s : Shape) (old : IsOldKinds s.kinds) where
   pub unit_of_digits : (n : ℕ) → n < 2 ^ 64 → unit_of_key s (decimal n) ≡ Some (n % maps_in s.kinds)
   unit_of_digits n small =
       let some = old.some in
+      let place : 0 + n % maps_in s.kinds ≡ n % maps_in s.kinds = omega arith in
       ap (λ (us : List ℕ). slice_get us (key_number (length (map_units s)) (decimal n))) units_are
       ∙ ap (λ (m : ℕ). slice_get (range_with_len 0 (maps_in s.kinds)) (key_number m (decimal n))) many_units
       ∙ ap (slice_get (range_with_len 0 (maps_in s.kinds))) (number_of_digits (maps_in s.kinds) n small)
-      ∙ at_place 0 (maps_in s.kinds) (n % maps_in s.kinds) (mod-lt n (maps_in s.kinds) (omega arith))
+      ∙ at_place 0 (maps_in s.kinds) (n % maps_in s.kinds) (mod-lt n (omega arith)) ∙ ap Some place
 
   pub in_unit_by_digits : (unit n : ℕ) → n < 2 ^ 64 → is_in_unit s unit (decimal n) ≡ (n % maps_in s.kinds == unit)
   in_unit_by_digits unit n small = rw (unit_of_digits n small) refl

@@ -5,3 +5,5 @@ pub mod Fronts
 pub mod LiveSlots
 pub mod MigratedRecords
 pub mod Units
+pub mod PushedSlots
+pub mod MigratedUnits

@@ -26,7 +26,7 @@ use Rattle.old_image.specs.OldStructure.{renewed, renewed_body}
 use Rattle.old_image.specs.Migration.{migrated_slot, object_at, object_if, words_now}
 
 -- ---- what is made of the records that a filter keeps, slot by slot
-made : {X : Type 0} → (Held → X) → (Held → Bool) → Option Held → Option X
+abbrev pub made : {X : Type 0} → (Held → X) → (Held → Bool) → Option Held → Option X
 made f p None = None
 made f p (Some r) = if p r then Some (f r) else None
 
@@ -70,6 +70,18 @@ read_is slot (Err x) r e = absurd (cc)
 read_is slot (Ok None) r e = absurd (cc)
 read_is slot (Ok (Some v)) r e =
     ap (λ (q : Held). Ok (Some (q.label, q.body))) (same_Some (record { slot = slot; label = v.0; body = v.1 }) r e)
+
+-- an object stands in its slot
+pub object_slot : (s : Shape) (wide : List ℕ) (slot : ℕ) (o : Object) → object_at s wide slot ≡ Some o → o.slot ≡ slot
+object_slot s wide slot o e = by (kind_of s (unit_of_slot s slot)) (live_at s wide slot) refl e
+  where
+    by : (k : Option UnitKind) (l : Option Held) → live_at s wide slot ≡ l → object_if k l ≡ Some o → o.slot ≡ slot
+    by None None f e = absurd (cc)
+    by None (Some r) f e = absurd (cc)
+    by (Some kind) None f e = absurd (cc)
+    by (Some kind) (Some r) f e =
+        sym (ap (λ (x : Object). x.slot) (same_Some (renewed kind (object_of r)) o e))
+        ∙ slot_of_record s wide slot r (live_parts (records_of s wide (unit_of_slot s slot)) (record_at s wide slot) r f).0
 
 module _ (s : Shape) (wide : List ℕ) (size : length wide ≡ words_of s) (clock : clock_of wide ≤ LAST) where
   pub spells : (slot : ℕ) (r : Held) → slot < total_of s → record_at s wide slot ≡ Some r

@@ -21,7 +21,7 @@ use Rattle.mont_laws.specs.SlotReadings.{IsRecordOf, held_words}
 use Rattle.mont_laws.proofs.Mapped.{filter_map_agree}
 use Rattle.mont_laws.proofs.Members.{element_cases, first_element, kept_element, later_element, no_element, pairs_head, pairs_tail}
 use Rattle.mont_laws.proofs.SlotImages.{in_cut, in_cut_from, none_outside, outside_cut, record_inside, some_inside}
-use Rattle.mont_laws.proofs.SlotReadings.{reading-slot_words}
+use Rattle.mont_laws.proofs.SlotReadings.{length-slot_words, reading-slot_words}
 use Rattle.mont_laws.proofs.SlotWords.{first_at}
 use Rattle.mont_laws.proofs.UnitRecords.{slot_of_record}
 use Rattle.mont_laws.proofs.UnitSlots.{slots_have_units, unit_of_member}
@@ -31,7 +31,7 @@ use Rattle.old_image.specs.Migration.{migrated_slot, words_now}
 use Rattle.old_image.proofs.LiveSlots.{live_made, live_record, made, made_listed, spells}
 
 -- a record with its body as it is now
-pub held_now : UnitKind → Held → Held
+abbrev pub held_now : UnitKind → Held → Held
 held_now kind r = record r { body = renewed_body kind r.body }
 
 body_now : (kind : UnitKind) (body : List ℕ) → IsBody body → IsBody (renewed_body kind body)
@@ -47,21 +47,23 @@ all_pass p (x ∷ xs) h = rw (h x (first_element x xs)) (ap (λ ys. x ∷ ys) (a
 
 from_map : {A B : Type 0} (f : A → B) (xs : List A) (b : B) → Contains (map f xs) b → (a : A) × Contains xs a × (f a ≡ b)
 from_map f [] b h = absurd (no_element b h)
-from_map {A} f (x ∷ xs) b h = by (element_cases (f x) (map f xs) b h)
+from_map {A} f (x ∷ xs) b h = by (λ k. from_map f xs b k) (element_cases (f x) (map f xs) b h)
   where
-    by : (b ≡ f x) ⊎ Contains (map f xs) b → (a : A) × Contains (x ∷ xs) a × (f a ≡ b)
-    by (inl is) = (x, first_element x xs, sym is)
-    by (inr k) = let rest = from_map f xs b k in (rest.0, later_element x xs rest.0 rest.1, rest.2)
+    by : (Contains (map f xs) b → (a : A) × Contains xs a × (f a ≡ b)) → (b ≡ f x) ⊎ Contains (map f xs) b
+        → (a : A) × Contains (x ∷ xs) a × (f a ≡ b)
+    by rest (inl is) = (x, first_element x xs, sym is)
+    by rest (inr k) = let r = rest k in (r.0, later_element x xs r.0 r.1, r.2)
 
 none_of_kept : {A B : Type 0} (p : A → Bool) (q : B → Bool) (f : A → B) (t : A → Bool) (xs : List A) → ((a : A) → q (f a) ≡ t a)
     → list_any t xs ≡ false → list_any q (map f (filter p xs)) ≡ false
 none_of_kept p q f t [] same none = refl
-none_of_kept p q f t (x ∷ xs) same none = by (p x) (t x) refl none
+none_of_kept p q f t (x ∷ xs) same none = by (p x) (t x) refl none (λ n. none_of_kept p q f t xs same n)
   where
-    by : (b c : Bool) → t x ≡ c → (c || list_any t xs) ≡ false → list_any q (map f (cond b (x ∷ filter p xs) (filter p xs))) ≡ false
-    by b true e n = absurd (cc)
-    by false false e n = none_of_kept p q f t xs same n
-    by true false e n = rw (same x ∙ e) (none_of_kept p q f t xs same n)
+    by : (b c : Bool) → t x ≡ c → (c || list_any t xs) ≡ false → (list_any t xs ≡ false → list_any q (map f (filter p xs)) ≡ false)
+        → list_any q (map f (cond b (x ∷ filter p xs) (filter p xs))) ≡ false
+    by b true e n rest = absurd (cc)
+    by false false e n rest = rest n
+    by true false e n rest = rw (same x ∙ e) (rest n)
 
 live_not : (d a : Bool) → (not d && not a) ≡ true → (d ≡ false) × (a ≡ false)
 live_not true a e = absurd (cc)
@@ -174,3 +176,16 @@ module _ (s : Shape) (wide : List ℕ) (size : length wide ≡ words_of s) (cloc
           let read = ap (reading (unit_of_slot s slot)) (words_are ∙ ap (words_now (Some kind)) e)
           ∙ reading-slot_words (unit_of_slot s slot) r.label (renewed_body kind r.body) is.valid.label is.valid.of_unit in
           subst IsRead (sym read) tt
+
+-- ---- a slot has as many words as slots have
+pub long_now : (s : Shape) (wide : List ℕ) → length wide ≡ words_of s → clock_of wide ≤ LAST → (slot : ℕ) → slot < total_of s
+    → length (migrated_slot s wide slot) ≡ FIELDS
+long_now s wide size clock slot inside = by (kind_of s (unit_of_slot s slot)) (live_at s wide slot) refl
+  where
+    by : (k : Option UnitKind) (l : Option Held) → live_at s wide slot ≡ l → length (words_now k l) ≡ FIELDS
+    by None None e = refl
+    by None (Some r) e = refl
+    by (Some kind) None e = refl
+    by (Some kind) (Some r) e =
+        let is = spells s wide size clock slot r inside (live_record s wide size clock slot r e).0 in
+        length-slot_words r.label (renewed_body kind r.body) (body_now kind r.body is.valid.body)

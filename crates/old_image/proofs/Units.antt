@@ -1,5 +1,5 @@
 -- The objects of a unit, by their bodies of the first version and by those of now.
-use Rattle.std.proofs.Common.{◌≡◌, ℕ, List, [], ◌∷◌, ◌++◌, map, refl, sym, ap, ◌∙◌, subst, append-nil}
+use Rattle.std.proofs.Common.{◌≡◌, ℕ, List, [], ◌∷◌, ◌++◌, map, refl, sym, ap, ◌∙◌, subst, append-nil, inl, inr, ◌⊎◌}
 use Rattle.std.specs.Prelude.{Option, Some, None, All}
 use Rattle.mont_base.specs.declared.kinds.UnitKind.{UnitKind}
 use Rattle.mont_base.specs.declared.kinds.UnitKind.TheVariants as kinds
@@ -88,45 +88,52 @@ graph_same : (os : List Object) → map (renewed kinds.Graph) os ≡ os
 graph_same [] = refl
 graph_same (o ∷ os) = ap (λ (rest : List Object). o ∷ rest) (graph_same os)
 
-module _ (s : Shape) (unit : ℕ) (os : List Object) where
-  pub kept_queue : kind_of s unit ≡ Some kinds.Queue → MakesStructure s unit os → KeepsUnit s unit os
-  kept_queue of_unit m = let sound = sound_is s unit os kinds.Queue of_unit m in record {
-    kind = kinds.Queue;
+-- their bodies stay
+abbrev pub IsPlain : UnitKind → Type 0
+IsPlain kinds.Map = ⊥
+IsPlain kinds.Queue = Unit {0}
+IsPlain kinds.Graph = Unit {0}
+
+pub plain_is : (kind : UnitKind) → (kind ≡ kinds.Queue) ⊎ (kind ≡ kinds.Graph) → IsPlain kind
+plain_is kind (inl is) = subst IsPlain (sym is) tt
+plain_is kind (inr is) = subst IsPlain (sym is) tt
+
+same_plain : (kind : UnitKind) → IsPlain kind → (os : List Object) → map (renewed kind) os ≡ os
+same_plain kinds.Map h os = absurd h
+same_plain kinds.Queue h os = queue_same os
+same_plain kinds.Graph h os = graph_same os
+
+fault_plain : (s : Shape) (unit : ℕ) (kind : UnitKind) → IsPlain kind → (os : List Object)
+    → old_object_fault s unit kind os ≡ object_fault s unit kind os
+fault_plain s unit kinds.Map h os = absurd h
+fault_plain s unit kinds.Queue h os = refl
+fault_plain s unit kinds.Graph h os = refl
+
+structure_plain : (kind : UnitKind) → IsPlain kind → (os : List Object) → structure_of kind os ≡ old_structure_of kind os
+structure_plain kinds.Map h os = absurd h
+structure_plain kinds.Queue h os = refl
+structure_plain kinds.Graph h os = refl
+
+module _ (s : Shape) (unit : ℕ) (os : List Object) (kind : UnitKind) (plain : IsPlain kind) (of_unit : kind_of s unit ≡ Some kind) where
+  pub kept_plain : MakesStructure s unit os → KeepsUnit s unit os
+  kept_plain m = let sound = sound_is s unit os kind of_unit m in record {
+    kind = kind;
     of_unit = of_unit;
-    sound_old = sound;
-    sound_now = ap (object_fault s unit kinds.Queue) (queue_same os) ∙ sound;
-    same = ap (structure_of kinds.Queue) (queue_same os);
+    sound_old = fault_plain s unit kind plain os ∙ sound;
+    sound_now = ap (object_fault s unit kind) (same_plain kind plain os) ∙ sound;
+    same = ap (structure_of kind) (same_plain kind plain os) ∙ structure_plain kind plain os;
   }
 
-  pub kept_graph : kind_of s unit ≡ Some kinds.Graph → MakesStructure s unit os → KeepsUnit s unit os
-  kept_graph of_unit m = let sound = sound_is s unit os kinds.Graph of_unit m in record {
-    kind = kinds.Graph;
+  pub renewed_plain : AreRenewed s unit os os
+  renewed_plain k of_kind = sym (same_plain kind plain os) ∙ ap (λ (j : UnitKind). map (renewed j) os)
+      (one_kind (kind_of s unit) kind k of_unit of_kind)
+
+  pub refused_plain : (refusal : RecoverRefusal) → IsObjectRefusal s unit os refusal → IsOldObjectRefusal s unit os refusal
+  refused_plain (refusals.Slot slot fault) h = h
+  refused_plain (refusals.Twice slot other) h = h
+  refused_plain (refusals.Object u slot fault) h = (h.0, record {
+    kind = kind;
     of_unit = of_unit;
-    sound_old = sound;
-    sound_now = ap (object_fault s unit kinds.Graph) (graph_same os) ∙ sound;
-    same = ap (structure_of kinds.Graph) (graph_same os);
-  }
-
-  pub renewed_queue : kind_of s unit ≡ Some kinds.Queue → AreRenewed s unit os os
-  renewed_queue of_unit kind of_kind =
-      sym (queue_same os) ∙ ap (λ (k : UnitKind). map (renewed k) os) (one_kind (kind_of s unit) kinds.Queue kind of_unit of_kind)
-
-  pub renewed_graph : kind_of s unit ≡ Some kinds.Graph → AreRenewed s unit os os
-  renewed_graph of_unit kind of_kind =
-      sym (graph_same os) ∙ ap (λ (k : UnitKind). map (renewed k) os) (one_kind (kind_of s unit) kinds.Graph kind of_unit of_kind)
-
-  pub refused_queue : kind_of s unit ≡ Some kinds.Queue → (refusal : RecoverRefusal) → IsObjectRefusal s unit os refusal
-      → IsOldObjectRefusal s unit os refusal
-  refused_queue of_unit (refusals.Slot slot fault) h = h
-  refused_queue of_unit (refusals.Twice slot other) h = h
-  refused_queue of_unit (refusals.Object u slot fault) h =
-      (h.0, record { kind = kinds.Queue; of_unit = of_unit; first = first_is s unit os kinds.Queue of_unit slot fault h.1 })
-  refused_queue of_unit refusals.Memory h = tt
-
-  pub refused_graph : kind_of s unit ≡ Some kinds.Graph → (refusal : RecoverRefusal) → IsObjectRefusal s unit os refusal
-      → IsOldObjectRefusal s unit os refusal
-  refused_graph of_unit (refusals.Slot slot fault) h = h
-  refused_graph of_unit (refusals.Twice slot other) h = h
-  refused_graph of_unit (refusals.Object u slot fault) h =
-      (h.0, record { kind = kinds.Graph; of_unit = of_unit; first = first_is s unit os kinds.Graph of_unit slot fault h.1 })
-  refused_graph of_unit refusals.Memory h = tt
+    first = fault_plain s unit kind plain os ∙ first_is s unit os kind of_unit slot fault h.1;
+  })
+  refused_plain refusals.Memory h = tt

@@ -3,7 +3,7 @@ ghost use Rattle.std.specs.Prelude.{◌≡◌, ℕ, ◌+◌, ◌<◌, ◌≤◌,
 ghost use Rattle.std.specs.List.{filter_map, flat_map, range_with_len};
 ghost use Rattle.mont_base.specs.declared.constants.TheConstants.{LABEL, LAST};
 ghost use Rattle.mont_base.specs.Image.{clock_of, slots_of, words_at};
-ghost use Rattle.mont_base.specs.Layout.{total_of, units_of, words_of};
+ghost use Rattle.mont_base.specs.Layout.{IsLayout, total_of, units_of, words_of};
 ghost use Rattle.mont_image.specs.StoredImage.{IsOldKinds};
 ghost use Rattle.scan.specs.Scanned.{all_slots};
 ghost use Rattle.old_image.specs.OldSlots.{objects_in};
@@ -57,6 +57,7 @@ fn migrated_words(alloc: Global, layout: Layout, wide: &[u64]) -> Result<Vec<u64
         ∷ flat_map (migrated_slot layout wide.now) (all_slots layout)) }
     ensures kept { OnOk result ((unit : ℕ) → unit < units_of layout
         → KeepsUnit layout unit (objects_in layout wide.now unit)) }
+    ensures layout { OnOk result (IsLayout layout) }
     ensures refused { IfErr result (IsUnitRefusal layout wide.now) }
 {
     let mut words = Vec::new(alloc);

@@ -1,5 +1,5 @@
 // The live objects of a unit, with their bodies as they are now.
-ghost use Rattle.std.specs.Prelude.{◌≡◌, ◌<◌, ◌≤◌, length, map, IfErr, IfOk, OnOk, Some};
+ghost use Rattle.std.specs.Prelude.{◌≡◌, ◌<◌, ◌≤◌, ◌^◌, length, map, IfErr, IfOk, IfSome, OnOk, Some};
 ghost use Rattle.mont_base.specs.declared.constants.TheConstants.{LAST};
 ghost use Rattle.mont_base.specs.declared.kinds.UnitKind.TheVariants as kinds;
 ghost use Rattle.mont_base.specs.Image.{clock_of};
@@ -98,7 +98,8 @@ fn front_pairs(alloc: Global, objects: &[Object]) -> Result<Front, AllocError>
 
 // Key and value of a body, if no other word is used.
 fn numbers_in(body: &[u64; BODY]) -> Option<(u64, u64)>
-    ensures { result ≡ numbers_in body.now }
+    ensures exact { result ≡ numbers_in body.now }
+    ensures small { IfSome result (λ p. (p.0 < 2 ^ 64) × (p.1 < 2 ^ 64)) }
 {
     let [key, value, ..] = *body;
     are_zero(&body[2..]).then_some((key, value))

@@ -19,7 +19,7 @@ returns-in-None c =
       all = sym (take-append-drop at os) ∙ ap (λ (rest : List Object). take at os ++ rest) (drop-cons os at _ c.loop-object-test.true);
       numbers = c.loop-object.invariant.numbers;
       pairs_are = c.loop-object.invariant.pairs_are;
-      ends = (refl, sym c.numbers_in.ensures ∙ c.in-None.is);
+      ends = (refl, sym c.numbers_in.ensures.exact ∙ c.in-None.is);
     }
 
 pub loop-object-preserved : goal.loop-object-preserved
@@ -31,9 +31,9 @@ loop-object-preserved c =
     let has : HasNumbers o = record {
       key = c.in-Some.numbers.0;
       value = c.in-Some.numbers.1;
-      are = sym c.numbers_in.ensures ∙ c.in-Some.is;
-      small_key = c.renewed_pair.auto.numbers.0;
-      small_value = c.renewed_pair.auto.numbers.1;
+      are = sym c.numbers_in.ensures.exact ∙ c.in-Some.is;
+      small_key = c.in-Some.ensures.small.0;
+      small_value = c.in-Some.ensures.small.1;
     } in
     record {
       numbers = subst (All HasNumbers) (sym one) (All-push HasNumbers (take at os) o c.loop-object.invariant.numbers has);
