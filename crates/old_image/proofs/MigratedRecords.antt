@@ -88,6 +88,18 @@ module _ (kind : UnitKind) (rs : List Held) where
       ap (map object_of) (all_pass (is_live (map (held_now kind) live)) (map (held_now kind) live) still_live)
       ∙ map-map object_of (held_now kind) live ∙ sym (map-map (renewed kind) object_of live)
 
+-- ---- versions stay
+module _ (kind : UnitKind) where
+  none_alike : (r : Held) (qs : List Held) → All (DiffersFrom r) qs → All (DiffersFrom (held_now kind r)) (map (held_now kind) qs)
+  none_alike r [] h = All-nil (DiffersFrom (held_now kind r))
+  none_alike r (q ∷ qs) h = All-cons (DiffersFrom (held_now kind r)) (held_now kind q) (map (held_now kind) qs)
+      (All-head (DiffersFrom r) q qs h) (none_alike r qs (All-tail (DiffersFrom r) q qs h))
+
+  pairs_now : (qs : List Held) → AllPairs DiffersFrom qs → AllPairs DiffersFrom (map (held_now kind) qs)
+  pairs_now [] h = λ i j d low within. absurd (omega arith)
+  pairs_now (q ∷ qs) h = AllPairs-cons DiffersFrom (held_now kind q) (map (held_now kind) qs)
+      (none_alike q qs (pairs_head DiffersFrom q qs h)) (pairs_now qs (pairs_tail DiffersFrom q qs h))
+
 -- ---- an image that was made of another's live records
 module _ (s : Shape) (wide : List ℕ) (size : length wide ≡ words_of s) (clock : clock_of wide ≤ LAST) (now : List ℕ)
     (same : clock_of now ≡ clock_of wide) (words : (slot : ℕ) → slot < total_of s → words_at now slot ≡ migrated_slot s wide slot) where
@@ -147,17 +159,7 @@ module _ (s : Shape) (wide : List ℕ) (size : length wide ≡ words_of s) (cloc
   apart_now unit kind some inside of_unit apart =
       let rs = records_of s wide unit in
       subst (AllPairs DiffersFrom) (sym (records_now unit kind some inside of_unit))
-      (pairs_now (filter (is_live rs) rs) (AllPairs-filter DiffersFrom (is_live rs) rs apart))
-    where
-      none_alike : (r : Held) (qs : List Held) → All (DiffersFrom r) qs → All (DiffersFrom (held_now kind r)) (map (held_now kind) qs)
-      none_alike r [] h = All-nil (DiffersFrom (held_now kind r))
-      none_alike r (q ∷ qs) h = All-cons (DiffersFrom (held_now kind r)) (held_now kind q) (map (held_now kind) qs)
-          (All-head (DiffersFrom r) q qs h) (none_alike r qs (All-tail (DiffersFrom r) q qs h))
-
-      pairs_now : (qs : List Held) → AllPairs DiffersFrom qs → AllPairs DiffersFrom (map (held_now kind) qs)
-      pairs_now [] h i j d low within = absurd (omega arith)
-      pairs_now (q ∷ qs) h = AllPairs-cons DiffersFrom (held_now kind q) (map (held_now kind) qs)
-          (none_alike q qs (pairs_head DiffersFrom q qs h)) (pairs_now qs (pairs_tail DiffersFrom q qs h))
+      (pairs_now kind (filter (is_live rs) rs) (AllPairs-filter DiffersFrom (is_live rs) rs apart))
 
   pub readable_now : (slot : ℕ) (kind : UnitKind) → slot < total_of s → kind_of s (unit_of_slot s slot) ≡ Some kind
       → is_in_cut now slot ≡ true → IsRead (reading (unit_of_slot s slot) (words_at now slot))

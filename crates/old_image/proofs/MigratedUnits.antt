@@ -1,5 +1,5 @@
 -- Units that are migrated one after the other.
-use Rattle.std.proofs.Common.{◌≡◌, ℕ, zero, suc, ◌+◌, ◌*◌, ◌<◌, ◌≤◌, false, List, [], ◌∷◌, ◌++◌, map, length, refl, sym, ap, ◌∙◌, subst, arith, append_assoc}
+use Rattle.std.proofs.Common.{◌≡◌, ℕ, zero, suc, ◌+◌, ◌*◌, ◌<◌, ◌≤◌, true, false, List, [], ◌∷◌, ◌++◌, map, length, refl, sym, ap, ◌∙◌, subst, arith, append_assoc}
 use Rattle.std.specs.Prelude.{◌≢◌, ◌↔◌, Some, None, Err, slice_get}
 use Rattle.std.specs.List.{flat_map, range_with_len}
 use Rattle.std.proofs.lemmas.Grind.{flat_map-append}
@@ -31,6 +31,7 @@ use Rattle.old_image.specs.Renewal.{IsOldObjectRefusal, KeepsUnit}
 use Rattle.old_image.proofs.FlatSlots.{length-flat, words_at-flat}
 use Rattle.old_image.proofs.MigratedRecords.{apart_now, long_now, objects_now, readable_now}
 use Rattle.old_image.proofs.Units.{one_kind}
+use Rattle.old_image.proofs.Widened.{clock_is, clock_last, size_wide}
 
 -- ---- the slots of one unit more
 pub unit_more : (f : ℕ → List ℕ) (front : List ℕ) (unit slots : ℕ)
@@ -121,16 +122,40 @@ within_of [] k x e = absurd (cc)
 within_of (y ∷ xs) zero x e = omega arith
 within_of (y ∷ xs) (suc k) x e = let low = within_of xs k x e in omega arith
 
-module _ (s : Shape) (image now : List ℕ) (layout : IsLayout s) (size : length (widened s image) ≡ words_of s)
-    (begun : FIRST_CLOCK ≤ clock_of (widened s image)) (last : clock_of (widened s image) ≤ LAST)
-    (all : now ≡ clock_of (widened s image) ∷ flat_map (migrated_slot s (widened s image)) (all_slots s))
-    (apart : HasNoRepeat (all_records s (widened s image)))
-    (kept : (unit : ℕ) → unit < units_of s → KeepsUnit s unit (objects_in s (widened s image) unit)) where
+-- what the program knows in the end
+pub record Migrates (s : Shape) (image now : List ℕ) : Type 0 where
+  pub layout : IsLayout s
+  pub old : IsImage s image true
+  pub readable : IsReadable s (widened s image)
+  pub apart : HasNoRepeat (all_records s (widened s image))
+  pub kept : (unit : ℕ) → unit < units_of s → KeepsUnit s unit (objects_in s (widened s image) unit)
+  pub all : now ≡ clock_of (widened s image) ∷ flat_map (migrated_slot s (widened s image)) (all_slots s)
+
+pub migrates : (s : Shape) (image now wide : List ℕ) → IsLayout s → IsImage s image true → wide ≡ widened s image
+    → IsReadable s (widened s image) → HasNoRepeat (all_records s (widened s image))
+    → ((unit : ℕ) → unit < units_of s → KeepsUnit s unit (objects_in s wide unit))
+    → now ≡ clock_of wide ∷ flat_map (migrated_slot s wide) (all_slots s) → Migrates s image now
+migrates s image now wide layout old is readable apart kept all = record {
+  layout = layout;
+  old = old;
+  readable = readable;
+  apart = apart;
+  kept = λ unit inside. subst (λ (ws : List ℕ). KeepsUnit s unit (objects_in s ws unit)) is (kept unit inside);
+  all = all ∙ ap (λ (ws : List ℕ). clock_of ws ∷ flat_map (migrated_slot s ws) (all_slots s)) is;
+}
+
+module _ (s : Shape) (image now : List ℕ) (m : Migrates s image now) where
   abbrev wide : List ℕ
   wide = widened s image
 
+  size : length wide ≡ words_of s
+  size = size_wide s image m.old
+
+  last : clock_of wide ≤ LAST
+  last = clock_last s image m.old
+
   some_slots : 1 ≤ s.slots
-  some_slots = let least = layout.some_slots in omega arith
+  some_slots = let least = m.layout.some_slots in omega arith
 
   kind_at : (unit : ℕ) → unit < units_of s → (kind : UnitKind) × (kind_of s unit ≡ Some kind)
   kind_at unit inside = inside_of s.kinds unit inside
@@ -141,26 +166,29 @@ module _ (s : Shape) (image now : List ℕ) (layout : IsLayout s) (size : length
   long_slot : (slot : ℕ) → slot < total_of s → length (migrated_slot s wide slot) ≡ FIELDS
   long_slot slot inside = long_now s wide size last slot inside
 
-  pub clock_is : clock_of now ≡ clock_of wide
-  clock_is = ap clock_of all
+  same_clock : clock_of now ≡ clock_of wide
+  same_clock = ap clock_of m.all
+
+  pub clock_now : clock_of now ≡ clock_of image
+  clock_now = same_clock ∙ clock_is s image m.old
 
   pub slots_are : AreMigrated s image now
-  slots_are slot inside = ap (λ (ws : List ℕ). words_at ws slot) all
+  slots_are slot inside = ap (λ (ws : List ℕ). words_at ws slot) m.all
       ∙ words_at-flat (migrated_slot s wide) (total_of s) long_slot (clock_of wide) slot inside
 
   size_is : length now ≡ words_of s
   size_is = let flat = length-flat (migrated_slot s wide) (total_of s) long_slot 0 (total_of s) (omega arith) in
-      ap length all ∙ omega arith
+      ap length m.all ∙ omega arith
 
   pub objects_are : (unit : ℕ) (kind : UnitKind) → kind_of s unit ≡ Some kind
       → live_objects (records_of s now unit) ≡ map (renewed kind) (objects_in s wide unit)
   objects_are unit kind of_unit =
-      objects_now s wide size last now clock_is slots_are unit kind some_slots (within_of s.kinds unit kind of_unit) of_unit
+      objects_now s wide size last now same_clock slots_are unit kind some_slots (within_of s.kinds unit kind of_unit) of_unit
 
   structure_is : (unit : ℕ) (state : State) → unit < units_of s
       → IsStructure s unit (live_objects (records_of s now unit)) state ↔ IsOldStructure s unit (objects_in s wide unit) state
   structure_is unit state inside =
-      let k = kept unit inside in
+      let k = m.kept unit inside in
       let objects = objects_are unit k.kind k.of_unit in (
         λ is. record {
           kind = k.kind;
@@ -184,21 +212,21 @@ module _ (s : Shape) (image now : List ℕ) (layout : IsLayout s) (size : length
 
   accepted : IsWellFormed s now
   accepted = record {
-    layout = layout;
+    layout = m.layout;
     size = size_is;
-    clock_begun = subst (λ (n : ℕ). FIRST_CLOCK ≤ n) (sym clock_is) begun;
-    clock_last = subst (λ (n : ℕ). n ≤ LAST) (sym clock_is) last;
+    clock_begun = subst (λ (n : ℕ). FIRST_CLOCK ≤ n) (sym clock_now) m.old.clock_begun;
+    clock_last = subst (λ (n : ℕ). n ≤ LAST) (sym clock_now) m.old.clock_last;
     readable = λ unit slot inside here kept_slot.
         let within = (slots_have_units s slot some_slots).1 (subst (λ (u : ℕ). u < units_of s) (sym here) inside) in
         let k = kind_at (unit_of_slot s slot) (unit_at slot within) in
         subst (λ (u : ℕ). IsRead (reading u (words_at now slot))) here
-        (readable_now s wide size last now clock_is slots_are slot k.0 within k.1 kept_slot);
+        (readable_now s wide size last now same_clock slots_are slot k.0 within k.1 kept_slot);
     apart = λ unit inside.
         let k = kind_at unit inside in
-        apart_now s wide size last now clock_is slots_are unit k.0 some_slots inside k.1
-        (units_apart s (record_at s wide) (slot_of_record s wide) (unit_of_record s wide) some_slots apart unit inside);
+        apart_now s wide size last now same_clock slots_are unit k.0 some_slots inside k.1
+        (units_apart s (record_at s wide) (slot_of_record s wide) (unit_of_record s wide) some_slots m.apart unit inside);
     defined = λ unit inside.
-        let k = kept unit inside in
+        let k = m.kept unit inside in
         (old_structure_of k.kind (objects_in s wide unit), (structure_is unit _ inside).1
         (record { kind = k.kind; of_unit = k.of_unit; sound = k.sound_old; made = refl }));
   }
@@ -206,8 +234,8 @@ module _ (s : Shape) (image now : List ℕ) (layout : IsLayout s) (size : length
   pub image_is : IsImage s now false
   image_is = record {
     size = size_is;
-    clock_begun = subst (λ (n : ℕ). FIRST_CLOCK ≤ n) (sym clock_is) begun;
-    clock_last = subst (λ (n : ℕ). n ≤ LAST) (sym clock_is) last;
+    clock_begun = subst (λ (n : ℕ). FIRST_CLOCK ≤ n) (sym clock_now) m.old.clock_begun;
+    clock_last = subst (λ (n : ℕ). n ≤ LAST) (sym clock_now) m.old.clock_last;
     kinds = λ t. absurd (cc);
   }
 
@@ -224,3 +252,6 @@ module _ (s : Shape) (image now : List ℕ) (layout : IsLayout s) (size : length
       inside_states : (states : List State) (unit : ℕ) (state : State) → length states ≡ units_of s → slice_get states unit ≡ Some state
           → unit < units_of s
       inside_states states unit state many at = let low = within_of states unit state at in omega arith
+
+  pub sound : IsSound s wide
+  sound = is_sound s wide m.readable m.apart m.kept

@@ -25,9 +25,9 @@ module _ (s : Shape) (image : List ℕ) (old : IsImage s image true) where
   pub slot_inside : (slot : ℕ) → slot < total_of s → 1 + OLD_FIELDS * slot + OLD_FIELDS ≤ length image
   slot_inside slot inside = let size = old.size in omega arith
 
-  pub size_is : length (widened s image) ≡ words_of s
+  pub size_wide : length (widened s image) ≡ words_of s
   unfolding widened
-  size_is =
+  size_wide =
       let slots = length-flat (wide_slot image) (total_of s) (λ slot inside. long_slot image slot (slot_inside slot inside)) 0 (total_of s)
       (omega arith) in
       omega arith
