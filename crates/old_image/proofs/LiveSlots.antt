@@ -1,5 +1,5 @@
 -- The live records of a unit, slot by slot.
-use Rattle.std.proofs.Common.{◌≡◌, ℕ, ◌+◌, ◌<◌, ◌≤◌, Bool, true, false, List, [], ◌∷◌, ◌++◌, map, take, drop, length, replicate, refl, sym, ap, ◌∙◌, subst, arith, cond, if◌then◌else◌}
+use Rattle.std.proofs.Common.{◌≡◌, ℕ, ◌<◌, ◌≤◌, Bool, true, false, List, [], ◌∷◌, ◌++◌, map, take, length, replicate, refl, sym, ap, ◌∙◌, subst, arith, cond, if◌then◌else◌}
 use Rattle.std.specs.Prelude.{Option, Some, None, option_map, Result, Ok, Err, filter}
 use Rattle.std.specs.List.{Contains, filter_map, cons_option}
 use Rattle.std.proofs.lemmas.Option.{same_Some}
@@ -10,19 +10,19 @@ use Rattle.mont_base.specs.declared.record.Held.{Held}
 use Rattle.mont_base.specs.declared.record.Label.{Label}
 use Rattle.mont_base.specs.declared.record.Object.{Object}
 use Rattle.mont_base.specs.declared.record.SlotFault.{SlotFault}
-use Rattle.mont_base.specs.Image.{clock_of, cut_of, epoch_at, is_in_cut, record_at, record_read, records_of, slots_of, words_at}
-use Rattle.mont_base.specs.Layout.{Shape, kind_of, total_of, unit_of_slot, word_of, words_of}
-use Rattle.mont_base.specs.Record.{reading, slot_words}
-use Rattle.mont_base.specs.Versions.{is_live, live_objects, object_of}
-use Rattle.mont_laws.specs.SlotReadings.{IsRecordOf, Spells, held_words}
+use Rattle.mont_base.specs.Image.{clock_of, record_at, record_read, records_of, slots_of, words_at}
+use Rattle.mont_base.specs.Layout.{Shape, kind_of, total_of, unit_of_slot, words_of}
+use Rattle.mont_base.specs.Record.{reading}
+use Rattle.mont_base.specs.Versions.{is_live, object_of}
+use Rattle.mont_laws.specs.SlotReadings.{Spells}
 use Rattle.mont_laws.proofs.Mapped.{filter_map_agree}
 use Rattle.mont_laws.proofs.SlotImages.{in_cut, some_inside}
 use Rattle.mont_laws.proofs.SlotReadings.{spelled}
 use Rattle.mont_laws.proofs.SlotWords.{first_at, length-words_at}
 use Rattle.mont_laws.proofs.UnitRecords.{slot_of_record}
 use Rattle.mont_laws.proofs.UnitSlots.{unit_of_member}
-use Rattle.old_image.specs.OldSlots.{live_at, live_if, objects_in}
-use Rattle.old_image.specs.OldStructure.{renewed, renewed_body}
+use Rattle.old_image.specs.OldSlots.{live_at, if_live, objects_in}
+use Rattle.old_image.specs.OldStructure.{renewed_object, renewed_body}
 use Rattle.old_image.specs.Migration.{migrated_slot, object_at, object_if, words_now}
 
 -- ---- what is made of the records that a filter keeps, slot by slot
@@ -46,7 +46,7 @@ module _ {X : Type 0} (f : Held → X) (p : Held → Bool) (h : ℕ → Option H
       by (Some r) rest = go (p r) r (filter_map h xs) (filter_map (λ x. made f p (h x)) xs) rest
 
 -- ---- a live record
-live_parts : (rs : List Held) (o : Option Held) (r : Held) → live_if rs o ≡ Some r → (o ≡ Some r) × (is_live rs r ≡ true)
+live_parts : (rs : List Held) (o : Option Held) (r : Held) → if_live rs o ≡ Some r → (o ≡ Some r) × (is_live rs r ≡ true)
 live_parts rs None r e = absurd (cc)
 live_parts rs (Some q) r e = by (is_live rs q) refl e
   where
@@ -55,7 +55,7 @@ live_parts rs (Some q) r e = by (is_live rs q) refl e
     by false f e = absurd (cc)
 
 pub live_made : {X : Type 0} (f : Held → X) (rs : List Held) (o : Option Held)
-    → made f (is_live rs) o ≡ option_map f (live_if rs o)
+    → made f (is_live rs) o ≡ option_map f (if_live rs o)
 live_made f rs None = refl
 live_made f rs (Some q) = by (is_live rs q)
   where
@@ -80,7 +80,7 @@ object_slot s wide slot o e = by (kind_of s (unit_of_slot s slot)) (live_at s wi
     by None (Some r) f e = absurd (cc)
     by (Some kind) None f e = absurd (cc)
     by (Some kind) (Some r) f e =
-        sym (ap (λ (x : Object). x.slot) (same_Some (renewed kind (object_of r)) o e))
+        sym (ap (λ (x : Object). x.slot) (same_Some (renewed_object kind (object_of r)) o e))
         ∙ slot_of_record s wide slot r (live_parts (records_of s wide (unit_of_slot s slot)) (record_at s wide slot) r f).0
 
 module _ (s : Shape) (wide : List ℕ) (size : length wide ≡ words_of s) (clock : clock_of wide ≤ LAST) where
@@ -113,7 +113,7 @@ module _ (s : Shape) (wide : List ℕ) (size : length wide ≡ words_of s) (cloc
       by (Some kind) None f e = absurd (cc)
       by (Some kind) (Some r) f e =
           let read = (live_record slot r f).0 in
-          subst (λ (x : Object). Is x (Some kind) (Some r)) (same_Some (renewed kind (object_of r)) o e) (
+          subst (λ (x : Object). Is x (Some kind) (Some r)) (same_Some (renewed_object kind (object_of r)) o e) (
             slot_of_record s wide slot r read,
             ap (λ (ws : List ℕ). take LABEL ws ++ renewed_body kind r.body) (spells slot r inside read).shown,
           )
@@ -128,24 +128,24 @@ module _ (s : Shape) (wide : List ℕ) (size : length wide ≡ words_of s) (cloc
       by (Some kind) (Some r) e = absurd (cc)
 
   -- ---- the objects of a unit
-  object_made : (kind : UnitKind) (l : Option Held) → option_map (λ r. renewed kind (object_of r)) l ≡ object_if (Some kind) l
+  object_made : (kind : UnitKind) (l : Option Held) → option_map (λ r. renewed_object kind (object_of r)) l ≡ object_if (Some kind) l
   object_made kind None = refl
   object_made kind (Some r) = refl
 
   pub objects_listed : (unit : ℕ) (kind : UnitKind) → 1 ≤ s.slots → kind_of s unit ≡ Some kind
-      → map (renewed kind) (objects_in s wide unit) ≡ filter_map (object_at s wide) (slots_of s unit)
+      → map (renewed_object kind) (objects_in s wide unit) ≡ filter_map (object_at s wide) (slots_of s unit)
   objects_listed unit kind some of_unit =
       let rs = records_of s wide unit in
-      let f : Held → Object = λ r. renewed kind (object_of r) in
-      map-map (renewed kind) object_of (filter (is_live rs) rs)
+      let f : Held → Object = λ r. renewed_object kind (object_of r) in
+      map-map (renewed_object kind) object_of (filter (is_live rs) rs)
       ∙ made_listed f (is_live rs) (record_at s wide) (slots_of s unit)
       ∙ filter_map_agree (λ slot. made f (is_live rs) (record_at s wide slot)) (object_at s wide) (slots_of s unit) agree
     where
       agree : (slot : ℕ) → Contains (slots_of s unit) slot
-          → made (λ r. renewed kind (object_of r)) (is_live (records_of s wide unit)) (record_at s wide slot) ≡ object_at s wide slot
+          → made (λ r. renewed_object kind (object_of r)) (is_live (records_of s wide unit)) (record_at s wide slot) ≡ object_at s wide slot
       agree slot h =
           let here : unit ≡ unit_of_slot s slot = sym (unit_of_member s unit slot some h) in
-          live_made (λ r. renewed kind (object_of r)) (records_of s wide unit) (record_at s wide slot)
-          ∙ object_made kind (live_if (records_of s wide unit) (record_at s wide slot))
-          ∙ ap (λ (k : Option UnitKind). object_if k (live_if (records_of s wide unit) (record_at s wide slot))) (sym of_unit)
-          ∙ ap (λ (u : ℕ). object_if (kind_of s u) (live_if (records_of s wide u) (record_at s wide slot))) here
+          live_made (λ r. renewed_object kind (object_of r)) (records_of s wide unit) (record_at s wide slot)
+          ∙ object_made kind (if_live (records_of s wide unit) (record_at s wide slot))
+          ∙ ap (λ (k : Option UnitKind). object_if k (if_live (records_of s wide unit) (record_at s wide slot))) (sym of_unit)
+          ∙ ap (λ (u : ℕ). object_if (kind_of s u) (if_live (records_of s wide u) (record_at s wide slot))) here

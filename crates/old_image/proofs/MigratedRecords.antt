@@ -1,23 +1,21 @@
 -- The records of an image that was migrated: the live ones of the old image, each in its slot.
-use Rattle.std.proofs.Common.{◌≡◌, ℕ, zero, suc, ◌+◌, ◌<◌, ◌≤◌, Bool, true, false, List, [], ◌∷◌, map, length, replicate, get_or, refl, sym, ap, ◌∙◌, subst, arith, inl, inr, ◌⊎◌, cond}
-use Rattle.std.specs.Prelude.{Option, Some, None, option_map, Ok, filter, not, ◌&&◌, ◌||◌, All, AllPairs}
-use Rattle.std.specs.List.{Contains, filter_map, list_any}
+use Rattle.std.proofs.Common.{◌≡◌, ℕ, ◌<◌, ◌≤◌, Bool, true, false, List, [], ◌∷◌, map, length, get_or, refl, sym, ap, ◌∙◌, subst, arith, inl, inr, ◌⊎◌, cond}
+use Rattle.std.specs.Prelude.{Option, Some, None, option_map, filter, not, ◌&&◌, ◌||◌, All, AllPairs}
+use Rattle.std.specs.List.{Contains, list_any}
 use Rattle.std.proofs.lemmas.Bool.{both_ways}
 use Rattle.std.proofs.lemmas.List.Elements.{All-cons, All-head, All-nil, All-tail}
 use Rattle.std.proofs.lemmas.List.Kept.{AllPairs-cons, AllPairs-filter}
 use Rattle.std.proofs.lemmas.Simd.{map-map}
-use Rattle.mont_base.specs.declared.constants.TheConstants.{BODY, FIELDS, LAST}
+use Rattle.mont_base.specs.declared.constants.TheConstants.{FIELDS, LAST}
 use Rattle.mont_base.specs.declared.kinds.UnitKind.{UnitKind}
 use Rattle.mont_base.specs.declared.kinds.UnitKind.TheVariants as kinds
 use Rattle.mont_base.specs.declared.record.Held.{Held}
-use Rattle.mont_base.specs.declared.record.Object.{Object}
-use Rattle.mont_base.specs.Bodies.{pair_body}
-use Rattle.mont_base.specs.Image.{DiffersFrom, IsRead, clock_of, cut_of, epoch_at, is_in_cut, record_at, records_of, slots_of, words_at}
+use Rattle.mont_base.specs.Image.{DiffersFrom, IsRead, clock_of, epoch_at, is_in_cut, record_at, records_of, slots_of, words_at}
 use Rattle.mont_base.specs.Layout.{Shape, kind_of, total_of, unit_of_slot, units_of, words_of}
 use Rattle.mont_base.specs.Record.{IsBody, reading}
 use Rattle.mont_base.specs.Texts.{byte_words}
 use Rattle.mont_base.specs.Versions.{is_delete, is_later, is_live, live_objects, object_of}
-use Rattle.mont_laws.specs.SlotReadings.{IsRecordOf, held_words}
+use Rattle.mont_laws.specs.SlotReadings.{held_words}
 use Rattle.mont_laws.proofs.Mapped.{filter_map_agree}
 use Rattle.mont_laws.proofs.Members.{element_cases, first_element, kept_element, later_element, no_element, pairs_head, pairs_tail}
 use Rattle.mont_laws.proofs.SlotImages.{in_cut, in_cut_from, none_outside, outside_cut, record_inside, some_inside}
@@ -25,8 +23,8 @@ use Rattle.mont_laws.proofs.SlotReadings.{length-slot_words, reading-slot_words}
 use Rattle.mont_laws.proofs.SlotWords.{first_at}
 use Rattle.mont_laws.proofs.UnitRecords.{slot_of_record}
 use Rattle.mont_laws.proofs.UnitSlots.{slots_have_units, unit_of_member}
-use Rattle.old_image.specs.OldSlots.{live_at, live_if, objects_in}
-use Rattle.old_image.specs.OldStructure.{renewed, renewed_body}
+use Rattle.old_image.specs.OldSlots.{live_at, if_live, objects_in}
+use Rattle.old_image.specs.OldStructure.{renewed_object, renewed_body}
 use Rattle.old_image.specs.Migration.{migrated_slot, words_now}
 use Rattle.old_image.proofs.LiveSlots.{live_made, live_record, made, made_listed, spells}
 
@@ -81,12 +79,13 @@ module _ (kind : UnitKind) (rs : List Held) where
       let is = kept_element (is_live rs) at.0 rs at.1 in
       let parts = live_not (is_delete at.0.label.kind) (list_any (is_later at.0) rs) is.1 in
       subst (λ (x : Held). is_live (map (held_now kind) live) x ≡ true) at.2
-      (λ i. not (parts.0 i) && not (none_of_kept (is_live rs) (is_later (held_now kind at.0)) (held_now kind) (is_later at.0) rs (λ r. refl) parts.1 i))
+      (λ i. not (parts.0 i)
+      && not (none_of_kept (is_live rs) (is_later (held_now kind at.0)) (held_now kind) (is_later at.0) rs (λ r. refl) parts.1 i))
 
-  pub live_now : live_objects (map (held_now kind) live) ≡ map (renewed kind) (live_objects rs)
+  pub live_now : live_objects (map (held_now kind) live) ≡ map (renewed_object kind) (live_objects rs)
   live_now =
       ap (map object_of) (all_pass (is_live (map (held_now kind) live)) (map (held_now kind) live) still_live)
-      ∙ map-map object_of (held_now kind) live ∙ sym (map-map (renewed kind) object_of live)
+      ∙ map-map object_of (held_now kind) live ∙ sym (map-map (renewed_object kind) object_of live)
 
 -- ---- versions stay
 module _ (kind : UnitKind) where
@@ -145,11 +144,11 @@ module _ (s : Shape) (wide : List ℕ) (size : length wide ≡ words_of s) (cloc
           let here = unit_of_member s unit slot some h in
           let within = (slots_have_units s slot some).1 (subst (λ (u : ℕ). u < units_of s) (sym here) inside) in
           record_now slot kind within (ap (kind_of s) here ∙ of_unit)
-          ∙ ap (λ (u : ℕ). option_map (held_now kind) (live_if (records_of s wide u) (record_at s wide slot))) here
+          ∙ ap (λ (u : ℕ). option_map (held_now kind) (if_live (records_of s wide u) (record_at s wide slot))) here
           ∙ sym (live_made (held_now kind) (records_of s wide unit) (record_at s wide slot))
 
   pub objects_now : (unit : ℕ) (kind : UnitKind) → 1 ≤ s.slots → unit < units_of s → kind_of s unit ≡ Some kind
-      → live_objects (records_of s now unit) ≡ map (renewed kind) (objects_in s wide unit)
+      → live_objects (records_of s now unit) ≡ map (renewed_object kind) (objects_in s wide unit)
   objects_now unit kind some inside of_unit =
       ap live_objects (records_now unit kind some inside of_unit) ∙ live_now kind (records_of s wide unit)
 

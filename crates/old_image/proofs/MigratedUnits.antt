@@ -1,12 +1,12 @@
 -- Units that are migrated one after the other.
 use Rattle.std.proofs.Common.{◌≡◌, ℕ, zero, suc, ◌+◌, ◌*◌, ◌<◌, ◌≤◌, true, false, List, [], ◌∷◌, ◌++◌, map, length, refl, sym, ap, ◌∙◌, subst, arith, append_assoc}
-use Rattle.std.specs.Prelude.{◌≢◌, ◌↔◌, Some, None, Err, slice_get}
+use Rattle.std.specs.Prelude.{◌↔◌, Some, Err, slice_get}
 use Rattle.std.specs.List.{flat_map, range_with_len}
 use Rattle.std.proofs.lemmas.Grind.{flat_map-append}
 use Rattle.mont_base.specs.declared.constants.TheConstants.{FIELDS, FIRST_CLOCK, LAST}
 use Rattle.mont_base.specs.declared.kinds.UnitKind.{UnitKind}
 use Rattle.mont_base.specs.declared.record.Object.{Object}
-use Rattle.mont_base.specs.Image.{IsRead, IsRecovered, IsWellFormed, clock_of, record_at, records_of, words_at}
+use Rattle.mont_base.specs.Image.{IsRead, IsWellFormed, clock_of, record_at, records_of, words_at}
 use Rattle.mont_base.specs.Layout.{IsLayout, Shape, kind_of, total_of, unit_of_slot, units_of, words_of}
 use Rattle.mont_base.specs.Record.{reading}
 use Rattle.mont_base.specs.State.{State}
@@ -24,10 +24,10 @@ use Rattle.image_units.specs.Versions.{HasNoRepeat, IsRepeatRefusal}
 use Rattle.image_units.proofs.Accepted.{unit_of_record}
 use Rattle.image_units.proofs.UnitVersions.{units_apart}
 use Rattle.old_image.specs.OldSlots.{objects_in, widened}
-use Rattle.old_image.specs.OldStructure.{IsOldStructure, IsOldRecovered, MakesOldStructure, old_object_fault, old_structure_of, renewed}
+use Rattle.old_image.specs.OldStructure.{IsOldStructure, MakesOldStructure, old_object_fault, old_structure_of, renewed_object}
 use Rattle.old_image.specs.OldRecords.{IsSlotRefusal}
-use Rattle.old_image.specs.Migration.{AreMigrated, IsFirstIn, IsSound, IsUnitRefusal, KeepsStructures, RefusedOldImagesAreMalformed, migrated_slot, words_now}
-use Rattle.old_image.specs.Renewal.{IsOldObjectRefusal, KeepsUnit}
+use Rattle.old_image.specs.Migration.{AreMigrated, IsFirstIn, IsOldWellFormed, IsUnitRefusal, KeepsStructures, RefusedOldImagesAreMalformed, migrated_slot}
+use Rattle.old_image.specs.Renewal.{IsOldObjectRefusal, RenewsUnit}
 use Rattle.old_image.proofs.FlatSlots.{length-flat, words_at-flat}
 use Rattle.old_image.proofs.MigratedRecords.{apart_now, long_now, objects_now, readable_now}
 use Rattle.old_image.proofs.Units.{one_kind}
@@ -48,14 +48,14 @@ unit_more f front unit slots =
     ∙ ap (λ (n : ℕ). flat_map f (range_with_len 0 n)) more)
 
 -- ---- refusals
-pub made_old : (s : Shape) (unit : ℕ) (os : List Object) → KeepsUnit s unit os → MakesOldStructure s unit os
+pub made_old : (s : Shape) (unit : ℕ) (os : List Object) → RenewsUnit s unit os → MakesOldStructure s unit os
 made_old s unit os k = (
   old_structure_of k.kind os,
   record { kind = k.kind; of_unit = k.of_unit; sound = k.sound_old; made = refl },
 )
 
 module _ (s : Shape) (wide : List ℕ) where
-  pub refused_unit : (unit : ℕ) → unit < units_of s → ((k : ℕ) → k < unit → KeepsUnit s k (objects_in s wide k))
+  pub refused_unit : (unit : ℕ) → unit < units_of s → ((k : ℕ) → k < unit → RenewsUnit s k (objects_in s wide k))
       → (refusal : RecoverRefusal) → IsOldObjectRefusal s unit (objects_in s wide unit) refusal → IsUnitRefusal s wide refusal
   refused_unit unit inside lower (refusals.Slot slot fault) h = h
   refused_unit unit inside lower (refusals.Twice slot other) h = h
@@ -87,14 +87,6 @@ module _ (s : Shape) (wide : List ℕ) where
   unit_refused (refusals.Object unit slot fault) readable apart h = record { readable = readable; apart = apart; lowest = h }
   unit_refused refusals.Memory readable apart h = tt
 
-  pub is_sound : IsReadable s wide → HasNoRepeat (all_records s wide)
-      → ((unit : ℕ) → unit < units_of s → KeepsUnit s unit (objects_in s wide unit)) → IsSound s wide
-  is_sound readable apart kept = record {
-    readable = readable;
-    apart = apart;
-    defined = λ unit inside. made_old s unit (objects_in s wide unit) (kept unit inside);
-  }
-
 pub refused_old_images_are_malformed : RefusedOldImagesAreMalformed
 refused_old_images_are_malformed s image (refusals.Slot slot fault) other h is =
     absurd (unread (is.readable slot h.inside h.has.0) h.has.1)
@@ -107,7 +99,8 @@ refused_old_images_are_malformed s image (refusals.Object unit slot fault) other
     let made = is.defined unit h.lowest.inside in
     let first = h.lowest.first in
     let kind = one_kind (kind_of s unit) first.kind made.1.kind first.of_unit made.1.of_unit in
-    let both = sym first.first ∙ ap (λ (k : UnitKind). old_object_fault s unit k (objects_in s (widened s image) unit)) kind ∙ made.1.sound in
+    let both = sym first.first ∙ ap (λ (k : UnitKind). old_object_fault s unit k (objects_in s (widened s image) unit)) kind
+    ∙ made.1.sound in
     cc
 refused_old_images_are_malformed s image refusals.Memory other h is = absurd (other refl)
 
@@ -128,19 +121,19 @@ pub record Migrates (s : Shape) (image now : List ℕ) : Type 0 where
   pub old : IsImage s image true
   pub readable : IsReadable s (widened s image)
   pub apart : HasNoRepeat (all_records s (widened s image))
-  pub kept : (unit : ℕ) → unit < units_of s → KeepsUnit s unit (objects_in s (widened s image) unit)
+  pub kept : (unit : ℕ) → unit < units_of s → RenewsUnit s unit (objects_in s (widened s image) unit)
   pub all : now ≡ clock_of (widened s image) ∷ flat_map (migrated_slot s (widened s image)) (all_slots s)
 
 pub migrates : (s : Shape) (image now wide : List ℕ) → IsLayout s → IsImage s image true → wide ≡ widened s image
     → IsReadable s (widened s image) → HasNoRepeat (all_records s (widened s image))
-    → ((unit : ℕ) → unit < units_of s → KeepsUnit s unit (objects_in s wide unit))
+    → ((unit : ℕ) → unit < units_of s → RenewsUnit s unit (objects_in s wide unit))
     → now ≡ clock_of wide ∷ flat_map (migrated_slot s wide) (all_slots s) → Migrates s image now
 migrates s image now wide layout old is readable apart kept all = record {
   layout = layout;
   old = old;
   readable = readable;
   apart = apart;
-  kept = λ unit inside. subst (λ (ws : List ℕ). KeepsUnit s unit (objects_in s ws unit)) is (kept unit inside);
+  kept = λ unit inside. subst (λ (ws : List ℕ). RenewsUnit s unit (objects_in s ws unit)) is (kept unit inside);
   all = all ∙ ap (λ (ws : List ℕ). clock_of ws ∷ flat_map (migrated_slot s ws) (all_slots s)) is;
 }
 
@@ -181,7 +174,7 @@ module _ (s : Shape) (image now : List ℕ) (m : Migrates s image now) where
       ap length m.all ∙ omega arith
 
   pub objects_are : (unit : ℕ) (kind : UnitKind) → kind_of s unit ≡ Some kind
-      → live_objects (records_of s now unit) ≡ map (renewed kind) (objects_in s wide unit)
+      → live_objects (records_of s now unit) ≡ map (renewed_object kind) (objects_in s wide unit)
   objects_are unit kind of_unit =
       objects_now s wide size last now same_clock slots_are unit kind some_slots (within_of s.kinds unit kind of_unit) of_unit
 
@@ -226,9 +219,11 @@ module _ (s : Shape) (image now : List ℕ) (m : Migrates s image now) where
         apart_now s wide size last now same_clock slots_are unit k.0 some_slots inside k.1
         (units_apart s (record_at s wide) (slot_of_record s wide) (unit_of_record s wide) some_slots m.apart unit inside);
     defined = λ unit inside.
-        let k = m.kept unit inside in
-        (old_structure_of k.kind (objects_in s wide unit), (structure_is unit _ inside).1
-        (record { kind = k.kind; of_unit = k.of_unit; sound = k.sound_old; made = refl }));
+        let k = m.kept unit inside in (
+          old_structure_of k.kind (objects_in s wide unit),
+          (structure_is unit _ inside).1
+              (record { kind = k.kind; of_unit = k.of_unit; sound = k.sound_old; made = refl }),
+        );
   }
 
   pub image_is : IsImage s now false
@@ -253,5 +248,9 @@ module _ (s : Shape) (image now : List ℕ) (m : Migrates s image now) where
           → unit < units_of s
       inside_states states unit state many at = let low = within_of states unit state at in omega arith
 
-  pub sound : IsSound s wide
-  sound = is_sound s wide m.readable m.apart m.kept
+  pub well_formed : IsOldWellFormed s image
+  well_formed = record {
+    readable = m.readable;
+    apart = m.apart;
+    defined = λ unit inside. made_old s unit (objects_in s wide unit) (m.kept unit inside);
+  }

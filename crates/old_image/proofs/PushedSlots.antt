@@ -1,17 +1,14 @@
 -- Slots whose words are added one after the other.
-use Rattle.std.proofs.Common.{◌≡◌, ℕ, zero, suc, ◌+◌, ◌*◌, ◌<◌, ◌≤◌, List, [], ◌∷◌, ◌++◌, length, take, replicate, refl, sym, ap, ◌∙◌, subst, arith}
+use Rattle.std.proofs.Common.{◌≡◌, ℕ, suc, ◌+◌, ◌<◌, ◌≤◌, List, ◌∷◌, ◌++◌, length, take, replicate, refl, sym, ap, ◌∙◌, subst, arith}
 use Rattle.std.specs.Prelude.{◌≢◌, Option, Some, None}
 use Rattle.std.specs.List.{Contains, cons_option, filter_map, range_with_len}
-use Rattle.std.proofs.lemmas.Option.{same_Some}
 use Rattle.mont_base.specs.declared.constants.TheConstants.{FIELDS, LABEL, LAST}
-use Rattle.mont_base.specs.declared.kinds.UnitKind.{UnitKind}
-use Rattle.mont_base.specs.declared.record.Held.{Held}
 use Rattle.mont_base.specs.declared.record.Object.{Object}
 use Rattle.mont_base.specs.Image.{clock_of, words_at}
 use Rattle.mont_base.specs.Layout.{Shape, total_of, words_of}
 use Rattle.mont_laws.proofs.Mapped.{mapped_from, range_bounds}
 use Rattle.mont_laws.proofs.Members.{first_element}
-use Rattle.old_image.specs.Migration.{PushesSlot, migrated_slot, object_at}
+use Rattle.old_image.specs.Migration.{PushesSlot, object_at}
 use Rattle.old_image.proofs.LiveSlots.{no_object, object_is, object_slot}
 
 pub same_first : {A : Type 0} (x y : A) (xs ys : List A) → x ∷ xs ≡ y ∷ ys → x ≡ y
@@ -32,7 +29,8 @@ module _ (s : Shape) (wide : List ℕ) (size : length wide ≡ words_of s) (cloc
   abbrev rest : List Object
   rest = filter_map (object_at s wide) (range_with_len (slot + 1) left)
 
-  split : (os : List Object) → os ≡ filter_map (object_at s wide) (range_with_len slot (1 + left)) → os ≡ cons_option (object_at s wide slot) rest
+  split : (os : List Object) → os ≡ filter_map (object_at s wide) (range_with_len slot (1 + left))
+      → os ≡ cons_option (object_at s wide slot) rest
   split os e = let next : 1 + left ≡ suc left = omega arith in
       e ∙ ap (λ (n : ℕ). filter_map (object_at s wide) (range_with_len slot n)) next
 

@@ -12,8 +12,8 @@ use Rattle.mont_image.specs.StoredImage.{IsOldKinds}
 use Rattle.plain.specs.Built.{IsFirstFault, MakesStructure}
 use Rattle.image_units.specs.declared.refusal.RecoverRefusal.{RecoverRefusal}
 use Rattle.image_units.specs.declared.refusal.RecoverRefusal.TheVariants as refusals
-use Rattle.old_image.specs.OldStructure.{IsFirstOldFault, numbers_at, old_map_fault, old_object_fault, old_structure_of, renewed}
-use Rattle.old_image.specs.Renewal.{AreFrontPairs, AreRenewed, EndsAt, HasNumbers, IsObjectRefusal, IsOldObjectRefusal, KeepsUnit}
+use Rattle.old_image.specs.OldStructure.{IsFirstOldFault, old_map_fault, old_object_fault, old_structure_of, renewed_object}
+use Rattle.old_image.specs.Renewal.{AreFrontPairs, AreRenewed, EndsAt, HoldsNumbers, IsObjectRefusal, IsOldObjectRefusal, RenewsUnit}
 use Rattle.old_image.proofs.Fronts.{fault_behind, fault_of_front, front_fault, same_map}
 
 -- a unit has one kind
@@ -25,7 +25,8 @@ module _ (s : Shape) (unit : ℕ) (os : List Object) (kind : UnitKind) (of_unit 
   sound_is m = ap (λ (k : UnitKind). object_fault s unit k os) (one_kind (kind_of s unit) kind m.1.kind of_unit m.1.of_unit) ∙ m.1.sound
 
   pub first_is : (slot : ℕ) (fault : ObjectFault) → IsFirstFault s unit os slot fault → object_fault s unit kind os ≡ Some (slot, fault)
-  first_is slot fault f = ap (λ (k : UnitKind). object_fault s unit k os) (one_kind (kind_of s unit) kind f.kind of_unit f.of_unit) ∙ f.first
+  first_is slot fault f =
+      ap (λ (k : UnitKind). object_fault s unit k os) (one_kind (kind_of s unit) kind f.kind of_unit f.of_unit) ∙ f.first
 
 -- ---- maps
 module _ (s : Shape) (unit : ℕ) (old : IsOldKinds s.kinds) (of_unit : kind_of s unit ≡ Some kinds.Map)
@@ -62,29 +63,29 @@ module _ (s : Shape) (unit : ℕ) (old : IsOldKinds s.kinds) (of_unit : kind_of 
   all_front is = f.all ∙ ap (λ (behind : List Object). f.front ++ behind) (subst (λ (o : Option ℕ). EndsAt o f.behind) is f.ends)
       ∙ append-nil f.front
 
-  pub pairs_of_all : spare ≡ None → pairs ≡ map (renewed kinds.Map) os
-  pairs_of_all is = f.pairs_are ∙ ap (map (renewed kinds.Map)) (sym (all_front is))
+  pub pairs_of_all : spare ≡ None → pairs ≡ map (renewed_object kinds.Map) os
+  pairs_of_all is = f.pairs_are ∙ ap (map (renewed_object kinds.Map)) (sym (all_front is))
 
-  pub kept_map : spare ≡ None → MakesStructure s unit pairs → KeepsUnit s unit os
+  pub kept_map : spare ≡ None → MakesStructure s unit pairs → RenewsUnit s unit os
   kept_map is m = record {
     kind = kinds.Map;
     of_unit = of_unit;
     sound_old = ap (first_fault (old_map_fault s unit) []) (all_front is) ∙ sound_front m;
     sound_now = ap (object_fault s unit kinds.Map) (sym (pairs_of_all is)) ∙ sound_is s unit pairs kinds.Map of_unit m;
-    same = same_map os (subst (All HasNumbers) (sym (all_front is)) f.numbers);
+    same = same_map os (subst (All HoldsNumbers) (sym (all_front is)) f.numbers);
   }
 
-pub renewed_map : (s : Shape) (unit : ℕ) (os now : List Object) → kind_of s unit ≡ Some kinds.Map → now ≡ map (renewed kinds.Map) os
+pub renewed_map : (s : Shape) (unit : ℕ) (os now : List Object) → kind_of s unit ≡ Some kinds.Map → now ≡ map (renewed_object kinds.Map) os
     → AreRenewed s unit os now
 renewed_map s unit os now of_unit is kind of_kind =
-    is ∙ ap (λ (k : UnitKind). map (renewed k) os) (one_kind (kind_of s unit) kinds.Map kind of_unit of_kind)
+    is ∙ ap (λ (k : UnitKind). map (renewed_object k) os) (one_kind (kind_of s unit) kinds.Map kind of_unit of_kind)
 
 -- ---- queues and graphs
-queue_same : (os : List Object) → map (renewed kinds.Queue) os ≡ os
+queue_same : (os : List Object) → map (renewed_object kinds.Queue) os ≡ os
 queue_same [] = refl
 queue_same (o ∷ os) = ap (λ (rest : List Object). o ∷ rest) (queue_same os)
 
-graph_same : (os : List Object) → map (renewed kinds.Graph) os ≡ os
+graph_same : (os : List Object) → map (renewed_object kinds.Graph) os ≡ os
 graph_same [] = refl
 graph_same (o ∷ os) = ap (λ (rest : List Object). o ∷ rest) (graph_same os)
 
@@ -98,7 +99,7 @@ pub plain_is : (kind : UnitKind) → (kind ≡ kinds.Queue) ⊎ (kind ≡ kinds.
 plain_is kind (inl is) = subst IsPlain (sym is) tt
 plain_is kind (inr is) = subst IsPlain (sym is) tt
 
-same_plain : (kind : UnitKind) → IsPlain kind → (os : List Object) → map (renewed kind) os ≡ os
+same_plain : (kind : UnitKind) → IsPlain kind → (os : List Object) → map (renewed_object kind) os ≡ os
 same_plain kinds.Map h os = absurd h
 same_plain kinds.Queue h os = queue_same os
 same_plain kinds.Graph h os = graph_same os
@@ -115,7 +116,7 @@ structure_plain kinds.Queue h os = refl
 structure_plain kinds.Graph h os = refl
 
 module _ (s : Shape) (unit : ℕ) (os : List Object) (kind : UnitKind) (plain : IsPlain kind) (of_unit : kind_of s unit ≡ Some kind) where
-  pub kept_plain : MakesStructure s unit os → KeepsUnit s unit os
+  pub kept_plain : MakesStructure s unit os → RenewsUnit s unit os
   kept_plain m = let sound = sound_is s unit os kind of_unit m in record {
     kind = kind;
     of_unit = of_unit;
@@ -125,15 +126,18 @@ module _ (s : Shape) (unit : ℕ) (os : List Object) (kind : UnitKind) (plain : 
   }
 
   pub renewed_plain : AreRenewed s unit os os
-  renewed_plain k of_kind = sym (same_plain kind plain os) ∙ ap (λ (j : UnitKind). map (renewed j) os)
+  renewed_plain k of_kind = sym (same_plain kind plain os) ∙ ap (λ (j : UnitKind). map (renewed_object j) os)
       (one_kind (kind_of s unit) kind k of_unit of_kind)
 
   pub refused_plain : (refusal : RecoverRefusal) → IsObjectRefusal s unit os refusal → IsOldObjectRefusal s unit os refusal
   refused_plain (refusals.Slot slot fault) h = h
   refused_plain (refusals.Twice slot other) h = h
-  refused_plain (refusals.Object u slot fault) h = (h.0, record {
-    kind = kind;
-    of_unit = of_unit;
-    first = fault_plain s unit kind plain os ∙ first_is s unit os kind of_unit slot fault h.1;
-  })
+  refused_plain (refusals.Object u slot fault) h = (
+    h.0,
+    record {
+      kind = kind;
+      of_unit = of_unit;
+      first = fault_plain s unit kind plain os ∙ first_is s unit os kind of_unit slot fault h.1;
+    },
+  )
   refused_plain refusals.Memory h = tt

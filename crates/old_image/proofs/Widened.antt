@@ -1,13 +1,11 @@
 -- An image of the first version whose slots were widened.
-use Rattle.std.proofs.Common.{◌≡◌, ℕ, ◌+◌, ◌*◌, ◌<◌, ◌≤◌, true, List, ◌∷◌, ◌++◌, length, take, drop, replicate, refl, sym, ap, ◌∙◌, subst, arith}
-use Rattle.std.specs.List.{flat_map}
-use Rattle.std.proofs.lemmas.List.{length-append, length-drop, length-take-le, length-replicate}
+use Rattle.std.proofs.Common.{◌≡◌, ℕ, ◌+◌, ◌*◌, ◌<◌, ◌≤◌, true, List, length, drop, replicate, refl, sym, subst, arith}
+use Rattle.std.proofs.lemmas.List.{length-append, length-drop, length-take-le}
 use Rattle.mont_base.specs.declared.constants.TheConstants.{FIELDS, LAST}
 use Rattle.mont_base.specs.Image.{clock_of}
 use Rattle.mont_base.specs.Layout.{Shape, total_of, words_of}
 use Rattle.mont_image.specs.declared.image_text.TheConstants.{OLD_FIELDS}
 use Rattle.mont_image.specs.StoredImage.{IsImage}
-use Rattle.scan.specs.Scanned.{all_slots}
 use Rattle.old_image.specs.OldSlots.{old_slot, wide_slot, widened}
 use Rattle.old_image.proofs.FlatSlots.{length-flat}
 

@@ -6,7 +6,7 @@ use Rattle.mont_base.specs.declared.kinds.UnitKind.{UnitKind}
 use Rattle.mont_base.specs.declared.record.Held.{Held}
 use Rattle.mont_base.specs.declared.record.Object.{Object}
 use Rattle.mont_base.specs.declared.record.ObjectFault.{ObjectFault}
-use Rattle.mont_base.specs.Image.{IsRecovered, IsWellFormed, clock_of, records_of, words_at}
+use Rattle.mont_base.specs.Image.{IsRecovered, IsWellFormed, records_of, words_at}
 use Rattle.mont_base.specs.Layout.{Shape, kind_of, total_of, unit_of_slot, units_of}
 use Rattle.mont_base.specs.Record.{slot_words}
 use Rattle.mont_base.specs.State.{State}
@@ -18,16 +18,9 @@ use Rattle.image_units.specs.FirstRefusal.{IsTwice}
 use Rattle.image_units.specs.Found.{all_records}
 use Rattle.image_units.specs.Versions.{HasNoRepeat}
 use Rattle.old_image.specs.OldSlots.{live_at, objects_in, widened}
-use Rattle.old_image.specs.OldStructure.{IsFirstOldFault, IsOldRecovered, MakesOldStructure, renewed, renewed_body}
+use Rattle.old_image.specs.OldStructure.{IsFirstOldFault, IsOldRecovered, MakesOldStructure, renewed_object, renewed_body}
 
--- ---- what an image holds that was widened
--- Each slot within the cut is read without fault, no version of a unit stands twice, and the objects
--- of each unit make a structure.
-pub record IsSound (s : Shape) (wide : List ℕ) : Type 0 where
-  pub readable : IsReadable s wide
-  pub apart : HasNoRepeat (all_records s wide)
-  pub defined : (unit : ℕ) → unit < units_of s → MakesOldStructure s unit (objects_in s wide unit)
-
+-- ---- why it doesn't, of an image that was widened
 -- the lowest unit whose objects make no structure
 pub record IsLowestBadUnit (s : Shape) (wide : List ℕ) (unit slot : ℕ) (fault : ObjectFault)
     : Type 0 where
@@ -42,8 +35,8 @@ pub record IsBadOldObject (s : Shape) (wide : List ℕ) (unit slot : ℕ) (fault
   pub apart : HasNoRepeat (all_records s wide)
   pub lowest : IsLowestBadUnit s wide unit slot fault
 
--- Faults of slots come before versions that stand twice, and these before faults of objects, as with
--- any image. Memory may run out at any time.
+-- Faults of slots come before versions that stand twice, and these before faults of objects, as
+-- with any image. Memory may run out at any time.
 abbrev pub IsFirstIn : Shape → List ℕ → RecoverRefusal → Type 0
 IsFirstIn s wide (refusals.Slot slot fault) = IsLowestFault s wide slot fault
 IsFirstIn s wide (refusals.Twice slot other) = IsTwice s wide slot other
@@ -51,8 +44,14 @@ IsFirstIn s wide (refusals.Object unit slot fault) = IsBadOldObject s wide unit 
 IsFirstIn s wide refusals.Memory = Unit {0}
 
 -- ---- an image of the first version
-abbrev pub IsOldWellFormed : Shape → List ℕ → Type 0
-IsOldWellFormed s image = IsSound s (widened s image)
+-- Each slot within the cut is read without fault, no version of a unit stands twice, and the
+-- objects of each unit make a structure.
+pub record IsOldWellFormed (s : Shape) (image : List ℕ) : Type 0 where
+  pub readable : IsReadable s (widened s image)
+  pub apart : HasNoRepeat (all_records s (widened s image))
+  pub defined :
+      (unit : ℕ) → unit < units_of s
+      → MakesOldStructure s unit (objects_in s (widened s image) unit)
 
 abbrev pub IsOldFirstRefusal : Shape → List ℕ → RecoverRefusal → Type 0
 IsOldFirstRefusal s image refusal = IsFirstIn s (widened s image) refusal
@@ -77,7 +76,7 @@ AreMigrated s image now =
 
 -- The live object of a slot with its body as it is now.
 abbrev pub object_if : Option UnitKind → Option Held → Option Object
-object_if (Some kind) (Some r) = Some (renewed kind (object_of r))
+object_if (Some kind) (Some r) = Some (renewed_object kind (object_of r))
 object_if None (Some r) = None
 object_if kind None = None
 
@@ -107,5 +106,5 @@ pub record KeepsStructures (s : Shape) (image now : List ℕ) : Type 0 where
   pub objects :
       (unit : ℕ) (kind : UnitKind) → kind_of s unit ≡ Some kind
       → live_objects (records_of s now unit)
-      ≡ map (renewed kind) (objects_in s (widened s image) unit)
+      ≡ map (renewed_object kind) (objects_in s (widened s image) unit)
   pub states : (states : List State) → IsRecovered s now states ↔ IsOldRecovered s image states

@@ -30,9 +30,9 @@ abbrev pub objects_in : Shape → List ℕ → ℕ → List Object
 objects_in s wide unit = live_objects (records_of s wide unit)
 
 -- the record of a slot, if it is live
-abbrev pub live_if : List Held → Option Held → Option Held
-live_if records None = None
-live_if records (Some r) = if is_live records r then Some r else None
+abbrev pub if_live : List Held → Option Held → Option Held
+if_live records None = None
+if_live records (Some r) = if is_live records r then Some r else None
 
 abbrev pub live_at : Shape → List ℕ → ℕ → Option Held
-live_at s wide slot = live_if (records_of s wide (unit_of_slot s slot)) (record_at s wide slot)
+live_at s wide slot = if_live (records_of s wide (unit_of_slot s slot)) (record_at s wide slot)

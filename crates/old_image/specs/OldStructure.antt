@@ -1,6 +1,6 @@
 -- What the live objects of an image of the first version make, or the first fault that they have.
 -- Keys and values of maps are numbers there. Bodies of queues and graphs say what they say now.
-use Rattle.std.specs.Prelude.{◌≡◌, ℕ, ◌%◌, Bool, ◌==◌, not, List, [], map, length, if◌then◌else◌, decimal, slice_index, slice_get, Option, Some, None, option_map}
+use Rattle.std.specs.Prelude.{◌≡◌, ℕ, ◌%◌, Bool, ◌==◌, not, List, [], length, if◌then◌else◌, decimal, slice_index, slice_get, Option, Some, None, option_map}
 use Rattle.std.specs.List.{list_any, filter_map}
 use Rattle.std.specs.FinMap as finite
 use Rattle.mont_base.specs.declared.kinds.UnitKind.{UnitKind}
@@ -17,31 +17,32 @@ use Rattle.old_image.specs.OldSlots.{objects_in, widened}
 
 -- ---- maps
 -- key and value of a body, if no other word is used
-abbrev pub numbers_in : List ℕ → Option (ℕ × ℕ)
-numbers_in body = if is_clean 2 body then Some (slice_index body 0, slice_index body 1) else None
+abbrev pub number_pair_in : List ℕ → Option (ℕ × ℕ)
+number_pair_in body =
+    if is_clean 2 body then Some (slice_index body 0, slice_index body 1) else None
 
-abbrev pub numbers_at : Object → Option (ℕ × ℕ)
-numbers_at o = numbers_in o.body
+abbrev pub number_pair_at : Object → Option (ℕ × ℕ)
+number_pair_at o = number_pair_in o.body
 
 -- a word that isn't used and isn't 0, a key of another unit, a key that stands in a lower slot
 abbrev pub has_number : ℕ → Object → Bool
-has_number key o = names (λ k. k == key) (numbers_at o)
+has_number key o = names (λ k. k == key) (number_pair_at o)
 
-abbrev pub numbers_fault : Shape → ℕ → List Object → Option (ℕ × ℕ) → Option ObjectFault
-numbers_fault s unit lower None = Some faults.Spare
-numbers_fault s unit lower (Some p) =
+abbrev pub number_pair_fault : Shape → ℕ → List Object → Option (ℕ × ℕ) → Option ObjectFault
+number_pair_fault s unit lower None = Some faults.Spare
+number_pair_fault s unit lower (Some p) =
     if not (p.0 % maps_in s.kinds == unit) then Some faults.Shard else fault_if
     (list_any (has_number p.0) lower) faults.Key
 
 abbrev pub old_map_fault : Shape → ℕ → List Object → Object → Option ObjectFault
-old_map_fault s unit lower o = numbers_fault s unit lower (numbers_at o)
+old_map_fault s unit lower o = number_pair_fault s unit lower (number_pair_at o)
 
 -- each number stands for the text of its digits
 abbrev pub digits_of : ℕ × ℕ → Key × Value
 digits_of p = (decimal p.0, decimal p.1)
 
 abbrev pub digits_at : Object → Option (Key × Value)
-digits_at o = option_map digits_of (numbers_at o)
+digits_at o = option_map digits_of (number_pair_at o)
 
 abbrev pub old_pairs_of : List Object → Pairs
 old_pairs_of os = finite.from_entries (filter_map digits_at os)
@@ -88,5 +89,5 @@ renewed_body kinds.Map body =
 renewed_body kinds.Queue body = body
 renewed_body kinds.Graph body = body
 
-abbrev pub renewed : UnitKind → Object → Object
-renewed kind o = record o { body = renewed_body kind o.body }
+abbrev pub renewed_object : UnitKind → Object → Object
+renewed_object kind o = record o { body = renewed_body kind o.body }

@@ -8,7 +8,7 @@ ghost use Rattle.mont_image.specs.StoredImage.{IsOldKinds};
 ghost use Rattle.scan.specs.Scanned.{all_slots};
 ghost use Rattle.old_image.specs.OldSlots.{objects_in};
 ghost use Rattle.old_image.specs.Migration.{AreMigrated, IsOldFirstRefusal, IsOldWellFormed, IsUnitRefusal, KeepsStructures, PushesSlot, RefusedOldImagesAreMalformed, migrated_slot, object_at};
-ghost use Rattle.old_image.specs.Renewal.{KeepsUnit};
+ghost use Rattle.old_image.specs.Renewal.{RenewsUnit};
 
 use crate::old_records::read_records;
 use crate::renewal::renewed_objects;
@@ -56,7 +56,7 @@ fn migrated_words(alloc: Global, layout: Layout, wide: &[u64]) -> Result<Vec<u64
     ensures words { IfOk result (λ v. v.items ≡ clock_of wide.now
         ∷ flat_map (migrated_slot layout wide.now) (all_slots layout)) }
     ensures kept { OnOk result ((unit : ℕ) → unit < units_of layout
-        → KeepsUnit layout unit (objects_in layout wide.now unit)) }
+        → RenewsUnit layout unit (objects_in layout wide.now unit)) }
     ensures layout { OnOk result (IsLayout layout) }
     ensures refused { IfErr result (IsUnitRefusal layout wide.now) }
 {
@@ -93,7 +93,7 @@ fn push_unit(
     Ok(())
 }
 
-// Adds the words of a slot, and says which objects stand behind it. No object stands in front of it.
+// Adds the words of a slot, and says which objects stand behind it. None stands in front of it.
 fn push_slot<'a>(
     words: &mut Vec<u64>,
     layout: &Layout,

@@ -8,8 +8,8 @@ ghost use Rattle.mont_base.specs.Texts.{are_zero};
 ghost use Rattle.mont_image.specs.StoredImage.{IsOldKinds};
 ghost use Rattle.plain.specs.Built.{MakesStructure};
 ghost use Rattle.old_image.specs.OldSlots.{objects_in};
-ghost use Rattle.old_image.specs.OldStructure.{numbers_in, renewed};
-ghost use Rattle.old_image.specs.Renewal.{AreFrontPairs, AreRenewed, IsObjectRefusal, IsOldObjectRefusal, KeepsUnit};
+ghost use Rattle.old_image.specs.OldStructure.{number_pair_in, renewed_object};
+ghost use Rattle.old_image.specs.Renewal.{AreFrontPairs, AreRenewed, IsObjectRefusal, IsOldObjectRefusal, RenewsUnit};
 
 use image_units::RecoverRefusal;
 use mont_base::{BODY, Layout, Object, ObjectFault, Slot, Text, Unit, UnitKind};
@@ -28,8 +28,9 @@ pub(crate) fn renewed_objects(
     requires size { length wide.now ≡ words_of layout }
     requires clock { clock_of wide.now ≤ LAST }
     requires unit { unit < units_of layout }
-    ensures renewed { IfOk result (λ v. AreRenewed layout unit (objects_in layout wide.now unit) v.items) }
-    ensures kept { OnOk result (KeepsUnit layout unit (objects_in layout wide.now unit)) }
+    ensures renewed { IfOk result
+        (λ v. AreRenewed layout unit (objects_in layout wide.now unit) v.items) }
+    ensures kept { OnOk result (RenewsUnit layout unit (objects_in layout wide.now unit)) }
     ensures refused { IfErr result
         (IsOldObjectRefusal layout unit (objects_in layout wide.now unit)) }
 {
@@ -55,8 +56,8 @@ fn renewed_pairs(
     requires old { IsOldKinds layout.kinds }
     requires unit { unit < units_of layout }
     requires map { kind_of layout unit ≡ Some kinds.Map }
-    ensures renewed { IfOk result (λ v. v.items ≡ map (renewed kinds.Map) objects.now) }
-    ensures kept { OnOk result (KeepsUnit layout unit objects.now) }
+    ensures renewed { IfOk result (λ v. v.items ≡ map (renewed_object kinds.Map) objects.now) }
+    ensures kept { OnOk result (RenewsUnit layout unit objects.now) }
     ensures refused { IfErr result (IsOldObjectRefusal layout unit objects.now) }
 {
     let front = front_pairs(alloc, objects)?;
@@ -85,7 +86,7 @@ fn front_pairs(alloc: Global, objects: &[Object]) -> Result<Front, AllocError>
 {
     let mut pairs = Vec::new(alloc);
     for object in objects {
-        match numbers_in(&object.body) {
+        match number_pair_in(&object.body) {
             Some(numbers) => pairs.push(renewed_pair(object, numbers))?,
             None => {
                 let spare = Some(object.slot);
@@ -97,8 +98,8 @@ fn front_pairs(alloc: Global, objects: &[Object]) -> Result<Front, AllocError>
 }
 
 // Key and value of a body, if no other word is used.
-fn numbers_in(body: &[u64; BODY]) -> Option<(u64, u64)>
-    ensures exact { result ≡ numbers_in body.now }
+fn number_pair_in(body: &[u64; BODY]) -> Option<(u64, u64)>
+    ensures exact { result ≡ number_pair_in body.now }
     ensures small { IfSome result (λ p. (p.0 < 2 ^ 64) × (p.1 < 2 ^ 64)) }
 {
     let [key, value, ..] = *body;
@@ -113,8 +114,8 @@ fn are_zero(words: &[u64]) -> bool
 
 // The object with the digits of its key and its value.
 fn renewed_pair(object: &Object, numbers: (u64, u64)) -> Object
-    requires { numbers_in object.now.body ≡ Some numbers }
-    ensures { result ≡ renewed kinds.Map object.now }
+    requires { number_pair_in object.now.body ≡ Some numbers }
+    ensures { result ≡ renewed_object kinds.Map object.now }
 {
     let (key, value) = numbers;
     Object {

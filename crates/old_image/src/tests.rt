@@ -13,8 +13,8 @@ const LAST: u64 = 1 << 62;
 // The slots of an image that aren't closed, with their words.
 type Slots = &'static [(usize, &'static [u64])];
 
-// How many maps the image has, its clock, and its slots: of the old image, and of the new one or why
-// there is none. Each unit has eight slots.
+// How many maps the image has, its clock, and its slots: of the old image, and of the new one or
+// why there is none. Each unit has eight slots.
 type Row = (u64, u64, Slots, Result<Slots, RecoverRefusal>);
 
 const ZEROS: &[u64] = &[0; 12];

@@ -1,5 +1,5 @@
-//! Chains of rounds: a store is opened, worked on and stopped, a crash leaves an image, and recovery
-//! opens the next store with what it holds.
+//! Chains of rounds: a store is opened, worked on and stopped, a crash leaves an image, and
+//! recovery opens the next store with what it holds.
 //!
 //! Each law stands on a public function with an empty body.
 #![tactic(auto)]

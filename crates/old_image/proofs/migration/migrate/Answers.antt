@@ -1,4 +1,4 @@
-use Rattle.std.proofs.Common.{◌≡◌, ℕ, ◌<◌, ◌≤◌, true, List, length, refl, ap, ◌∙◌, sym, subst}
+use Rattle.std.proofs.Common.{◌≡◌, ℕ, ◌≤◌, true, List, length, refl, ap, ◌∙◌, sym, subst}
 use Rattle.std.proofs.lemmas.Result.{err_from_is_err_and}
 use Rattle.mont_base.specs.declared.constants.TheConstants.{LAST}
 use Rattle.mont_base.specs.declared.record.Held.{Held}
@@ -12,7 +12,7 @@ use Rattle.old_image.specs.Migration.{IsUnitRefusal}
 use Rattle.old_image.specs.OldRecords.{IsSlotRefusal}
 use Rattle.old_image.specs.OldSlots.{widened}
 use Rattle.old_image.proofs.Widened.{clock_last, size_wide}
-use Rattle.old_image.proofs.MigratedUnits.{clock_now, image_is, keeps, migrates, repeat_refused, slot_refused, slots_are, sound, unit_refused}
+use Rattle.old_image.proofs.MigratedUnits.{clock_now, image_is, keeps, migrates, repeat_refused, slot_refused, slots_are, unit_refused, well_formed}
 use Rattle.old_image.proofs.migration.migrate.Goals as goal
 
 pub read_records-requires-clause-size : goal.read_records-requires-clause-size
@@ -157,7 +157,7 @@ returns-clause-accepted c =
     let apart = subst HasNoRepeat records c.in_ok-check_versions.ensures.apart in
     let done = migrates s image c.from_vec.result c.deref-3.result.now c.in_ok-words.ensures.layout old third readable apart
     c.in_ok-words.ensures.kept (c.from_vec.ensures ∙ c.in_ok-words.ensures.words) in
-    sound s image c.from_vec.result done
+    well_formed s image c.from_vec.result done
 
 pub returns-clause-kept : goal.returns-clause-kept
 returns-clause-kept c =

@@ -1,11 +1,11 @@
-use Rattle.std.proofs.Common.{◌≡◌, ℕ, ◌+◌, ◌*◌, ◌<◌, ◌≤◌, List, [], ◌∷◌, ◌++◌, refl, ap, ◌∙◌, sym, subst, arith, below_more}
+use Rattle.std.proofs.Common.{◌≡◌, ℕ, ◌*◌, List, [], ◌∷◌, ◌++◌, ap, ◌∙◌, arith, below_more}
 use Rattle.std.specs.List.{flat_map, range_with_len}
 use Rattle.std.proofs.lemmas.Result.{err_from_is_err_and}
 use Rattle.mont_base.specs.Image.{clock_of, slots_of}
 use Rattle.mont_base.specs.Layout.{units_of}
 use Rattle.old_image.specs.Migration.{migrated_slot}
 use Rattle.old_image.specs.OldSlots.{objects_in}
-use Rattle.old_image.specs.Renewal.{KeepsUnit}
+use Rattle.old_image.specs.Renewal.{RenewsUnit}
 use Rattle.old_image.proofs.LiveSlots.{objects_listed}
 use Rattle.old_image.proofs.MigratedUnits.{refused_unit, unit_more}
 use Rattle.old_image.proofs.migration.migrated_words.Goals as goal
@@ -42,7 +42,7 @@ loop-unit-preserved c =
       words = c.in_ok-push_unit.ensures
           ∙ ap (λ (ws : List ℕ). ws ++ flat_map (migrated_slot s wide) (slots_of s unit)) c.loop-unit.invariant.words
           ∙ unit_more (migrated_slot s wide) (clock_of wide ∷ []) unit s.slots;
-      kept = below_more (λ (unit : ℕ). KeepsUnit s unit (objects_in s wide unit)) unit c.loop-unit.invariant.kept
+      kept = below_more (λ (unit : ℕ). RenewsUnit s unit (objects_in s wide unit)) unit c.loop-unit.invariant.kept
           c.in_ok-objects.ensures.kept;
     }
 

@@ -1,5 +1,4 @@
-use Rattle.std.proofs.Common.{◌≡◌, ℕ, List, [], ◌∷◌, ◌++◌, length, ap, ◌∙◌, sym, arith}
-use Rattle.std.specs.Prelude.{◌≢◌}
+use Rattle.std.proofs.Common.{ℕ, List, ◌++◌, length, ap, ◌∙◌, sym}
 use Rattle.mont_base.specs.declared.record.Object.{Object}
 use Rattle.old_image.proofs.PushedSlots.{IsNotHere, passed, same_first, some_there, taken}
 use Rattle.old_image.proofs.migration.push_slot.Goals as goal

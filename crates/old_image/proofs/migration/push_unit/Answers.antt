@@ -1,6 +1,5 @@
-use Rattle.std.proofs.Common.{◌≡◌, ℕ, ◌+◌, ◌-◌, ◌*◌, ◌≤◌, List, ◌++◌, ap, ◌∙◌, sym, subst, arith, append_assoc}
-use Rattle.std.specs.List.{filter_map, flat_map, range_with_len}
-use Rattle.mont_base.specs.declared.record.Object.{Object}
+use Rattle.std.proofs.Common.{◌≡◌, ℕ, ◌+◌, ◌-◌, ◌*◌, ◌≤◌, List, ◌++◌, ap, ◌∙◌, sym, subst, arith}
+use Rattle.std.specs.List.{filter_map, range_with_len}
 use Rattle.old_image.specs.Migration.{PushesSlot, migrated_slot, object_at}
 use Rattle.old_image.proofs.FlatSlots.{flat_more}
 use Rattle.old_image.proofs.migration.push_unit.Goals as goal

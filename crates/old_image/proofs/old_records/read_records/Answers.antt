@@ -1,8 +1,7 @@
-use Rattle.std.proofs.Common.{◌≡◌, ℕ, [], ◌∷◌, ◌++◌, ap, ◌∙◌, sym, below_more, arith}
+use Rattle.std.proofs.Common.{[], ◌∷◌, ◌++◌, ap, ◌∙◌, sym, below_more, arith}
 use Rattle.std.specs.List.{cons_option, filter_map, range_with_len}
 use Rattle.std.proofs.lemmas.List.Elements.{filter_map-append}
 use Rattle.mont_base.specs.Image.{record_at}
-use Rattle.mont_base.specs.Layout.{total_of}
 use Rattle.scan.specs.Scanned.{IsReadAt}
 use Rattle.old_image.proofs.FlatSlots.{range_next}
 use Rattle.old_image.proofs.old_records.read_records.Goals as goal

@@ -1,4 +1,4 @@
-use Rattle.std.proofs.Common.{◌≡◌, refl, ap, ◌∙◌, sym, subst, List}
+use Rattle.std.proofs.Common.{ap, ◌∙◌, subst}
 use Rattle.mont_base.specs.Versions.{live_objects}
 use Rattle.plain.specs.Built.{MakesStructure}
 use Rattle.old_image.specs.OldSlots.{objects_in}

@@ -1,4 +1,4 @@
-use Rattle.std.proofs.Common.{◌≡◌, refl, ap, ◌∙◌, sym, subst, List}
+use Rattle.std.proofs.Common.{refl, subst, List}
 use Rattle.std.proofs.lemmas.Result.{err_from_is_err_and}
 use Rattle.mont_base.specs.declared.record.Object.{Object}
 use Rattle.plain.specs.Built.{MakesStructure}
