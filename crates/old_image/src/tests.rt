@@ -13,9 +13,9 @@ const LAST: u64 = 1 << 62;
 // The slots of an image that aren't closed, with their words.
 type Slots = &'static [(usize, &'static [u64])];
 
-// How many maps the image has, its clock, and its slots: of the old image, and of the new one or
-// why there is none. Each unit has eight slots.
-type Row = (u64, u64, Slots, Result<Slots, RecoverRefusal>);
+// How many maps the image has, how many slots, its clock, and what these are: of the old image, and
+// of the new one or why there is none. Each unit has eight slots.
+type Row = (u64, usize, u64, Slots, Result<Slots, RecoverRefusal>);
 
 const ZEROS: &[u64] = &[0; 12];
 
@@ -28,11 +28,12 @@ const PUT_NOW: &[u64] = &[2, 256, 1, 1, 1, 2, 49, 0, 0, 12_337, 0, 0];
 const LATE: &[u64] = &[3, 256, 1, 1, 1, 10, 0, 0];
 
 const ROWS: [Row; 32] = [
-    (1, 4, &[], Ok(&[])),
-    (1, 4, &[(0, PUT)], Ok(&[(0, PUT_NOW)])),
-    (8, LAST, &[], Ok(&[])),
+    (1, 24, 4, &[], Ok(&[])),
+    (1, 24, 4, &[(0, PUT)], Ok(&[(0, PUT_NOW)])),
+    (8, 80, LAST, &[], Ok(&[])),
     (
         1,
+        24,
         4,
         &[(8, PUT)],
         Err(RecoverRefusal::Slot {
@@ -40,9 +41,10 @@ const ROWS: [Row; 32] = [
             fault: SlotFault::Unit { word: 256 },
         }),
     ),
-    (1, 4, &[(8, LATE)], Ok(&[])),
+    (1, 24, 4, &[(8, LATE)], Ok(&[])),
     (
         1,
+        24,
         4,
         &[
             (0, PUT),
@@ -80,6 +82,7 @@ const ROWS: [Row; 32] = [
     ),
     (
         1,
+        24,
         4,
         &[
             (0, &[1, 512, 1, 2, 1, 7, 0, 0]),
@@ -91,18 +94,21 @@ const ROWS: [Row; 32] = [
     ),
     (
         1,
+        24,
         4,
         &[(0, &[2, 256, LAST, 1, 1, 10, 0, 0])],
         Ok(&[(0, &[2, 256, LAST, 1, 1, 2, 49, 0, 0, 12337, 0, 0])]),
     ),
     (
         1,
+        24,
         4,
         &[(0, PUT), (3, PUT)],
         Err(RecoverRefusal::Twice { slot: 3, other: 0 }),
     ),
     (
         2,
+        32,
         4,
         &[(0, PUT)],
         Err(RecoverRefusal::Object {
@@ -113,12 +119,14 @@ const ROWS: [Row; 32] = [
     ),
     (
         2,
+        32,
         4,
         &[(8, &[2, 257, 1, 1, 1, 10, 0, 0])],
         Ok(&[(8, &[2, 257, 1, 1, 1, 2, 49, 0, 0, 12337, 0, 0])]),
     ),
     (
         1,
+        24,
         4,
         &[
             (7, &[1, 256, 4, 1, 0, u64::MAX, 0, 0]),
@@ -163,6 +171,7 @@ const ROWS: [Row; 32] = [
     ),
     (
         1,
+        24,
         5,
         &[
             (8, &[2, 257, 1, 1, 4, 6, 0, 0]),
@@ -181,6 +190,7 @@ const ROWS: [Row; 32] = [
     ),
     (
         1,
+        24,
         4,
         &[(0, &[2, 0, 1, 1, 1, 10, 0, 0])],
         Err(RecoverRefusal::Slot {
@@ -190,6 +200,7 @@ const ROWS: [Row; 32] = [
     ),
     (
         1,
+        24,
         4,
         &[(0, &[2, 1024, 1, 1, 1, 10, 0, 0])],
         Err(RecoverRefusal::Slot {
@@ -199,6 +210,7 @@ const ROWS: [Row; 32] = [
     ),
     (
         1,
+        24,
         4,
         &[(0, &[2, 256, 0, 1, 1, 10, 0, 0])],
         Err(RecoverRefusal::Slot {
@@ -208,6 +220,7 @@ const ROWS: [Row; 32] = [
     ),
     (
         1,
+        24,
         4,
         &[(0, &[2, 256, 1, 2, 1, 10, 0, 0])],
         Err(RecoverRefusal::Slot {
@@ -217,6 +230,7 @@ const ROWS: [Row; 32] = [
     ),
     (
         1,
+        24,
         4,
         &[(0, &[2, 512, 1, 1, 1, 10, 0, 0])],
         Err(RecoverRefusal::Slot {
@@ -226,6 +240,7 @@ const ROWS: [Row; 32] = [
     ),
     (
         1,
+        24,
         4,
         &[(0, &[2, 256, 1, 1, 1, 10, 1, 0])],
         Err(RecoverRefusal::Object {
@@ -236,6 +251,7 @@ const ROWS: [Row; 32] = [
     ),
     (
         1,
+        24,
         4,
         &[(0, PUT), (1, &[2, 256, 2, 1, 1, 20, 0, 0])],
         Err(RecoverRefusal::Object {
@@ -246,6 +262,7 @@ const ROWS: [Row; 32] = [
     ),
     (
         1,
+        24,
         4,
         &[(0, PUT), (8, &[2, 257, 1, 1, 0, 5, 0, 0])],
         Err(RecoverRefusal::Object {
@@ -256,6 +273,7 @@ const ROWS: [Row; 32] = [
     ),
     (
         1,
+        24,
         4,
         &[(0, PUT), (16, &[2, 258, 1, 1, 2, 1, 2, 9])],
         Err(RecoverRefusal::Object {
@@ -266,6 +284,7 @@ const ROWS: [Row; 32] = [
     ),
     (
         1,
+        24,
         4,
         &[(0, PUT), (16, &[2, 258, 1, 1, 2, 1, 1, 9])],
         Err(RecoverRefusal::Object {
@@ -276,6 +295,7 @@ const ROWS: [Row; 32] = [
     ),
     (
         1,
+        24,
         4,
         &[(0, PUT), (16, &[2, 258, 1, 1, 3, 1, 1, 9])],
         Err(RecoverRefusal::Object {
@@ -286,12 +306,14 @@ const ROWS: [Row; 32] = [
     ),
     (
         1,
+        24,
         4,
         &[(0, PUT), (3, &[LAST + 1, 7, 0, 0, 0, 0, 0, 0])],
         Ok(&[(0, PUT_NOW)]),
     ),
     (
         1,
+        24,
         4,
         &[
             (0, PUT),
@@ -306,6 +328,7 @@ const ROWS: [Row; 32] = [
     ),
     (
         1,
+        24,
         4,
         &[
             (0, PUT),
@@ -320,6 +343,7 @@ const ROWS: [Row; 32] = [
     ),
     (
         2,
+        32,
         4,
         &[(0, &[2, 256, 3, 1, 1, 5, 0, 9])],
         Err(RecoverRefusal::Object {
@@ -330,6 +354,7 @@ const ROWS: [Row; 32] = [
     ),
     (
         1,
+        24,
         4,
         &[(8, &[2, 257, 1, 1, 1, 5, 0, 1])],
         Err(RecoverRefusal::Object {
@@ -340,6 +365,7 @@ const ROWS: [Row; 32] = [
     ),
     (
         1,
+        24,
         4,
         &[(16, &[2, 258, 1, 1, 1, 1, 1, 1])],
         Err(RecoverRefusal::Object {
@@ -350,6 +376,7 @@ const ROWS: [Row; 32] = [
     ),
     (
         1,
+        24,
         4,
         &[
             (0, &[2, 256, 3, 1, 5, 5, 0, 9]),
@@ -364,6 +391,7 @@ const ROWS: [Row; 32] = [
     ),
     (
         1,
+        24,
         4,
         &[
             (0, &[2, 256, 3, 1, 5, 5, 0, 9]),
@@ -391,10 +419,16 @@ fn words_of(slots: Slots, at: usize) -> &'static [u64] {
     }
 }
 
-fn old_image(alloc: Global, maps: u64, clock: u64, slots: Slots) -> Result<Image, Fail> {
+fn old_image(
+    alloc: Global,
+    maps: u64,
+    total: usize,
+    clock: u64,
+    slots: Slots,
+) -> Result<Image, Fail> {
     let mut text = Vec::new(alloc);
     push_words(&mut text, &[MAGIC, 1, maps, 8, clock])?;
-    for at in 0..8 * (maps as usize + 2) {
+    for at in 0..total {
         match words_of(slots, at).first_chunk::<8>() {
             Some(words) => push_words(&mut text, words)?,
             None => return Err(Fail::new("eight words")),
@@ -404,10 +438,15 @@ fn old_image(alloc: Global, maps: u64, clock: u64, slots: Slots) -> Result<Image
     Ok(read_image(alloc, &mut source).ok().ok_or("an image")?)
 }
 
-fn words_now(alloc: Global, maps: u64, clock: u64, slots: Slots) -> Result<Vec<u64>, AllocError> {
+fn words_now(
+    alloc: Global,
+    total: usize,
+    clock: u64,
+    slots: Slots,
+) -> Result<Vec<u64>, AllocError> {
     let mut words = Vec::new(alloc);
     words.push(clock)?;
-    for at in 0..8 * (maps as usize + 2) {
+    for at in 0..total {
         words.extend_from_slice(words_of(slots, at))?;
     }
     Ok(words)
@@ -416,14 +455,14 @@ fn words_now(alloc: Global, maps: u64, clock: u64, slots: Slots) -> Result<Vec<u
 #[test]
 fn old_images_are_migrated_or_refused(rt: HostRuntime) -> Result<(), Fail> {
     let alloc = rt.alloc();
-    for (maps, clock, slots, found) in ROWS {
-        let image = old_image(alloc, maps, clock, slots)?;
+    for (maps, total, clock, slots, found) in ROWS {
+        let image = old_image(alloc, maps, total, clock, slots)?;
         assert!(rt; image.old);
         let answer = migrate(alloc, &image);
         match found {
             Ok(now) => {
                 let made = answer.ok().ok_or("an image")?;
-                let words = words_now(alloc, maps, clock, now)?;
+                let words = words_now(alloc, total, clock, now)?;
                 assert!(rt; !made.old);
                 assert!(rt; made.layout == image.layout);
                 assert_eq!(rt; made.words.as_slice(), words.as_slice());
