@@ -1,0 +1,9 @@
+pub mod FlatSlots
+pub mod Widened
+pub mod Digits
+pub mod Fronts
+pub mod LiveSlots
+pub mod MigratedRecords
+pub mod Units
+pub mod PushedSlots
+pub mod MigratedUnits
