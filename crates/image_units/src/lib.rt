@@ -16,6 +16,6 @@ mod versions;
 pub use finding::find_units;
 pub use found::{FoundImage, FoundUnit};
 pub use image_fault::ImageFault;
-pub use laws::refused_images_are_malformed;
+pub use laws::{refusals_are_one, refused_images_are_malformed};
 pub use refusal::RecoverRefusal;
 pub use versions::check_versions;
