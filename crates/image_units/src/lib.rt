@@ -1,5 +1,5 @@
-//! What an image holds, unit by unit: the records that recovery keeps, the slots that it closes, the
-//! live objects and the structure that they make, or the first reason why recovery refuses it.
+//! What an image holds, unit by unit: the records that recovery keeps, the slots that it closes,
+//! the live objects and the structures that they make, or the first reason why it is refused.
 #![tactic(auto)]
 
 mod fault_words;
