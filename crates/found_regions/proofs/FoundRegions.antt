@@ -4,25 +4,21 @@ use Rattle.std.specs.Prelude.{if◌then◌else◌}
 use Rattle.std.specs.List.{range_with_len}
 use Rattle.mont_base.specs.declared.record.Held.{Held}
 use Rattle.mont_base.specs.Image.{records_of}
-use Rattle.mont_base.specs.Layout.{Shape, units_of}
-use Rattle.core_steps.specs.declared.parts.UnitPart.{UnitPart}
-use Rattle.core_steps.specs.declared.parts.UnitStage.TheVariants.{Idle, Closing}
+use Rattle.mont_base.specs.Layout.{units_of}
 use Rattle.core_steps.specs.Closing.{without_lost}
-use Rattle.core_steps.specs.Opened.{slots_beyond, by_version}
+use Rattle.core_steps.specs.Opened.{slots_beyond}
 use Rattle.core_steps.specs.Stages.{is_empty}
 use Rattle.mont_laws.specs.Records.{without_slot}
-use Rattle.mont_laws.specs.Retiring.{retired_among}
 use Rattle.heap_rule.specs.declared.rule.Opening.{Opening}
 use Rattle.heap_rule.specs.declared.views.UnitHeld.{UnitHeld}
-use Rattle.heap_rule.specs.Views.{first_unit, clean_at, is_among, with_clean, unit_closed, unit_persisted, unit_shown}
-use Rattle.heap_rule.specs.declared.views.CallerHeld.{CallerHeld}
+use Rattle.heap_rule.specs.Views.{first_unit, clean_at, is_among, unit_closed, unit_persisted}
 use Rattle.heap.specs.HeapShown.{HeapShown, UnitShown}
 use Rattle.slots.specs.Beginning.{BeginsWith, first_books, greatest, identities_in, serial_at_first}
 use Rattle.slots.specs.Books.{RegionShown, BooksShown, Agrees, AreBooks}
-use Rattle.slots.specs.Sweeping.{MaySweep, IsSweepStage, IsSweeping, WasCutSweeping, seat_sweeping, sweeping_at, swept_at, swept_from, swept}
+use Rattle.slots.specs.Sweeping.{MaySweep, IsSweepStage, IsSweeping, WasCutSweeping, sweeping_at, swept_from, swept}
 use Rattle.found_regions.proofs.LostSlots.{records_same}
 use Rattle.found_regions.specs.FoundRegion.{IsRegionFound, RegionsAreFound, SweepsKeepRegions, records_found}
-use Rattle.found_regions.proofs.Cleaned.{in_range, kept_among, among_first, among_front}
+use Rattle.found_regions.proofs.Cleaned.{in_range, kept_among, among_first}
 
 -- ---- a unit that was found
 begins : (heap : HeapShown) (u : ℕ) → let o : Opening = heap.opening in
