@@ -1,5 +1,5 @@
 -- The seats of a heap that was opened, by their numbers.
-use Rattle.std.proofs.Common.{◌≡◌, ℕ, zero, suc, ◌+◌, ◌<◌, ◌≤◌, true, false, List, [], ◌∷◌, ◌++◌, length, get_or, refl, sym, ap, ◌∙◌, subst, arith, length-append, map}
+use Rattle.std.proofs.Common.{◌≡◌, ℕ, zero, suc, ◌<◌, ◌≤◌, false, List, [], ◌∷◌, ◌++◌, length, get_or, refl, sym, ap, ◌∙◌, subst, arith, length-append, map}
 use Rattle.std.specs.Prelude.{slice_get, Some}
 use Rattle.std.proofs.lemmas.List.{length-replicate, length-map}
 use Rattle.std.proofs.lemmas.Option.{slice_get_read}
@@ -19,7 +19,7 @@ use Rattle.recover.specs.FoundTicket.{IsTicketFound}
 use Rattle.image_units.specs.declared.found.FoundUnit.{FoundUnit}
 use Rattle.image_units.specs.declared.found.FoundImage.{FoundImage}
 use Rattle.image_units.specs.Found.{AreFoundUnits, IsFoundImage, IsFoundUnit}
-use Rattle.recover.specs.Recovery.{IsAdvancerFound, IsRecovery, IsRegionOpened, AreLiveObjects}
+use Rattle.recover.specs.Recovery.{IsAdvancerFound, IsRecovery, IsRegionOpened}
 
 module _ (heap : HeapShown) where
   abbrev pub unit_first : ℕ → UnitShown

@@ -1,5 +1,5 @@
 -- What a region is opened with.
-use Rattle.std.proofs.Common.{◌≡◌, ℕ, ◌<◌, List, ap, sym, ◌∙◌, subst, refl}
+use Rattle.std.proofs.Common.{◌≡◌, ℕ, ◌<◌, List, ap, sym, ◌∙◌, subst}
 use Rattle.mont_base.specs.declared.record.Held.{Held}
 use Rattle.mont_base.specs.Image.{IsWellFormed, records_of}
 use Rattle.mont_base.specs.Layout.{Shape, units_of}
@@ -34,6 +34,6 @@ module _ (heap : HeapShown) (l : Shape) (same : l ≡ heap.opening.layout) (u : 
       → IsRegionOpened heap u r
   opened r low agrees shows books = record {
     found = region_found heap u seat records lost r (subst (λ (s : Shape). u < units_of s) same low) is records_are lost_here agrees shows
-      (books ∙ ap (λ (s : Shape). first_books s u records lost) same);
+        (books ∙ ap (λ (s : Shape). first_books s u records lost) same);
     unswept = ap (λ (b : BooksShown). b.lost) books ∙ lost_here;
   }

@@ -5,15 +5,15 @@ use Rattle.mont_base.specs.Layout.{Shape}
 use Rattle.image_units.specs.declared.refusal.RecoverRefusal.{RecoverRefusal}
 use Rattle.image_units.specs.declared.refusal.RecoverRefusal.TheVariants.{Slot, Twice, Object, Memory}
 use Rattle.image_units.specs.FirstRefusal.{IsFirstRefusal}
-use Rattle.image_units.proofs.Refused.{refused_images_are_malformed}
+use Rattle.image_units.proofs.Accepted.{malformed}
 use Rattle.recover.specs.StoppedImages.{IsRefusedForMemory, StoppedStoresAreRecovered, SweptStoresAreRecovered}
 
 for_memory : (s : Shape) (image : List ℕ) → IsWellFormed s image → IsRefusedForMemory s image
-for_memory s image well (Slot slot fault) is = absurd (refused_images_are_malformed s image (Slot slot fault) (λ e. absurd (cc)) is well)
+for_memory s image well (Slot slot fault) is = absurd (malformed s image (Slot slot fault) (λ e. absurd (cc)) is well)
 for_memory s image well (Twice slot other) is =
-    absurd (refused_images_are_malformed s image (Twice slot other) (λ e. absurd (cc)) is well)
+    absurd (malformed s image (Twice slot other) (λ e. absurd (cc)) is well)
 for_memory s image well (Object unit slot fault) is =
-    absurd (refused_images_are_malformed s image (Object unit slot fault) (λ e. absurd (cc)) is well)
+    absurd (malformed s image (Object unit slot fault) (λ e. absurd (cc)) is well)
 for_memory s image well Memory is = refl
 
 pub stopped_stores_are_recovered : StoppedStoresAreRecovered

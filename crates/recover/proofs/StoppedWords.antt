@@ -1,19 +1,17 @@
 -- Closing slots beyond the cut keeps the clock and the structures of every image.
-use Rattle.std.proofs.Common.{◌≡◌, ℕ, suc, ◌<◌, ◌≤◌, List, [], ◌∷◌, length, ap, sym, ◌∙◌, subst, refl, arith}
-use Rattle.std.specs.Prelude.{◌↔◌, slice_get, unwrap_or, Some, All, Option}
+use Rattle.std.proofs.Common.{◌≡◌, ℕ, ◌<◌, ◌≤◌, List, [], length, ap, sym, ◌∙◌, subst, arith}
+use Rattle.std.specs.Prelude.{slice_get, unwrap_or, Some, Option}
 use Rattle.std.proofs.lemmas.List.{length-map}
-use Rattle.std.proofs.lemmas.Option.{slice_get_within, get_or_from_slice_get}
-use Rattle.std.proofs.lemmas.List.Elements.{All-get_or}
+use Rattle.std.proofs.lemmas.Option.{slice_get_within}
 use Rattle.mont_base.specs.declared.memory.Words.{Words}
 use Rattle.mont_base.specs.declared.operation.Entry.{Entry}
 use Rattle.mont_base.specs.History.{state_after, cut_at}
-use Rattle.mont_base.specs.Image.{IsPermitted, IsRecovered, IsWellFormed, clock_of, cut_of, records_of}
-use Rattle.mont_base.specs.Layout.{Shape, units_of}
+use Rattle.mont_base.specs.Image.{IsPermitted, IsRecovered, clock_of, cut_of, records_of}
+use Rattle.mont_base.specs.Layout.{units_of}
 use Rattle.mont_base.specs.State.{State, QueueOf}
 use Rattle.mont_base.specs.Structure.{IsStructure}
 use Rattle.mont_base.specs.Versions.{live_objects}
 use Rattle.plain.proofs.Single.{same_structure}
-use Rattle.core_steps.specs.declared.parts.UnitPart.{UnitPart}
 use Rattle.core_steps.specs.Opened.{opened_at}
 use Rattle.core_steps.specs.Sound.{base_state}
 use Rattle.core_steps.proofs.RowFacts.{item_at}

@@ -1,88 +1,45 @@
 -- What a sweep and a stop make of the parts of a store.
-use Rattle.std.proofs.Common.{◌≡◌, ℕ, zero, suc, ◌≤◌, List, [], ◌∷◌, ◌++◌, length, map, take, drop, append-nil, Bool, true, false, ap, sym, ◌∙◌, subst, refl, arith}
+use Rattle.std.proofs.Common.{◌≡◌, ℕ, List, [], ◌++◌, length, map, take, drop, append-nil, false, ap, sym, ◌∙◌, subst, arith}
 use Rattle.std.specs.Prelude.{slice_get, Some, Ok, Err, IfOk, All}
 use Rattle.std.specs.declared.result.Result.{Result}
 use Rattle.std.proofs.lemmas.List.{length-map, take_all, drop_all}
-use Rattle.std.proofs.lemmas.Bool.{false≢true}
+use Rattle.std.proofs.lemmas.List.Elements.{All-weaker}
 use Rattle.mont_base.specs.declared.memory.Words.{Words}
 use Rattle.mont_base.specs.declared.record.Object.{Object}
-use Rattle.mont_base.specs.Image.{IsPermitted, IsRecovered, clock_of}
-use Rattle.mont_base.specs.Layout.{units_of}
+use Rattle.mont_base.specs.Image.{IsPermitted}
+use Rattle.mont_base.specs.Layout.{units_of, words_of}
 use Rattle.mont_base.specs.State.{State}
 use Rattle.core_steps.specs.Places.{EachAt}
 use Rattle.core_steps.proofs.RowFacts.{row_of_map, all_at}
 use Rattle.heap_rule.specs.declared.views.CallerHeld.{CallerHeld}
 use Rattle.heap_rule.specs.declared.views.UnitTurn.{UnitTurn}
 use Rattle.heap_rule.specs.Views.{advancer_shown}
-use Rattle.heap.specs.HeapShown.{HeapShown, UnitShown, AdvShown, CallerShown}
+use Rattle.heap.specs.HeapShown.{HeapShown, UnitShown, AdvShown}
 use Rattle.heap.specs.Stops.{AreAllSeats, AreAtHome, IsSeatOfUnit, StopsAt}
 use Rattle.slots.specs.Books.{RegionShown}
 use Rattle.recover.specs.StoppedWords.{HoldsBase, IsUnused}
 use Rattle.recover.proofs.StoppedWords.{unused_stores_keep_base}
-use Rattle.found_regions.specs.FoundRegion.{IsRegionFound, IsRegionSwept}
+use Rattle.found_regions.specs.FoundRegion.{IsRegionSwept}
 use Rattle.found_regions.proofs.Cleaned.{known_behind}
-use Rattle.recover.specs.FoundTicket.{IsTicketFound, knows_all}
-use Rattle.recover.specs.Recovery.{RecoveredShown, IsRecovery, IsAdvancerFound, AreSwept}
+use Rattle.recover.specs.FoundTicket.{knows_all}
+use Rattle.store_stop.specs.Headline.{AreAllWords}
+use Rattle.recover.specs.Recovery.{RecoveredShown, IsRecovery, lost_in}
+use Rattle.recover.proofs.Turns.{none_in}
 
--- ---- a sweep that was cut
-pub after_cut : (clock : ℕ) (states : List State) (objects : List (List Object)) (x : RecoveredShown) (now : List RegionShown) (tickets : List CallerShown) (advancer : AdvShown)
-    → IsRecovery clock states objects x → x.swept ≡ false → length now ≡ length x.regions → EachAt (IsRegionFound x.heap) now
-    → length tickets ≡ length x.tickets → EachAt (IsTicketFound x.heap) tickets → IsAdvancerFound x.heap advancer
-    → IsRecovery clock states objects (record x { regions = now; tickets = tickets; advancer = advancer })
-after_cut clock states objects x now tickets advancer k unswept many found callers each adv = record {
-  accepted = k.accepted;
-  base = k.base;
-  clock_is = k.clock_is;
-  object_count = k.object_count;
-  objects = k.objects;
-  unit_count = many ∙ k.unit_count;
-  regions = found;
-  some_callers = k.some_callers;
-  caller_count = callers ∙ k.caller_count;
-  tickets = each;
-  advancer = adv;
-  swept = λ e. absurd (false≢true (sym unswept ∙ e));
-}
-
--- ---- and one that ended
-pub advancer_after : (heap : HeapShown) (a b : AdvShown) (q : CallerHeld) → IsAdvancerFound heap a
-    → b ≡ record { table = a.table; held = advancer_shown a.held q } → IsAdvancerFound heap b
-advancer_after heap a b q k is = subst (IsAdvancerFound heap) (sym is) (record {
-  table = k.table;
-  part = k.part;
-  turn = k.turn;
-  clock = k.clock;
-  durable = k.durable;
-  units = k.units;
-  room = k.room;
-  lists = k.lists;
-})
-
+-- ---- a sweep
 pub advancer_knows : (heap : HeapShown) (a b : AdvShown) (q : CallerHeld) → knows_all heap q.clean
     → b ≡ record { table = a.table; held = advancer_shown a.held q } → knows_all heap b.held.clean
 advancer_knows heap a b q known is = subst (λ (x : AdvShown). knows_all heap x.held.clean) (sym is)
     (known_behind (units_of heap.opening.layout) a.held.clean q.clean known)
 
-pub after_sweep : (clock : ℕ) (states : List State) (objects : List (List Object)) (x : RecoveredShown) (now : List RegionShown) (tickets : List CallerShown) (advancer : AdvShown)
-    → IsRecovery clock states objects x → length now ≡ length x.regions → EachAt (IsRegionFound x.heap) now → length tickets ≡ length x.tickets
-    → EachAt (IsTicketFound x.heap) tickets → IsAdvancerFound x.heap advancer → AreSwept x.heap now advancer
-    → IsRecovery clock states objects (record x { regions = now; tickets = tickets; advancer = advancer; swept = true })
-after_sweep clock states objects x now tickets advancer k many found callers each adv swept = record {
-  accepted = k.accepted;
-  base = k.base;
-  clock_is = k.clock_is;
-  object_count = k.object_count;
-  objects = k.objects;
-  unit_count = many ∙ k.unit_count;
-  regions = found;
-  some_callers = k.some_callers;
-  caller_count = callers ∙ k.caller_count;
-  tickets = each;
-  advancer = adv;
-  swept = λ e. swept;
-}
-
 -- ---- a stop
+-- what its words are
+pub record LeavesWords (x : RecoveredShown) (words : Words) : Type 0 where
+  pub layout : words.layout ≡ x.heap.opening.layout
+  pub all : AreAllWords x.heap.opening.layout words
+  pub images :
+      (image : List ℕ) → IsPermitted words.cur words.dur image → HoldsBase x.heap.opening.layout x.heap.opening.words image
+
 module _ (clock : ℕ) (states : List State) (objects : List (List Object)) (x : RecoveredShown) (k : IsRecovery clock states objects x) where
   abbrev units : List UnitShown
   units = map (λ (r : RegionShown). r.seat) x.regions
@@ -120,10 +77,44 @@ module _ (clock : ℕ) (states : List State) (objects : List (List Object)) (x :
     durable_is = k.advancer.durable;
   }
 
-  pub keeps_base : (words : Words) → StopsAt x.heap.opening units x.advancer x.tickets words → (image : List ℕ)
-      → IsPermitted words.cur words.dur image → HoldsBase x.heap.opening.layout x.heap.opening.words image
-  keeps_base words stops image permitted =
-      unused_stores_keep_base x.heap.opening states units x.advancer x.tickets words image k.base unused stops permitted
+  leaves_words : (words : Words) → StopsAt x.heap.opening units x.advancer x.tickets words → LeavesWords x words
+  leaves_words words stops =
+      let sizes = (stops.sound states k.base).sizes in record {
+        layout = stops.layout.0;
+        all = record {
+          current = ap length stops.current ∙ (sizes.current ∙ ap words_of stops.layout.1);
+          durable = ap length stops.durable ∙ (sizes.durable ∙ ap words_of stops.layout.1);
+        };
+        images = λ image permitted.
+            unused_stores_keep_base x.heap.opening states units x.advancer x.tickets words image k.base unused stops permitted;
+      }
+
+  pub stop_leaves : {E : Type 0} (result : Result Words E) (us : List UnitShown) → us ≡ units
+      → IfOk result (λ (words : Words). StopsAt x.heap.opening us x.advancer x.tickets words) → IfOk result (LeavesWords x)
+  stop_leaves (Ok words) us is stops =
+      leaves_words words (subst (λ (l : List UnitShown). StopsAt x.heap.opening l x.advancer x.tickets words) is stops)
+  stop_leaves (Err e) us is stops = tt
+
+pub told_layout : {E : Type 0} (x : RecoveredShown) (result : Result Words E) → IfOk result (LeavesWords x)
+    → IfOk result (λ (words : Words). words.layout ≡ x.heap.opening.layout)
+told_layout x (Ok words) is = is.layout
+told_layout x (Err e) is = tt
+
+pub told_all : {E : Type 0} (x : RecoveredShown) (result : Result Words E) → IfOk result (LeavesWords x)
+    → IfOk result (λ (words : Words). AreAllWords x.heap.opening.layout words)
+told_all x (Ok words) is = is.all
+told_all x (Err e) is = tt
+
+pub told_images : {E : Type 0} (x : RecoveredShown) (result : Result Words E) → IfOk result (LeavesWords x)
+    → IfOk result (λ (words : Words). (image : List ℕ) → IsPermitted words.cur words.dur image
+    → HoldsBase x.heap.opening.layout x.heap.opening.words image)
+told_images x (Ok words) is = is.images
+told_images x (Err e) is = tt
+
+-- ---- none is lost
+pub none_after : (heap : HeapShown) (rs : List RegionShown) → All (IsRegionSwept heap) rs → lost_in rs ≡ 0
+none_after heap rs all =
+    none_in rs (All-weaker (IsRegionSwept heap) (λ (r : RegionShown). r.books.lost ≡ []) (λ r swept. swept.none) rs all)
 
 -- ---- a slice that was written whole
 pub whole_written : {A : Type 0} (old new : List A) (len : ℕ) → length new ≡ length old → len ≡ length old

@@ -59,13 +59,13 @@ pub record AreSwept (heap : HeapShown) (regions : List RegionShown) (advancer : 
 -- Recovery accepts the words with which the store was opened. They have this clock, these states
 -- are recovered from them, and these are the live objects of its units.
 pub record IsRecovery
-    (clock : ℕ) (states : List State) (objects : List (List Object)) (x : RecoveredShown)
+    (clock : ℕ) (states : List State) (live : List (List Object)) (x : RecoveredShown)
     : Type 0 where
   pub accepted : IsWellFormed x.heap.opening.layout x.heap.opening.words
   pub base : IsRecovered x.heap.opening.layout x.heap.opening.words states
   pub clock_is : clock ≡ clock_of x.heap.opening.words
-  pub object_count : length objects ≡ units_of x.heap.opening.layout
-  pub objects : EachAt (AreLiveObjects x.heap) objects
+  pub object_count : length live ≡ units_of x.heap.opening.layout
+  pub objects : EachAt (AreLiveObjects x.heap) live
   pub unit_count : length x.regions ≡ units_of x.heap.opening.layout
   pub regions : EachAt (IsRegionFound x.heap) x.regions
   pub some_callers : 1 ≤ x.heap.opening.callers

@@ -91,10 +91,7 @@ fn open_image(
 }
 
 // The objects of all units.
-fn objects_of(
-    alloc: Global,
-    found: Sequence<FoundUnit>,
-) -> Result<Vec<Vec<Object>>, AllocError>
+fn objects_of(alloc: Global, found: Sequence<FoundUnit>) -> Result<Vec<Vec<Object>>, AllocError>
     ensures { IfOk result (λ objects. map (λ v. v.items) objects.items
         ≡ map (λ f. f.objects) found) }
 {

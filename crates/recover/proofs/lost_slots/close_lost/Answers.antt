@@ -1,4 +1,4 @@
-use Rattle.std.proofs.Common.{◌≡◌, ℕ, ◌+◌, Bool, length, ap, refl, subst, arith}
+use Rattle.std.proofs.Common.{◌≡◌, Bool, length, ap, subst, arith}
 use Rattle.heap.specs.GateAsked.{IsAskedOften}
 use Rattle.write_back.proofs.Asking.{asked_more}
 use Rattle.found_regions.proofs.FoundRegions.{region_swept, region_cut}
@@ -30,9 +30,9 @@ loop-turn-preserved g c =
     let i = c.loop-turn.invariant in
     let e = c.in_ok-sweep_one.ensures in record {
       gate = asked_more _ _ _ _ _ _ i.gate e.gate;
-      found = region_swept _ _ _ i.found _ e.swept e.agrees e.stage;
+      found = region_swept _ _ c.loop-turn.region i.found c.sweep_one.new.self e.swept e.agrees e.stage;
       many = i.many;
-      left = one_less _ _ c.loop-turn._turn c.lost-many.result e.swept i.left (let low = c.loop-turn-test.true in omega (arith, low));
+      left = one_less c.loop-turn.region c.sweep_one.new.self c.loop-turn._turn c.lost-many.result e.swept i.left (let low = c.loop-turn-test.true in omega (arith, low));
     }
 
 pub returns-in_err-sweep_one-clause-gate : goal.returns-in_err-sweep_one-clause-gate
@@ -43,7 +43,7 @@ returns-in_err-sweep_one-clause-gate g c =
 pub returns-in_err-sweep_one-clause-found : goal.returns-in_err-sweep_one-clause-found
 returns-in_err-sweep_one-clause-found g c =
     let e = c.in_err-sweep_one.ensures in
-    region_cut _ _ _ c.loop-turn.invariant.found _ e.cut e.agrees e.stage
+    region_cut _ _ c.loop-turn.region c.loop-turn.invariant.found c.sweep_one.new.self e.cut e.agrees e.stage
 
 pub returns-in_err-sweep_one-clause-fewer : goal.returns-in_err-sweep_one-clause-fewer
 returns-in_err-sweep_one-clause-fewer g c =

@@ -1,7 +1,5 @@
-use Rattle.std.proofs.Common.{◌≡◌, [], sym, subst}
-use Rattle.std.specs.Prelude.{All}
+use Rattle.std.proofs.Common.{sym, subst}
 use Rattle.core_steps.specs.Places.{EachAt}
-use Rattle.slots.specs.Books.{RegionShown}
 use Rattle.found_regions.specs.FoundRegion.{IsRegionFound}
 use Rattle.recover.proofs.notes.carry_notes.Goals as goal
 

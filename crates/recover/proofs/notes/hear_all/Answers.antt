@@ -1,12 +1,10 @@
-use Rattle.std.proofs.Common.{◌≡◌, ℕ, ◌+◌, List, length, get_or, true, refl, ap, sym, ◌∙◌, subst, arith}
+use Rattle.std.proofs.Common.{◌≡◌, length, get_or, refl, ap, sym, ◌∙◌, subst, arith}
 use Rattle.core_steps.specs.Places.{EachAt}
 use Rattle.std.specs.Prelude.{All, []}
 use Rattle.std.proofs.lemmas.List.Elements.{All-get_or}
-use Rattle.heap.specs.HeapShown.{CallerShown}
-use Rattle.heap_rule.specs.Views.{are_clean, note_of_unit}
+use Rattle.heap_rule.specs.Views.{note_of_unit}
 use Rattle.slots.specs.Books.{RegionShown}
 use Rattle.found_regions.specs.FoundRegion.{IsRegionFound}
-use Rattle.found_regions.proofs.Cleaned.{one_more_known}
 use Rattle.recover.specs.FoundTicket.{IsTicketFound}
 use Rattle.recover.proofs.Indexed.{at_got, put_same}
 use Rattle.recover.proofs.Noted.{heard_found, heard_known, known_all}

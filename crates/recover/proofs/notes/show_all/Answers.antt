@@ -1,13 +1,11 @@
-use Rattle.std.proofs.Common.{◌≡◌, ℕ, ◌+◌, List, [], length, length-set, take, get_or, true, refl, ap, sym, ◌∙◌, subst, arith}
-use Rattle.std.specs.Prelude.{All}
+use Rattle.std.proofs.Common.{◌≡◌, [], length-set, get_or, refl, ap, sym, ◌∙◌, subst, arith}
 use Rattle.std.proofs.lemmas.List.Elements.{All-nil, All-get_or, All-set}
-use Rattle.core_steps.specs.Places.{EachAt}
 use Rattle.heap.specs.HeapShown.{CallerShown}
 use Rattle.slots.specs.Books.{RegionShown}
 use Rattle.found_regions.specs.FoundRegion.{IsRegionFound, IsRegionSwept}
 use Rattle.recover.specs.FoundTicket.{knows_all}
 use Rattle.recover.proofs.Indexed.{at_got, all_with_next, all_taken, each_with}
-use Rattle.recover.proofs.Noted.{region_shown, shown_found, shown_swept}
+use Rattle.recover.proofs.Noted.{shown_found, shown_swept}
 use Rattle.recover.proofs.notes.show_all.Goals as goal
 
 pub loop-unit-init : goal.loop-unit-init

@@ -1,12 +1,12 @@
-use Rattle.std.proofs.Common.{◌≡◌, ℕ, ◌+◌, List, length, take, drop, ◌++◌, refl, ap, sym, ◌∙◌, subst, arith}
+use Rattle.std.proofs.Common.{◌≡◌, length, take, drop, ◌++◌, refl, ap, sym, ◌∙◌, subst, arith}
 use Rattle.std.specs.Prelude.{All}
 use Rattle.std.proofs.lemmas.Option.{slice_get_read}
 use Rattle.core_steps.specs.Places.{EachAt}
-use Rattle.slots.specs.Books.{RegionShown}
 use Rattle.found_regions.specs.FoundRegion.{IsRegionFound, IsRegionSwept}
 use Rattle.recover.specs.FoundTicket.{IsTicketFound}
 use Rattle.recover.proofs.Indexed.{each_with}
-use Rattle.recover.proofs.Sweeps.{advancer_knows, whole_written}
+use Rattle.recover.specs.Recovery.{AreSwept}
+use Rattle.recover.proofs.Sweeps.{advancer_knows, whole_written, none_after}
 use Rattle.recover.proofs.sweeping.close_and_tell.Goals as goal
 
 pub close_lost_slots-requires : goal.close_lost_slots-requires
@@ -70,3 +70,9 @@ returns-clause-swept g c =
       known = advancer_knows c.args.heap.now c.args.advancer.now c.carry_notes.new.advancer c.carry_notes.new.ticket.held
           c.carry_notes.ensures.known c.carry_notes.ensures.advancer;
     }
+
+pub returns-clause-fewer : goal.returns-clause-fewer
+returns-clause-fewer g c =
+    let swept : AreSwept _ _ _ = returns-clause-swept g c in
+    let none = none_after _ _ swept.each_unit in
+    omega (arith, none)

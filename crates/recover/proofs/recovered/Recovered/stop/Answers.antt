@@ -1,11 +1,9 @@
-use Rattle.std.proofs.Common.{◌≡◌, ℕ, List, sym, subst, refl}
-use Rattle.std.specs.Prelude.{IfOk, Ok, Err}
-use Rattle.std.specs.declared.result.Result.{Result}
-use Rattle.mont_base.specs.declared.memory.Words.{Words}
-use Rattle.mont_base.specs.Image.{IsPermitted}
+use Rattle.std.proofs.Common.{List, sym, subst}
+use Rattle.std.specs.Prelude.{IfOk}
 use Rattle.heap.specs.HeapShown.{UnitShown}
-use Rattle.heap.specs.Stops.{AreAllSeats, AreAtHome, StopsAt}
-use Rattle.recover.proofs.Sweeps.{all_seats, at_home, stopped_so}
+use Rattle.heap.specs.Stops.{AreAllSeats, AreAtHome}
+use Rattle.recover.specs.Recovery.{RecoveredShown}
+use Rattle.recover.proofs.Sweeps.{LeavesWords, all_seats, at_home, stop_leaves, told_layout, told_all, told_images}
 use Rattle.recover.proofs.recovered.Recovered.stop.Goals as goal
 
 pub stop-requires-clause-seats : goal.stop-requires-clause-seats
@@ -15,3 +13,20 @@ stop-requires-clause-seats c =
 
 pub stop-requires-clause-home : goal.stop-requires-clause-home
 stop-requires-clause-home c = subst AreAtHome (sym c.in_ok-units.ensures) (at_home _ _ _ _ c.self.invariant)
+
+pub returns : goal.returns
+returns c =
+    let x : RecoveredShown = record {
+      heap = c.self.inside.heap;
+      regions = c.self.inside.regions.items;
+      tickets = c.self.inside.tickets.items;
+      advancer = c.self.inside.advancer;
+      swept = c.self.inside.swept;
+    } in
+    let leaves = subst (λ (y : RecoveredShown). IfOk c.stop.result (LeavesWords y)) c.self.view_is
+    (stop_leaves _ _ _ x c.self.invariant c.stop.result c.in_ok-units.units.items c.in_ok-units.ensures c.stop.ensures) in
+    record {
+      layout = told_layout _ c.stop.result leaves;
+      all = told_all _ c.stop.result leaves;
+      images = told_images _ c.stop.result leaves;
+    }
