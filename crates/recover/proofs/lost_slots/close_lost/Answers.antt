@@ -1,4 +1,4 @@
-use Rattle.std.proofs.Common.{◌≡◌, Bool, length, ap, subst, arith}
+use Rattle.std.proofs.Common.{◌≡◌, Bool, false, length, ap, subst, arith}
 use Rattle.heap.specs.GateAsked.{IsAskedOften}
 use Rattle.write_back.proofs.Asking.{asked_more}
 use Rattle.found_regions.proofs.FoundRegions.{region_swept, region_cut}
@@ -29,16 +29,19 @@ pub loop-turn-preserved : goal.loop-turn-preserved
 loop-turn-preserved g c =
     let i = c.loop-turn.invariant in
     let e = c.in_ok-sweep_one.ensures in record {
-      gate = asked_more _ _ _ _ _ _ i.gate e.gate;
+      gate = asked_more g.G.Gate.cuts g.G.Gate.endless c.args.gate.now c.loop-turn.gate c.sweep_one.new.gate false i.gate e.gate;
       found = region_swept _ _ c.loop-turn.region i.found c.sweep_one.new.self e.swept e.agrees e.stage;
       many = i.many;
-      left = one_less c.loop-turn.region c.sweep_one.new.self c.loop-turn._turn c.lost-many.result e.swept i.left (let low = c.loop-turn-test.true in omega (arith, low));
+      left = one_less c.loop-turn.region c.sweep_one.new.self c.loop-turn._turn c.lost-many.result e.swept i.left
+          (let low = c.loop-turn-test.true in omega (arith, low));
     }
 
 pub returns-in_err-sweep_one-clause-gate : goal.returns-in_err-sweep_one-clause-gate
 returns-in_err-sweep_one-clause-gate g c =
     subst (λ (t : Bool). IsAskedOften g.G.Gate.cuts g.G.Gate.endless c.args.gate.now c.sweep_one.new.gate t)
-    (as_err _ c.from_residual.result c.from_residual.ensures.1) (asked_more _ _ _ _ _ _ c.loop-turn.invariant.gate c.in_err-sweep_one.ensures.gate)
+    (as_err _ c.from_residual.result c.from_residual.ensures.1)
+    (asked_more g.G.Gate.cuts g.G.Gate.endless c.args.gate.now c.loop-turn.gate c.sweep_one.new.gate _ c.loop-turn.invariant.gate
+    c.in_err-sweep_one.ensures.gate)
 
 pub returns-in_err-sweep_one-clause-found : goal.returns-in_err-sweep_one-clause-found
 returns-in_err-sweep_one-clause-found g c =

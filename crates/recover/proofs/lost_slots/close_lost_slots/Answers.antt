@@ -1,4 +1,4 @@
-use Rattle.std.proofs.Common.{◌≡◌, ℕ, Bool, [], length-set, refl, ◌∙◌, subst, arith}
+use Rattle.std.proofs.Common.{◌≡◌, ℕ, Bool, false, [], length-set, refl, ◌∙◌, subst, arith}
 use Rattle.std.proofs.lemmas.List.Elements.{All-nil}
 use Rattle.heap.specs.GateAsked.{IsAskedOften}
 use Rattle.slots.specs.Books.{RegionShown}
@@ -29,7 +29,7 @@ loop-unit-preserved g c =
     let i = c.loop-unit.invariant in
     let e = c.in_ok-close_lost.ensures in
     let was = at_got _ _ c.loop-unit.unit c.index-regions-unit.result (omega arith) c.index-regions-unit.is i.found in record {
-      gate = asked_more _ _ _ _ _ _ i.gate e.gate;
+      gate = asked_more g.G.Gate.cuts g.G.Gate.endless c.args.gate.now c.loop-unit.gate c.close_lost.new.gate false i.gate e.gate;
       many = length-set c.loop-unit.regions c.loop-unit.unit c.close_lost.new.region ∙ i.many;
       found = each_with (IsRegionFound c.args.heap.now) _ c.loop-unit.unit c.close_lost.new.region i.found
           (subst (λ (u : ℕ). IsRegionFound c.args.heap.now u c.close_lost.new.region) was.of_unit e.found);
@@ -44,7 +44,9 @@ loop-unit-preserved g c =
 pub returns-in_err-close_lost-clause-gate : goal.returns-in_err-close_lost-clause-gate
 returns-in_err-close_lost-clause-gate g c =
     subst (λ (t : Bool). IsAskedOften g.G.Gate.cuts g.G.Gate.endless c.args.gate.now c.close_lost.new.gate t)
-    (as_err _ c.from_residual.result c.from_residual.ensures.1) (asked_more _ _ _ _ _ _ c.loop-unit.invariant.gate c.in_err-close_lost.ensures.gate)
+    (as_err _ c.from_residual.result c.from_residual.ensures.1)
+    (asked_more g.G.Gate.cuts g.G.Gate.endless c.args.gate.now c.loop-unit.gate c.close_lost.new.gate _ c.loop-unit.invariant.gate
+    c.in_err-close_lost.ensures.gate)
 
 pub returns-in_err-close_lost-clause-found : goal.returns-in_err-close_lost-clause-found
 returns-in_err-close_lost-clause-found g c =
