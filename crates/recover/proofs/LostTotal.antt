@@ -31,7 +31,8 @@ module _ (s : Shape) (image : List ℕ) where
       let here : r.books.lost ≡ slots_beyond s image u =
       each 0 r refl ∙ ap (slots_beyond s image) (let e : u + 0 ≡ u = omega arith in e) in
       let same : length r.books.lost ≡ length (lost_among image (range_with_len (u * s.slots) s.slots)) = ap length here in
-      let rest = lost_from (suc u) rs (λ i q e. each (suc i) q e ∙ ap (slots_beyond s image) (let e : u + suc i ≡ suc u + i = omega arith in e)) in
+      let rest = lost_from (suc u) rs (λ i q e. each (suc i) q e
+      ∙ ap (slots_beyond s image) (let e : u + suc i ≡ suc u + i = omega arith in e)) in
       let next : suc u * s.slots ≡ u * s.slots + s.slots = omega arith in
       let whole : length (lost_among image (range_with_len (u * s.slots) (s.slots + length rs * s.slots)))
       ≡ length (lost_among image (range_with_len (u * s.slots) s.slots))

@@ -22,8 +22,8 @@ use std::alloc::{AllocError, Global};
 use std::thread::Threads;
 
 /// The store of an image, with a ticket for each of its callers. How it is found is the same for
-/// any number of workers. The image is refused for its first fault in the order of `RecoverRefusal`,
-/// or for want of memory.
+/// any number of workers. The image is refused for its first fault in the order of
+/// `RecoverRefusal`, or for want of memory.
 pub fn recover(
     rt: &(impl Threads + Sync),
     alloc: Global,
@@ -151,7 +151,8 @@ fn region_of(
     requires layout { layout ≡ heap.now.opening.layout }
     requires accepted { IsWellFormed layout heap.now.opening.words }
     requires inside { unit < units_of layout }
-    requires seat { seat ≡ record { table = heap.now.table; held = first_unit heap.now.opening unit } }
+    requires seat { seat
+        ≡ record { table = heap.now.table; held = first_unit heap.now.opening unit } }
     requires records { records.now ≡ records_found heap.now unit }
     requires lost { lost.now ≡ slots_beyond layout heap.now.opening.words unit }
     ensures { IfOk result (λ region. IsRegionOpened heap.now unit region) }

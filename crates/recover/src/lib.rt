@@ -1,5 +1,5 @@
-//! A store that is opened from an image: its heap and its units, whose slots beyond the cut are then
-//! closed. A crash at any moment of that leaves an image with the same clock and contents.
+//! A store that is opened from an image: its heap and its units, whose slots beyond the cut are
+//! then closed. A crash at any moment of that leaves an image with the same clock and contents.
 #![tactic(auto)]
 
 mod image_opening;

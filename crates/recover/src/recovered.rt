@@ -16,11 +16,11 @@ use slots::Region;
 use std::alloc::{AllocError, Global};
 use std::marker::Model;
 
-/// A store that was opened from an image: its heap, the regions of its units, and the tickets of its
-/// callers.
+/// A store that was opened from an image: its heap, the regions of its units, and the tickets of
+/// its callers.
 ///
-/// Contracts see of which heap it is, and what its parts show. Its contents are what recovery rebuilds
-/// of the words with which the heap opened.
+/// Contracts see of which heap it is, and what its parts show. Its contents are what recovery
+/// rebuilds of the words with which the heap opened.
 #[derive(Drop)]
 pub struct Recovered {
     pub(crate) heap: Heap,
@@ -99,13 +99,14 @@ impl Recovered {
         self.swept
     }
 
-    /// Closes every slot beyond the cut durably, and then tells every part of it. After a cut it can
-    /// be called again. It takes no memory.
+    /// Closes every slot beyond the cut durably, and then tells every part of it. After a cut it
+    /// can be called again. It takes no memory.
     pub fn sweep<G: Gate>(&mut self, gate: &mut G) -> Result<(), Cut>
         ensures gate { IsAskedOften G.cuts G.endless gate.old gate.new (is_err result) }
         ensures store { self.new.heap ≡ self.old.heap }
         ensures fewer { lost_in self.new.regions ≤ lost_in self.old.regions }
-        ensures swept { OnOk result ((self.new.swept ≡ true) × (lost_in self.new.regions ≡ 0)) }
+        ensures swept { OnOk result
+            ((self.new.swept ≡ true) × (lost_in self.new.regions ≡ 0)) }
     {
         if self.swept {
             return Ok(());

@@ -6,7 +6,8 @@ pub fn stopped_stores_are_recovered()
     ensures { StoppedStoresAreRecovered }
 {}
 
-/// Neither does it where the store was opened from an image and stopped, wherever its sweep was cut.
+/// Neither does it where the store was opened from an image and stopped, wherever its sweep was
+/// cut.
 pub fn swept_stores_are_recovered()
     ensures { SweptStoresAreRecovered }
 {}

@@ -22,8 +22,7 @@ const WORKERS: [u64; 6] = [1, 2, 3, 5, 8, 64];
 enum Question {
     /// What the image holds, by any number of workers.
     Recover,
-    /// What a sweep leaves that is cut after each number of steps up to this one, as each mask picks
-    /// it.
+    /// What a sweep leaves that is cut after each number of steps up to this one, as a mask picks it.
     Stops { most: u64, mask: u64 },
     /// Whether so many chains of cut sweeps and crashes keep clock and contents.
     Chains { seeds: u64, rounds: u64 },

@@ -9,8 +9,9 @@ use std::thread::Threads;
 // A sweep is given fewer steps than this.
 const STEPS: u64 = 20;
 
-/// Follows so many chains of an image, each by a number of its own from which it draws where a sweep is
-/// cut and which image a crash leaves. It tells where the first of them changes the clock or the contents.
+/// Follows so many chains of an image, each by a number of its own from which it draws where a sweep
+/// is cut and which image a crash leaves. It tells where the first of them changes the clock or the
+/// contents, or leaves more slots lost.
 pub fn follow_chains<R: AllocGlobal + Threads + Sync>(
     rt: &R,
     alloc: Global,

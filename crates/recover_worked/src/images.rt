@@ -1,5 +1,5 @@
-// Images as cases write them: the kinds of the units, the slots of each unit and the clock in the first
-// line, and in each further line a slot with the first of its words. Its other words are 0.
+// Images as cases write them: the kinds of the units, the slots of each unit and the clock in the
+// first line, and in each further line a slot with the first of its words. Its other words are 0.
 use case_file::Unanswered;
 use mont_base::{FIELDS, FIRST_CLOCK, Kinds, LAST, Layout, Sequence, Words};
 use mont_image::{Image, pick};

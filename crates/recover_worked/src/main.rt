@@ -1,6 +1,6 @@
-//! Tries what recovery makes of worked images: of each image whether it is accepted, what it holds and
-//! how many slots are lost, and what is left of that after a sweep that was cut at each of its steps.
-//! The files of cases are named on the command line.
+//! Tries what recovery makes of worked images: of each image whether it is accepted, what it holds
+//! and how many slots are lost, and what is left of that after a sweep that was cut at each of its
+//! steps. The files of cases are named on the command line.
 #![tactic(auto)]
 
 mod asking;

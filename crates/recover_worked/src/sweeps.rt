@@ -20,8 +20,9 @@ pub struct Left {
 }
 
 /// Stops the store of an image in its sweep, after each number of steps up to one. It tells how many
-/// slots were still to be closed then, how many are lost in the image that the mask picks, which sweeps
-/// were cut, whether a second sweep closes what the first one left, and where clock or contents changed.
+/// slots were still to be closed then, how many are lost in the image that the mask picks, which
+/// sweeps were cut, behind which clock or contents changed, and behind which a second sweep doesn't
+/// close what the first one left.
 pub fn stop_in_sweep<R: AllocGlobal + Threads + Sync>(
     rt: &R,
     alloc: Global,
@@ -41,8 +42,16 @@ pub fn stop_in_sweep<R: AllocGlobal + Threads + Sync>(
         push_number(&mut open, left.open)?;
         push_number(&mut lost, found.lost())?;
         push_where(&mut cut, left.cut, steps)?;
-        push_where(&mut changed, kept_of(alloc, image.layout, &found)?.as_slice() != kept.as_slice(), steps)?;
-        push_where(&mut unswept, !is_swept_again(rt, alloc, image, steps, mask)?, steps)?;
+        push_where(
+            &mut changed,
+            kept_of(alloc, image.layout, &found)?.as_slice() != kept.as_slice(),
+            steps,
+        )?;
+        push_where(
+            &mut unswept,
+            !is_swept_again(rt, alloc, image, steps, mask)?,
+            steps,
+        )?;
     }
     Ok(format!(in alloc; "{open}\n{lost}\n{cut}\n{changed}\n{unswept}\n")?.into_bytes())
 }

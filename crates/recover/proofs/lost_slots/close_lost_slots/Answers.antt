@@ -65,4 +65,5 @@ returns-in_err-close_lost-clause-fewer g c =
 
 pub returns-clause-none : goal.returns-clause-none
 returns-clause-none g c =
-    all_taken (λ (r : RegionShown). r.books.lost ≡ []) _ c.loop-unit.unit (let end = c.loop-unit-test.false in omega (arith, end)) c.loop-unit.invariant.none
+    all_taken (λ (r : RegionShown). r.books.lost ≡ []) _ c.loop-unit.unit (let end = c.loop-unit-test.false in omega (arith, end))
+    c.loop-unit.invariant.none

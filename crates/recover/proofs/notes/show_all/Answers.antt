@@ -19,7 +19,8 @@ loop-unit-init c = record {
 
 pub show-requires-clause-region : goal.show-requires-clause-region
 show-requires-clause-region c =
-    (at_got _ _ c.loop-unit.unit c.index-regions-unit.result (omega arith) c.index-regions-unit.is c.loop-unit.invariant.found).of_heap.table
+    (at_got _ _ c.loop-unit.unit c.index-regions-unit.result (omega arith) c.index-regions-unit.is
+    c.loop-unit.invariant.found).of_heap.table
 
 pub show-requires-clause-ticket : goal.show-requires-clause-ticket
 show-requires-clause-ticket c = ap (λ (t : CallerShown). t.table) c.loop-unit.invariant.ticket ∙ c.requires.ticket
