@@ -1,0 +1,10 @@
+pub mod Dealt
+pub mod Indexed
+pub mod LostTotal
+pub mod Noted
+pub mod Opened
+pub mod Passed
+pub mod StoppedImages
+pub mod StoppedWords
+pub mod Sweeps
+pub mod Turns

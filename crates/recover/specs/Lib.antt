@@ -1,0 +1,4 @@
+pub mod FoundTicket
+pub mod Recovery
+pub mod StoppedImages
+pub mod StoppedWords

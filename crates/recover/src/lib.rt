@@ -1,0 +1,19 @@
+//! A store that is opened from an image: its heap and its units, whose slots beyond the cut are
+//! then closed. A crash at any moment of that leaves an image with the same clock and contents.
+#![tactic(auto)]
+
+mod image_opening;
+mod lost_slots;
+mod notes;
+mod parts;
+mod recovered;
+mod stopped_images;
+mod stopped_words;
+mod sweeping;
+
+pub use image_opening::recover;
+pub use image_units::{FoundImage, FoundUnit, ImageFault, RecoverRefusal, find_units};
+pub use parts::Parts;
+pub use recovered::Recovered;
+pub use stopped_images::{stopped_stores_are_recovered, swept_stores_are_recovered};
+pub use stopped_words::unused_stores_keep_base;
