@@ -1,0 +1,5 @@
+mod Kept
+mod Listed
+mod Placed
+mod Prefixes
+mod Ranged

@@ -1,0 +1,4 @@
+mod Balance
+mod Named
+mod Rebuilt
+mod Settled
