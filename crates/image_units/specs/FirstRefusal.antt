@@ -1,5 +1,5 @@
 -- The first reason why recovery refuses an image.
-use Rattle.std.specs.Prelude.{◌≢◌, ℕ, ◌<◌, List}
+use Rattle.std.specs.Prelude.{◌≡◌, ◌≢◌, ℕ, ◌<◌, List}
 use Rattle.mont_base.specs.declared.record.ObjectFault.{ObjectFault}
 use Rattle.mont_base.specs.Image.{IsWellFormed, records_of}
 use Rattle.mont_base.specs.Layout.{Shape, units_of}
@@ -37,3 +37,8 @@ IsFirstRefusal s image Memory = Unit {0}
 abbrev pub RefusedImagesAreMalformed : Type 0
 RefusedImagesAreMalformed = (s : Shape) (image : List ℕ) (refusal : RecoverRefusal)
     → refusal ≢ Memory → IsFirstRefusal s image refusal → IsWellFormed s image → ⊥
+
+-- and it has one such refusal at most, so no number of workers finds another
+abbrev pub RefusalsAreOne : Type 0
+RefusalsAreOne = (s : Shape) (image : List ℕ) (a b : RecoverRefusal) → a ≢ Memory → b ≢ Memory
+    → IsFirstRefusal s image a → IsFirstRefusal s image b → a ≡ b

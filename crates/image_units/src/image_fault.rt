@@ -8,9 +8,9 @@ use mont_base::{ObjectFault, Slot, SlotFault, Unit};
 use mont_image::ImageRefusal;
 use std::fmt;
 
-/// What is wrong with an image. The first six are faults of its bytes, the others of what they hold,
-/// and the order of the variants is that in which they are tried, but that an end within the first
-/// five words comes before all.
+/// What is wrong with an image. The first six are faults of its bytes, the others of what they
+/// hold, and the order of the variants is that in which they are tried, but that an end within the
+/// first five words comes before all.
 #[derive(Clone, Copy, Debug, PartialEq, Eq)]
 pub enum ImageFault {
     Magic,

@@ -1,5 +1,5 @@
-//! What an image holds, unit by unit: the records that recovery keeps, the slots that it closes, the
-//! live objects and the structure that they make, or the first reason why recovery refuses it.
+//! What an image holds, unit by unit: the records that recovery keeps, the slots that it closes,
+//! the live objects and the structures that they make, or the first reason why it is refused.
 #![tactic(auto)]
 
 mod fault_words;
@@ -16,6 +16,6 @@ mod versions;
 pub use finding::find_units;
 pub use found::{FoundImage, FoundUnit};
 pub use image_fault::ImageFault;
-pub use laws::refused_images_are_malformed;
+pub use laws::{refusals_are_one, refused_images_are_malformed};
 pub use refusal::RecoverRefusal;
 pub use versions::check_versions;

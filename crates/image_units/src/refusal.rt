@@ -10,8 +10,8 @@ use scan::ScanRefusal;
 use std::alloc::{AllocError, AllocFailed};
 use std::fmt;
 
-/// Why recovery refuses an image. The order of the variants is that in which they are tried, each in
-/// all of the image.
+/// Why recovery refuses an image. The order of the variants is that in which they are tried, each
+/// in all of the image.
 #[derive(Clone, Copy, Debug, PartialEq, Eq)]
 pub enum RecoverRefusal {
     /// The lowest slot within the cut that holds no record, and its first fault.
@@ -19,8 +19,8 @@ pub enum RecoverRefusal {
         slot: Slot,
         fault: SlotFault,
     },
-    /// The lowest slot whose record has the identity and version of one in a lower slot of its unit,
-    /// which is the other.
+    /// The lowest slot whose record has the identity and version of one in a lower slot of its
+    /// unit, which is the other.
     Twice {
         slot: Slot,
         other: Slot,

@@ -16,8 +16,8 @@ type Slots = &'static [(usize, &'static [u64])];
 // Of each unit the slots of its records, of what is lost, and of its live objects.
 type Units = &'static [(&'static [Slot], &'static [Slot], &'static [Slot])];
 
-// The codes of the kinds, which slots aren't closed, and what is found. Each unit has eight slots, and
-// the clock is 4.
+// The codes of the kinds, which slots aren't closed, and what is found. Each unit has eight slots,
+// and the clock is 4.
 type Row = (&'static [u64], Slots, Result<Units, RecoverRefusal>);
 
 const ZEROS: &[u64] = &[0; 12];

@@ -33,8 +33,16 @@ loop-unit-preserved c =
     let Made : ℕ → State → Type 0 = λ u state. IsStructure s u (live_objects (records_of s words u)) state in
     let are = c.as_slice.ensures ∙ c.in_ok-found.ensures.objects in
     record {
-      many = omega (arith, ap length c.in_ok-push.ensures.ok ∙ length-append c.loop-unit.units (c.in_ok-found.found ∷ []), c.loop-unit.invariant.many);
-      built = omega (arith, ap length c.in_ok-push-in-Ok.ensures.ok ∙ length-append c.loop-unit.states (c.in-Ok.state ∷ []), c.loop-unit.invariant.built);
+      many = omega (
+        arith,
+        c.loop-unit.invariant.many,
+        ap length c.in_ok-push.ensures.ok ∙ length-append c.loop-unit.units (c.in_ok-found.found ∷ []),
+      );
+      built = omega (
+        arith,
+        c.loop-unit.invariant.built,
+        ap length c.in_ok-push-in-Ok.ensures.ok ∙ length-append c.loop-unit.states (c.in-Ok.state ∷ []),
+      );
       each = subst (λ (fs : List FoundUnit). (u : ℕ) (f : FoundUnit) → slice_get fs u ≡ Some f → IsFoundUnit s words u f)
           (sym c.in_ok-push.ensures.ok)
           (each_more (IsFoundUnit s words) c.loop-unit.units c.in_ok-found.found c.loop-unit.invariant.each
