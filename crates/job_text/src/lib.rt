@@ -55,10 +55,3 @@ pub use report::Report;
 pub use report_reader::read_report;
 pub use report_refusal::ReportRefusal;
 pub use report_writer::write_report;
-
-#[cfg(test)]
-mod map_runs;
-#[cfg(test)]
-mod round_trips;
-#[cfg(test)]
-mod tests;

@@ -77,6 +77,3 @@ fn next_contents(
     let contents = next_units(alloc, lines, layout)?;
     Ok((clock, contents))
 }
-
-#[cfg(test)]
-mod tests;

@@ -45,6 +45,3 @@ fn write_image(text: &mut String, clock: Epoch, contents: &Contents) -> Result<(
     writeln!(text, "image {clock}")?;
     write_units(text, contents.units.as_slice())
 }
-
-#[cfg(test)]
-mod tests;

@@ -176,6 +176,3 @@ fn holds_state(contents: &Contents, unit: Unit, state: &UnitState) -> bool
         None => false,
     }
 }
-
-#[cfg(test)]
-mod tests;

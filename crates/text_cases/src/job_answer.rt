@@ -1,0 +1,62 @@
+// What is told of the text of a job.
+ghost use Rattle.std.specs.Prelude.{◌<◌};
+
+use crate::job_outcome::outcome_of;
+use case_file::{Case, Unanswered, numbers_in};
+use job_text::{Grammar, READ_BYTES};
+use std::alloc::Global;
+
+/// A line for each grammar: what comes of the text, whose source gives it in pieces of several sizes
+/// or of those of the part `pieces`, and fails in the calls of the part `failing calls`.
+pub fn answer_job(alloc: Global, case: &Case, text: &[u8]) -> Result<Vec<u8>, Unanswered> {
+    let pieces = match case.part("pieces") {
+        Some(words) => numbers_in(alloc, "pieces", words)?,
+        None => vec![in alloc; 1, 7, READ_BYTES as u64]?,
+    };
+    let failing = match case.part("failing calls") {
+        Some(words) => numbers_in(alloc, "failing calls", words)?,
+        None => Vec::new(alloc),
+    };
+    let (pieces, failing) = (pieces.as_slice(), failing.as_slice());
+    let mut answer = String::new(alloc);
+    write!(answer, "whole grammar: ")?;
+    push_outcomes(&mut answer, alloc, Grammar::Whole, text, pieces, failing)?;
+    write!(answer, "first path: ")?;
+    push_outcomes(
+        &mut answer,
+        alloc,
+        Grammar::FirstPath,
+        text,
+        pieces,
+        failing,
+    )?;
+    Ok(answer.into_bytes())
+}
+
+// What comes of the text in pieces of each size, which is told once where it stays the same.
+fn push_outcomes(
+    answer: &mut String,
+    alloc: Global,
+    grammar: Grammar,
+    text: &[u8],
+    pieces: &[u64],
+    failing: &[u64],
+) -> Result<(), Unanswered> {
+    let mut told = None;
+    for piece in pieces {
+        let piece = *piece;
+        if piece == 0 {
+            return Err(Unanswered::Unclear { head: "pieces" });
+        }
+        let outcome = outcome_of(alloc, grammar, text, piece, failing)?;
+        if told != Some(outcome) {
+            if told.is_some() {
+                write!(answer, ", but in pieces of {piece} ")?;
+            }
+            write!(answer, "{outcome}")?;
+            told = Some(outcome);
+        }
+    }
+    writeln!(answer)?;
+    Ok(())
+}

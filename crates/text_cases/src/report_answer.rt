@@ -1,0 +1,44 @@
+// What is told of the text of a report.
+use crate::report_outcome::ReportOutcome;
+use case_file::{Case, Unanswered};
+use job_text::{Report, write_contents};
+use std::alloc::{AllocError, Global};
+
+/// Whether the text is read back, or the line that is refused. A part `show` asks for the text of the
+/// contents that the report ends with, or for its entries and outcomes one by one.
+pub fn answer_report(alloc: Global, case: &Case, text: &[u8]) -> Result<Vec<u8>, Unanswered> {
+    match ReportOutcome::of(alloc, text)? {
+        ReportOutcome::Read { report, same: true } => answer_read(alloc, case, &report),
+        ReportOutcome::Read { .. } => Ok(b"a report whose text is another\n".to_vec(alloc)?),
+        ReportOutcome::Refused { line } => Ok(format!(in alloc; "line {line}\n")?.into_bytes()),
+    }
+}
+
+fn answer_read(alloc: Global, case: &Case, report: &Report) -> Result<Vec<u8>, Unanswered> {
+    match case.part("show") {
+        None => Ok(b"read back\n".to_vec(alloc)?),
+        Some(b"contents\n") => {
+            let (layout, clock) = (report.layout, report.image_clock);
+            Ok(write_contents(alloc, layout, clock, &report.contents)?)
+        }
+        Some(b"entries\n") => Ok(entries_of(alloc, report)?),
+        Some(_) => Err(Unanswered::Unclear { head: "show" }),
+    }
+}
+
+// The entries of all units and the outcomes of all callers, one a line, by the names of their
+// variants and fields.
+fn entries_of(alloc: Global, report: &Report) -> Result<Vec<u8>, AllocError> {
+    let mut shown = String::new(alloc);
+    for history in report.histories.as_slice() {
+        for entry in history.as_slice() {
+            writeln!(shown, "{entry:?}")?;
+        }
+    }
+    for outcomes in report.outcomes.as_slice() {
+        for outcome in outcomes.as_slice() {
+            writeln!(shown, "{outcome:?}")?;
+        }
+    }
+    Ok(shown.into_bytes())
+}
