@@ -2,7 +2,7 @@
 use crate::chains::follow_chains;
 use crate::images::{image_of, number_of};
 use crate::sweeps::stop_in_sweep;
-use case_file::Unanswered;
+use crate::trouble::Trouble;
 use job_text::write_contents;
 use mont_base::Layout;
 use mont_image::Image;
@@ -11,8 +11,8 @@ use std::alloc::Global;
 use std::str;
 use std::thread::Threads;
 
-/// How many callers each store has.
-pub const CALLERS: u64 = 4;
+// How many callers each store has.
+const CALLERS: u64 = 4;
 
 // By how many workers each image is scanned.
 const WORKERS: [u64; 6] = [1, 2, 3, 5, 8, 64];
@@ -22,7 +22,7 @@ const WORKERS: [u64; 6] = [1, 2, 3, 5, 8, 64];
 enum Question {
     /// What the image holds, by any number of workers.
     Recover,
-    /// What a sweep leaves that is cut after each number of steps up to this one, as a mask picks it.
+    /// What a sweep leaves that is cut after each number of steps up to one, as a mask picks it.
     Stops { most: u64, mask: u64 },
     /// Whether so many chains of cut sweeps and crashes keep clock and contents.
     Chains { seeds: u64, rounds: u64 },
@@ -33,14 +33,14 @@ pub fn answers_of<R: AllocGlobal + Threads + Sync>(
     rt: &R,
     image: &[u8],
     asked: &[u8],
-) -> Result<Vec<u8>, Unanswered> {
+) -> Result<Vec<u8>, Trouble> {
     let alloc = rt.alloc();
     let image = image_of(alloc, image)?;
     let mut answers = Vec::new(alloc);
     for line in asked.split(|byte| *byte == b'\n') {
         if !line.is_empty() {
             let Some(question) = question_of(line) else {
-                return Err(Unanswered::Unclear { head: "ask" });
+                return Err(Trouble::Ask);
             };
             let answer = answer_to(rt, alloc, &image, question)?;
             answers.extend_from_slice(answer.as_slice())?;
@@ -82,7 +82,7 @@ fn answer_to<R: AllocGlobal + Threads + Sync>(
     alloc: Global,
     image: &Image,
     question: Question,
-) -> Result<Vec<u8>, Unanswered> {
+) -> Result<Vec<u8>, Trouble> {
     match question {
         Question::Recover => found_by_all(rt, alloc, image),
         Question::Stops { most, mask } => stop_in_sweep(rt, alloc, image, most, mask),
@@ -95,7 +95,7 @@ fn found_by_all<R: AllocGlobal + Threads + Sync>(
     rt: &R,
     alloc: Global,
     image: &Image,
-) -> Result<Vec<u8>, Unanswered> {
+) -> Result<Vec<u8>, Trouble> {
     let found = found_by(rt, alloc, image, 4)?;
     for workers in WORKERS {
         if found_by(rt, alloc, image, workers)?.as_slice() != found.as_slice() {
@@ -111,17 +111,29 @@ fn found_by<R: AllocGlobal + Threads + Sync>(
     alloc: Global,
     image: &Image,
     workers: u64,
-) -> Result<Vec<u8>, Unanswered> {
-    prove!(1 <= workers && workers <= 64);
-    match recover(rt, alloc, image, workers, CALLERS) {
-        Ok(recovered) => told(alloc, image.layout, &recovered),
-        Err(RecoverRefusal::Memory) => Err(Unanswered::Memory),
+) -> Result<Vec<u8>, Trouble> {
+    match opened_by(rt, alloc, image, workers)? {
+        Ok(store) => told(alloc, image.layout, &store),
+        Err(RecoverRefusal::Memory) => Err(Trouble::Memory),
         Err(refusal) => Ok(format!(in alloc; "{refusal}\n")?.into_bytes()),
     }
 }
 
+/// The store of an image that isn't of the first version, scanned by 1 to 64 workers.
+pub fn opened_by<R: AllocGlobal + Threads + Sync>(
+    rt: &R,
+    alloc: Global,
+    image: &Image,
+    workers: u64,
+) -> Result<Result<Recovered, RecoverRefusal>, Trouble> {
+    if image.old || workers == 0 || workers > 64 {
+        return Err(Trouble::Image);
+    }
+    Ok(recover(rt, alloc, image, workers, CALLERS))
+}
+
 // What a store that was opened from an image tells of itself.
-fn told(alloc: Global, layout: Layout, store: &Recovered) -> Result<Vec<u8>, Unanswered> {
+fn told(alloc: Global, layout: Layout, store: &Recovered) -> Result<Vec<u8>, Trouble> {
     let (callers, lost) = (store.callers(), store.lost());
     let mut text = format!(in alloc; "callers {callers}, lost {lost}\n")?.into_bytes();
     text.extend_from_slice(kept_of(alloc, layout, store)?.as_slice())?;
@@ -129,6 +141,6 @@ fn told(alloc: Global, layout: Layout, store: &Recovered) -> Result<Vec<u8>, Una
 }
 
 /// What a store keeps: its clock and its contents.
-pub fn kept_of(alloc: Global, layout: Layout, store: &Recovered) -> Result<Vec<u8>, Unanswered> {
+pub fn kept_of(alloc: Global, layout: Layout, store: &Recovered) -> Result<Vec<u8>, Trouble> {
     Ok(write_contents(alloc, layout, store.clock(), store.contents())?)
 }

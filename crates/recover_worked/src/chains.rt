@@ -1,7 +1,7 @@
 // Chains of recoveries whose sweeps are cut, and of crashes behind them.
 use crate::asking::kept_of;
 use crate::sweeps::{cut_sweep, opened};
-use case_file::Unanswered;
+use crate::trouble::Trouble;
 use mont_image::Image;
 use std::alloc::Global;
 use std::thread::Threads;
@@ -9,8 +9,8 @@ use std::thread::Threads;
 // A sweep is given fewer steps than this.
 const STEPS: u64 = 20;
 
-/// Follows so many chains of an image, each by a number of its own from which it draws where a sweep
-/// is cut and which image a crash leaves. It tells where the first of them changes the clock or the
+/// Follows so many chains of an image, each by a number of its own from which it draws where a
+/// sweep is cut and which image a crash leaves. It tells where the first of them changes the clock or the
 /// contents, or leaves more slots lost.
 pub fn follow_chains<R: AllocGlobal + Threads + Sync>(
     rt: &R,
@@ -18,7 +18,7 @@ pub fn follow_chains<R: AllocGlobal + Threads + Sync>(
     image: &Image,
     seeds: u64,
     rounds: u64,
-) -> Result<Vec<u8>, Unanswered> {
+) -> Result<Vec<u8>, Trouble> {
     let kept = kept_of(alloc, image.layout, &opened(rt, alloc, image)?)?;
     for seed in 0..seeds {
         if let Some(round) = first_change(rt, alloc, image, kept.as_slice(), seed, rounds)? {
@@ -36,7 +36,7 @@ fn first_change<R: AllocGlobal + Threads + Sync>(
     kept: &[u8],
     seed: u64,
     rounds: u64,
-) -> Result<Option<u64>, Unanswered> {
+) -> Result<Option<u64>, Trouble> {
     let mut drawn = seed;
     let mut lost = opened(rt, alloc, image)?.lost();
     let mut image = cut_sweep(rt, alloc, image, 0, u64::MAX)?.image;

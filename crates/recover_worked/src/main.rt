@@ -6,25 +6,14 @@
 mod asking;
 mod chains;
 mod images;
+mod recoveries;
 mod sweeps;
+mod trouble;
 
 use anyhow::Result;
-use asking::answers_of;
-use case_file::{Answers, Case, Unanswered, try_cases};
+use case_file::try_cases;
+use recoveries::Recoveries;
 use std::process::ExitCode;
-use std::thread::Threads;
-
-// Recovers the images of cases, on as many threads as are asked for.
-#[derive(Drop)]
-struct Recoveries<'a, R> {
-    rt: &'a R,
-}
-
-impl<R: AllocGlobal + Threads + Sync> Answers for Recoveries<'_, R> {
-    fn answer(&self, case: &Case) -> core::result::Result<Vec<u8>, Unanswered> {
-        answers_of(self.rt, case.needed("image")?, case.needed("ask")?)
-    }
-}
 
 fn main(rt: HostRuntime) -> Result<ExitCode> {
     try_cases(&rt, &Recoveries { rt: &rt })

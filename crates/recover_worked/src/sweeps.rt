@@ -1,10 +1,10 @@
 // Stores that were opened from an image, and stopped in or behind their sweep.
-use crate::asking::{CALLERS, kept_of};
+use crate::asking::{kept_of, opened_by};
 use crate::images::picked;
-use case_file::Unanswered;
+use crate::trouble::Trouble;
 use mont_base::Fuel;
 use mont_image::Image;
-use recover::{Recovered, recover};
+use recover::Recovered;
 use std::alloc::Global;
 use std::fmt::Write;
 use std::thread::Threads;
@@ -19,8 +19,8 @@ pub struct Left {
     pub image: Image,
 }
 
-/// Stops the store of an image in its sweep, after each number of steps up to one. It tells how many
-/// slots were still to be closed then, how many are lost in the image that the mask picks, which
+/// Stops the store of an image in its sweep, after each number of steps up to one. It tells how
+/// many slots were still to be closed then, how many are lost in the image that the mask picks, which
 /// sweeps were cut, behind which clock or contents changed, and behind which a second sweep doesn't
 /// close what the first one left.
 pub fn stop_in_sweep<R: AllocGlobal + Threads + Sync>(
@@ -29,7 +29,7 @@ pub fn stop_in_sweep<R: AllocGlobal + Threads + Sync>(
     image: &Image,
     most: u64,
     mask: u64,
-) -> Result<Vec<u8>, Unanswered> {
+) -> Result<Vec<u8>, Trouble> {
     let kept = kept_of(alloc, image.layout, &opened(rt, alloc, image)?)?;
     let mut open = String::from_str(alloc, "open")?;
     let mut lost = String::from_str(alloc, "lost")?;
@@ -42,16 +42,10 @@ pub fn stop_in_sweep<R: AllocGlobal + Threads + Sync>(
         push_number(&mut open, left.open)?;
         push_number(&mut lost, found.lost())?;
         push_where(&mut cut, left.cut, steps)?;
-        push_where(
-            &mut changed,
-            kept_of(alloc, image.layout, &found)?.as_slice() != kept.as_slice(),
-            steps,
-        )?;
-        push_where(
-            &mut unswept,
-            !is_swept_again(rt, alloc, image, steps, mask)?,
-            steps,
-        )?;
+        let keeps = kept_of(alloc, image.layout, &found)?.as_slice() == kept.as_slice();
+        push_where(&mut changed, !keeps, steps)?;
+        let sweeps = is_swept_again(rt, alloc, image, steps, mask)?;
+        push_where(&mut unswept, !sweeps, steps)?;
     }
     Ok(format!(in alloc; "{open}\n{lost}\n{cut}\n{changed}\n{unswept}\n")?.into_bytes())
 }
@@ -63,7 +57,7 @@ pub fn cut_sweep<R: AllocGlobal + Threads + Sync>(
     image: &Image,
     steps: u64,
     mask: u64,
-) -> Result<Left, Unanswered> {
+) -> Result<Left, Trouble> {
     let mut store = opened(rt, alloc, image)?;
     let cut = store.sweep(&mut Fuel::new(steps)).is_err();
     let open = store.lost();
@@ -78,7 +72,7 @@ fn is_swept_again<R: AllocGlobal + Threads + Sync>(
     image: &Image,
     steps: u64,
     mask: u64,
-) -> Result<bool, Unanswered> {
+) -> Result<bool, Trouble> {
     let mut store = opened(rt, alloc, image)?;
     let _first = store.sweep(&mut Fuel::new(steps));
     let second = store.sweep(&mut Fuel::endless());
@@ -94,22 +88,19 @@ pub fn opened<R: AllocGlobal + Threads + Sync>(
     rt: &R,
     alloc: Global,
     image: &Image,
-) -> Result<Recovered, Unanswered> {
-    if image.old {
-        return Err(Unanswered::Unclear { head: "image" });
-    }
-    match recover(rt, alloc, image, 1, CALLERS) {
+) -> Result<Recovered, Trouble> {
+    match opened_by(rt, alloc, image, 1)? {
         Ok(store) => Ok(store),
-        Err(_) => Err(Unanswered::Unclear { head: "ask" }),
+        Err(_) => Err(Trouble::Ask),
     }
 }
 
-fn push_number(line: &mut String, number: u64) -> Result<(), Unanswered> {
-    write!(line, " {number}").map_err(|_| Unanswered::Memory)
+fn push_number(line: &mut String, number: u64) -> Result<(), Trouble> {
+    write!(line, " {number}").map_err(|_| Trouble::Memory)
 }
 
 // Adds the number where it holds.
-fn push_where(line: &mut String, holds: bool, number: u64) -> Result<(), Unanswered> {
+fn push_where(line: &mut String, holds: bool, number: u64) -> Result<(), Trouble> {
     if holds {
         push_number(line, number)?;
     }
