@@ -1,4 +1,4 @@
-use Rattle.std.proofs.Common.{rules, arith, IsTrue, true}
+use Rattle.std.proofs.Common.{rules, IsTrue, true}
 use Rattle.case_file.proofs.wanted.is_wanted.Goals as goal
 
 pub returns-then-wants : goal.returns-then-wants
