@@ -1,6 +1,9 @@
 // An image with one pair and two slots beyond the cut. Its store is stopped after each number of
 // steps of its sweep, and what a crash then leaves is recovered.
-use mont_base::{Fuel, MemSource, Steady, Text, Words};
+ghost use Rattle.std.specs.Prelude.{IsTrue};
+ghost use Rattle.mont_image.specs.Picking.{HasClock};
+
+use mont_base::{FIRST_CLOCK, Fuel, LAST, MemSource, Sequence, Steady, Text, Words};
 use mont_image::{Image, pick, read_image};
 use plain::UnitState;
 use recover::{Recovered, recover};
@@ -9,8 +12,6 @@ use std::test::Fail;
 use std::thread::Threads;
 
 const MAGIC: u64 = 0x0a45_4741_544e_4f4d;
-
-const LAST: u64 = 1 << 62;
 
 const WORKERS: [u64; 4] = [1, 3, 5, 64];
 
@@ -68,19 +69,21 @@ fn opened(
 
 // What a crash leaves, by a mask.
 fn left(alloc: Global, words: &Words, mask: u64) -> Result<Image, Fail> {
-    let many = words.layout.words();
-    let (current, durable) = (words.cur.as_slice(), words.dur.as_slice());
-    if current.len() as u64 != many || durable.len() as u64 != many {
+    let size = words.layout.words();
+    if words.cur.len() != size || words.dur.len() != size {
         return Err(Fail::from("all words"));
     }
-    if !is_clock(current[0]) || !is_clock(durable[0]) {
+    if !has_clock(&words.cur) || !has_clock(&words.dur) {
         return Err(Fail::from("a clock"));
     }
     Ok(pick(alloc, words, mask)?)
 }
 
-fn is_clock(word: u64) -> bool {
-    (2..=LAST).contains(&word)
+fn has_clock(words: &Sequence<u64>) -> bool
+    ensures { IsTrue result → HasClock words.now }
+{
+    let words = words.as_slice();
+    !words.is_empty() && FIRST_CLOCK <= words[0] && words[0] <= LAST
 }
 
 // Whether the store has clock 4, and the one pair in its map.
@@ -139,6 +142,7 @@ fn a_sweep_goes_on_where_it_was_cut(rt: HostRuntime) -> Result<(), Fail> {
     let parts = store.into_parts();
     assert_eq!(rt; parts.clock, 4);
     assert_eq!(rt; (parts.regions.len(), parts.tickets.len()), (3, 2));
-    assert_eq!(rt; parts.objects.iter().map(|it| it.len()).sum::<usize>(), 1);
+    let live = parts.objects.iter().filter(|it| !it.is_empty()).count();
+    assert_eq!(rt; (parts.objects.len(), live), (3, 1));
     Ok(())
 }
