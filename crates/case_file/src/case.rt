@@ -8,7 +8,8 @@ pub struct Part {
     pub text: Vec<u8>,
 }
 
-/// A case: its name, and its parts in the order of the file. Parts `wanted` say what is to come of it.
+/// A case: its name, and its parts in the order of the file. Parts `wanted` say what is to come
+/// of it.
 #[derive(Debug, Drop)]
 pub struct Case {
     pub name: String,

@@ -1,5 +1,5 @@
-//! Worked cases as files that a person reads and writes, and programs that try them: each case has a
-//! name, texts, and the text that is wanted.
+//! Worked cases as files that a person reads and writes, and programs that try them: each case
+//! has a name, texts, and the text that is wanted.
 #![tactic(auto)]
 
 mod case;

@@ -9,7 +9,8 @@ use Rattle.job_text.specs.ReportText.{report_text}
 
 -- the texts spell a job and two reports, and the answer is whether the second report is faithful to
 -- the job on a store that was opened as the first tells, with these records
-pub record IsJudged (job right report : List ℕ) (records : List (List Held)) (answer : Bool) : Type 0 where
+pub record IsJudged
+    (job right report : List ℕ) (records : List (List Held)) (answer : Bool) : Type 0 where
   pub asked : Job
   pub opened : Report
   pub given : Report

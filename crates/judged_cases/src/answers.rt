@@ -4,9 +4,9 @@ use crate::records::records_in;
 use case_file::{Case, Subject, Unanswered, with_other_lines};
 use std::alloc::Global;
 
-/// Answers cases with a part `job` and a part `report`, whether the report is faithful. The store was
-/// opened as the report tells, and with the records of the part `records`. Where there is a part
-/// `other lines`, the report that is judged has these lines in the place of some.
+/// Answers cases with a part `job` and a part `report`, whether the report is faithful. The store
+/// was opened as the report tells, and with the records of the part `records`. Where there is a
+/// part `other lines`, the report that is judged has these lines in the place of some.
 #[derive(Drop)]
 pub struct JudgedCases {
     pub alloc: Global,

@@ -4,8 +4,8 @@ use crate::report_answer::answer_report;
 use case_file::{Case, Subject, Unanswered, with_other_lines};
 use std::alloc::Global;
 
-/// Answers cases with a part `job` or a part `report`. The lines of a part `other lines` stand in the
-/// place of some of the report.
+/// Answers cases with a part `job` or a part `report`. The lines of a part `other lines` stand in
+/// the place of some of the report.
 #[derive(Drop)]
 pub struct TextCases {
     pub alloc: Global,

@@ -6,8 +6,8 @@ use case_file::{Case, Unanswered, numbers_in};
 use job_text::{Grammar, READ_BYTES};
 use std::alloc::Global;
 
-/// A line for each grammar: what comes of the text, whose source gives it in pieces of several sizes
-/// or of those of the part `pieces`, and fails in the calls of the part `failing calls`.
+/// A line for each grammar: what comes of the text, whose source gives it in pieces of several
+/// sizes or of those of the part `pieces`, and fails in the calls of the part `failing calls`.
 pub fn answer_job(alloc: Global, case: &Case, text: &[u8]) -> Result<Vec<u8>, Unanswered> {
     let pieces = match case.part("pieces") {
         Some(words) => numbers_in(alloc, "pieces", words)?,

@@ -1,5 +1,5 @@
-//! Tries worked cases of the texts of jobs and of reports: which are refused, at which line and why,
-//! and which are read back byte for byte.
+//! Tries worked cases of the texts of jobs and of reports: which are refused, at which line and
+//! why, and which are read back byte for byte.
 #![tactic(auto)]
 
 mod answers;

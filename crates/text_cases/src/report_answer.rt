@@ -4,8 +4,8 @@ use case_file::{Case, Unanswered};
 use job_text::{Report, write_contents};
 use std::alloc::{AllocError, Global};
 
-/// Whether the text is read back, or the line that is refused. A part `show` asks for the text of the
-/// contents that the report ends with, or for its entries and outcomes one by one.
+/// Whether the text is read back, or the line that is refused. A part `show` asks for the text of
+/// the contents that the report ends with, or for its entries and outcomes one by one.
 pub fn answer_report(alloc: Global, case: &Case, text: &[u8]) -> Result<Vec<u8>, Unanswered> {
     match ReportOutcome::of(alloc, text)? {
         ReportOutcome::Read { report, same: true } => answer_read(alloc, case, &report),
