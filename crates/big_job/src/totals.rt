@@ -44,7 +44,7 @@ impl Totals {
         ensures { IfOk result (λ t. t ≡ with_state self (state_of state.now)) }
     {
         match state {
-            UnitState::Map { state } => Ok(Totals {
+            UnitState::Map { state } | UnitState::Ordered { state } => Ok(Totals {
                 keys: added(self.keys, state.len())?,
                 sum: self.sum.wrapping_add(sum_of_pairs(state.iter())),
                 ..self

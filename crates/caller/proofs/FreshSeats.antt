@@ -2,14 +2,15 @@
 use Rattle.std.proofs.Common.{◌≡◌, ℕ, zero, suc, ◌+◌, ◌<◌, List, [], ◌∷◌, ◌++◌, length, refl, sym, ap, ◌∙◌, subst, arith}
 use Rattle.std.specs.Prelude.{Option, Some, None}
 use Rattle.std.proofs.lemmas.List.{length_push, same_from_push}
-use Rattle.mont_base.specs.declared.kinds.UnitKind.{UnitKind}
 use Rattle.mont_base.specs.declared.kinds.UnitKind.TheVariants as kinds
 use Rattle.mont_base.specs.declared.operation.Op.TheVariants as ops
 use Rattle.mont_base.specs.declared.operation.Reply.TheVariants.{Count}
 use Rattle.mont_base.specs.declared.record.Held.{Held}
-use Rattle.mont_base.specs.Layout.{Shape, units_of, kind_of, is_of_kind, named_if}
+use Rattle.mont_base.specs.Layout.{Shape, units_of, kind_of}
 use Rattle.mont_base.specs.State.{QueueOf, unit_of_op}
 use Rattle.mont_laws.specs.Structures.{HasStructure}
+use Rattle.mont_laws.proofs.Bodies.{named_kind}
+use Rattle.mont_laws.proofs.SameKind.{of_one_kind}
 use Rattle.mont_laws.proofs.Shown.{empty_structure}
 use Rattle.core_steps.specs.declared.parts.CallerPart.{CallerPart}
 use Rattle.core_steps.specs.declared.parts.UnitPart.{UnitPart}
@@ -32,12 +33,6 @@ last_unit heap o (suc n) rest s e =
     (n, omega arith, parts.0, sym parts.1)
 
 -- ---- a queue
-named_queue : (k : Option UnitKind) (u : ℕ) → named_if (is_of_kind k kinds.Queue) u ≡ Some u → k ≡ Some kinds.Queue
-named_queue None u e = absurd (cc)
-named_queue (Some kinds.Map) u e = absurd (cc)
-named_queue (Some kinds.Queue) u e = refl
-named_queue (Some kinds.Graph) u e = absurd (cc)
-
 -- it may answer how many items it has
 pub may_count : (s : Shape) (u v : ℕ) (p : UnitPart) (q : CallerPart) → v ≡ u → unit_of_op s (ops.Len v) ≡ Some v → p.frozen ≡ None
     → p.stage ≡ Idle → p.records ≡ [] → length p.history + q.calls < 9 → CanRead s u p q (ops.Len v) (Count 0)
@@ -49,7 +44,7 @@ may_count s u v p q same named unfrozen idle empty few =
         of_unit = record { of_unit = named; texts = tt };
         state = QueueOf [];
         shown = subst (λ (r : List Held). HasStructure s v r (QueueOf [])) (sym empty)
-            (empty_structure s v kinds.Queue (named_queue (kind_of s v) v named));
+            (empty_structure s v kinds.Queue (of_one_kind (kind_of s v) kinds.Queue (named_kind s kinds.Queue v v named)));
         replies = refl;
       };
       changes = refl;

@@ -61,8 +61,11 @@ fn is_op_of(layout: Layout, unit: Unit, op: &Op) -> bool
 fn read_texts(op: &Op)
     ensures { CarriesTexts op.now }
 {
-    if let Op::Put { key, value } = op {
-        let _lengths = (key.len(), value.len());
+    match op {
+        Op::Put { key, value } | Op::OPut { key, value, .. } => {
+            let _lengths = (key.len(), value.len());
+        }
+        _ => {}
     }
 }
 

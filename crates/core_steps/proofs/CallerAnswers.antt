@@ -45,9 +45,9 @@ module _ (histories : List (List Entry)) (cuts : List (Option â„•)) (now u k : â
   receipt = record { unit = u; place = length h; entry = answer }
 
   -- histories grow
-  grows : Grows (record { histories = histories; cuts = cuts; now = now; durable = now })
-      (record { histories = grown; cuts = cuts; now = now; durable = now })
-  grows = grows_by_entry (record { histories = histories; cuts = cuts; now = now; durable = now }) u h answer unit
+  grows : Grows (record { histories = histories; cuts = cuts; lefts = []; now = now; durable = now })
+      (record { histories = grown; cuts = cuts; lefts = []; now = now; durable = now })
+  grows = grows_by_entry (record { histories = histories; cuts = cuts; lefts = []; now = now; durable = now }) u h answer unit
 
   -- what was true of the caller still is
   later : CallerFits grown cuts now k q

@@ -16,12 +16,12 @@ use Rattle.core_steps.specs.declared.parts.UnitStage.TheVariants.{Idle, Told, Wi
 use Rattle.core_steps.specs.Announcing.{caller_after_freeze}
 use Rattle.core_steps.specs.Advancing.{is_odd, with_odd}
 use Rattle.core_steps.specs.CallerClauses.{IsBehind, IsSynced, CallerFits, HasReceipt, IsNamed, IsCut, CallersFit}
-use Rattle.core_steps.specs.Notes.{Moment, Grows, histories_of, cuts_of}
+use Rattle.core_steps.specs.Notes.{Moment, Grows, left_within, lefts_of, histories_of, cuts_of}
 use Rattle.core_steps.specs.Places.{RowHas}
 use Rattle.core_steps.specs.Sound.{announced, announcement, Announcements}
 use Rattle.core_steps.proofs.Rows.{row_here, row_set, row_same, each_set}
 use Rattle.core_steps.proofs.RowFacts.{item_at, row_from, row_gives, row_has_set, zip_of_left}
-use Rattle.core_steps.proofs.Growth.{front_stays, as_many_later, view_later, receipt_later, marks_later, grows_by_clock, grows_by_cut}
+use Rattle.core_steps.proofs.Growth.{front_stays, as_many_later, view_later, receipt_later, marks_later, grows_by_clock, has_none, grows_by_cut}
 
 -- ---- histories and cut callers, after one unit's part has changed
 pub histories_set : (units : List UnitPart) (u : ℕ) (q : UnitPart) → histories_of (set units u q) ≡ set (histories_of units) u q.history
@@ -31,6 +31,11 @@ histories_set units u q = map-set (λ (p : UnitPart). p.history) units u q
 pub cuts_set : (units : List UnitPart) (u : ℕ) (q : UnitPart) → cuts_of (set units u q) ≡ set (cuts_of units) u q.frozen
 cuts_set units u q = map-set (λ (p : UnitPart). p.frozen) units u q
 
+-- the epochs within which units are left
+pub lefts_set : (units : List UnitPart) (u : ℕ) (q : UnitPart)
+    → lefts_of (set units u q) ≡ set (lefts_of units) u (left_within q.frozen q.stage)
+lefts_set units u q = map-set (λ (p : UnitPart). left_within p.frozen p.stage) units u q
+
 -- a unit's history
 pub history_row : (units : List UnitPart) (u : ℕ) (p : UnitPart) → slice_get units u ≡ Some p
     → slice_get (histories_of units) u ≡ Some p.history
@@ -39,6 +44,11 @@ history_row units u p e = rw (slice_get-map, e) refl
 -- and the caller that was cut in it
 pub cut_row : (units : List UnitPart) (u : ℕ) (p : UnitPart) → slice_get units u ≡ Some p → slice_get (cuts_of units) u ≡ Some p.frozen
 cut_row units u p e = rw (slice_get-map, e) refl
+
+-- and the epoch within which it is left
+pub left_row : (units : List UnitPart) (u : ℕ) (p : UnitPart) → slice_get units u ≡ Some p
+    → slice_get (lefts_of units) u ≡ Some (left_within p.frozen p.stage)
+left_row units u p e = rw (slice_get-map, e) refl
 
 -- a part that keeps its history
 pub histories_kept : (units : List UnitPart) (u : ℕ) (p q : UnitPart) → slice_get units u ≡ Some p → q.history ≡ p.history
@@ -51,6 +61,13 @@ pub cuts_kept : (units : List UnitPart) (u : ℕ) (p q : UnitPart) → slice_get
     → cuts_of (set units u q) ≡ cuts_of units
 cuts_kept units u p q e same =
     cuts_set units u q ∙ row_same (cuts_of units) u q.frozen (cut_row units u p e ∙ ap Some (sym same))
+
+-- a part that is left within the same epoch, if within one
+pub lefts_kept : (units : List UnitPart) (u : ℕ) (p q : UnitPart) → slice_get units u ≡ Some p
+    → left_within q.frozen q.stage ≡ left_within p.frozen p.stage → lefts_of (set units u q) ≡ lefts_of units
+lefts_kept units u p q e same =
+    lefts_set units u q
+    ∙ row_same (lefts_of units) u (left_within q.frozen q.stage) (left_row units u p e ∙ ap Some (sym same))
 
 -- each unit has a history
 pub histories_length : (units : List UnitPart) → length (histories_of units) ≡ length units
@@ -116,7 +133,7 @@ module _ (histories : List (List Entry)) (cuts : List (Option ℕ)) (now : ℕ) 
   -- the clock rises
   pub callers_later : (later : ℕ) → now ≤ later → CallersFit histories cuts now callers odd → CallersFit histories cuts later callers odd
   callers_later later l f =
-      let m : Moment = record { histories = histories; cuts = cuts; now = now; durable = now } in record {
+      let m : Moment = record { histories = histories; cuts = cuts; lefts = []; now = now; durable = now } in record {
         each = λ k q e. caller_later m _ (grows_by_clock m later later l l) q k (f.each k q e);
         named = f.named;
         cut = f.cut;
@@ -140,17 +157,21 @@ module _ (histories : List (List Entry)) (cuts : List (Option ℕ)) (now : ℕ) 
       (there : slice_get callers k ≡ Some q) (f : CallersFit histories cuts now callers odd) where
     -- before the cut
     old : Moment
-    old = record { histories = histories; cuts = cuts; now = now; durable = now }
+    old = record { histories = histories; cuts = cuts; lefts = []; now = now; durable = now }
 
     -- and behind it
     new : Moment
-    new = record { histories = histories; cuts = set cuts u (Some k); now = now; durable = now }
+    new = record { histories = histories; cuts = set cuts u (Some k); lefts = []; now = now; durable = now }
+
+    cut_grows : Grows old new
+    unfolding old new
+    cut_grows = grows_by_cut old u k None (has_none cuts u uncut) (λ n e. absurd (cc))
 
     -- the caller that is cut
     frozen_caller : CallerFits histories (set cuts u (Some k)) now k (caller_after_freeze q u)
     unfolding old new
     frozen_caller =
-        let b = caller_later old new (grows_by_cut old u k uncut) q k (f.each k q there) in record {
+        let b = caller_later old new cut_grows q k (f.each k q there) in record {
           calls = b.calls;
           receipts = b.receipts;
           order = b.order;
@@ -180,7 +201,7 @@ module _ (histories : List (List Entry)) (cuts : List (Option ℕ)) (now : ℕ) 
     pub callers_freeze : CallersFit histories (set cuts u (Some k)) now (set callers k (caller_after_freeze q u)) odd
     unfolding old new
     callers_freeze =
-        let g = grows_by_cut old u k uncut in record {
+        let g = cut_grows in record {
           each = each_set (CallerFits histories (set cuts u (Some k)) now) callers k (caller_after_freeze q u)
               (λ j b n e. caller_later old new g b j (f.each j b e)) frozen_caller;
           named = λ v place e i. named_set callers k q (caller_after_freeze q u) there (λ n r is. is) v place e (f.named v place e i);

@@ -59,13 +59,14 @@ zip_push (g ∷ gs) (suc u) h e is = (begins_itself g, zip_push gs u h e is)
 -- ---- growth
 pub grows_itself : (m : Moment) → Grows m m
 grows_itself m =
-    record { histories = zip_itself m.histories; cuts = λ u k e. e; now = omega arith; durable = omega arith }
+    record { histories = zip_itself m.histories; cuts = λ u k e. e; lefts = λ u x e. e; now = omega arith; durable = omega arith }
 
 -- growth goes on
 pub grows_later : (l m n : Moment) → Grows l m → Grows m n → Grows l n
 grows_later l m n g h = record {
   histories = zip_later l.histories m.histories n.histories h.histories g.histories;
   cuts = λ u k e. h.cuts u k (g.cuts u k e);
+  lefts = λ u x e. h.lefts u x (g.lefts u x e);
   now = omega arith;
   durable = omega arith;
 }
@@ -74,30 +75,45 @@ grows_later l m n g h = record {
 pub grows_by_entry : (m : Moment) (u : ℕ) (h : List Entry) (e : Entry) → slice_get m.histories u ≡ Some h
     → Grows m (record m { histories = set m.histories u (h ++ e ∷ []) })
 grows_by_entry m u h e is =
-    record { histories = zip_push m.histories u h e is; cuts = λ v k c. c; now = omega arith; durable = omega arith }
+    record {
+      histories = zip_push m.histories u h e is;
+      cuts = λ v k c. c;
+      lefts = λ v x c. c;
+      now = omega arith;
+      durable = omega arith;
+    }
+
+-- no number stands at a place, so one that stands is at another
+abbrev HasNone : List (Option ℕ) → ℕ → Type 0
+HasNone xs u = (n : ℕ) → slice_get xs u ≡ Some (Some n) → ⊥
+
+some_stays : (xs : List (Option ℕ)) (u v n : ℕ) (x : Option ℕ) → HasNone xs u → slice_get xs v ≡ Some (Some n)
+    → slice_get (set xs u x) v ≡ Some (Some n)
+some_stays [] u v n x none e = absurd (cc)
+some_stays (c ∷ cs) zero zero n x none e = absurd (none n e)
+some_stays (c ∷ cs) zero (suc v) n x none e = e
+some_stays (c ∷ cs) (suc u) zero n x none e = e
+some_stays (c ∷ cs) (suc u) (suc v) n x none e = some_stays cs u v n x none e
+
+pub has_none : (xs : List (Option ℕ)) (u : ℕ) → slice_get xs u ≡ Some None → HasNone xs u
+has_none xs u is n e = cc
 
 -- a cut
-pub grows_by_cut : (m : Moment) (u k : ℕ) → slice_get m.cuts u ≡ Some None → Grows m (record m { cuts = set m.cuts u (Some k) })
-grows_by_cut m u k is = record {
+pub grows_by_cut : (m : Moment) (u k : ℕ) (within : Option ℕ) → HasNone m.cuts u → HasNone m.lefts u
+    → Grows m (record m { cuts = set m.cuts u (Some k); lefts = set m.lefts u within })
+grows_by_cut m u k within uncut out = record {
   histories = zip_itself m.histories;
-  cuts = λ v j e. cut_stays m.cuts u v k j is e;
+  cuts = λ v j e. some_stays m.cuts u v j (Some k) uncut e;
+  lefts = λ v x e. some_stays m.lefts u v x within out e;
   now = omega arith;
   durable = omega arith;
 }
-  where
-    -- a unit that was cut is another one
-    cut_stays : (cuts : List (Option ℕ)) (u v k j : ℕ) → slice_get cuts u ≡ Some None → slice_get cuts v ≡ Some (Some j)
-        → slice_get (set cuts u (Some k)) v ≡ Some (Some j)
-    cut_stays [] u v k j is e = absurd (cc)
-    cut_stays (c ∷ cs) zero zero k j is e = absurd (cc)
-    cut_stays (c ∷ cs) zero (suc v) k j is e = e
-    cut_stays (c ∷ cs) (suc u) zero k j is e = e
-    cut_stays (c ∷ cs) (suc u) (suc v) k j is e = cut_stays cs u v k j is e
 
 -- the clocks
 pub grows_by_clock : (m : Moment) (now durable : ℕ) → m.now ≤ now → m.durable ≤ durable
     → Grows m (record m { now = now; durable = durable })
-grows_by_clock m now durable l k = record { histories = zip_itself m.histories; cuts = λ u j e. e; now = l; durable = k }
+grows_by_clock m now durable l k =
+    record { histories = zip_itself m.histories; cuts = λ u j e. e; lefts = λ u x e. e; now = l; durable = k }
 
 -- ---- what lasts
 module _ (old new : Moment) (g : Grows old new) where

@@ -5,6 +5,7 @@ use Rattle.mont_base.specs.declared.operation.Entry.{Entry}
 use Rattle.mont_base.specs.Seen.{View, FitsHistories}
 use Rattle.core_steps.specs.declared.parts.Core.{Core}
 use Rattle.core_steps.specs.declared.parts.UnitPart.{UnitPart}
+use Rattle.core_steps.specs.declared.parts.UnitStage.{UnitStage}
 use Rattle.core_steps.specs.declared.parts.CallerPart.{CallerPart}
 use Rattle.core_steps.specs.declared.parts.Mark.{Mark}
 use Rattle.core_steps.specs.declared.parts.Note.{Note}
@@ -12,6 +13,7 @@ use Rattle.core_steps.specs.declared.parts.Part.{Part}
 use Rattle.core_steps.specs.declared.parts.Part.TheVariants as parts
 use Rattle.core_steps.specs.Places.{RowHas, on_row}
 use Rattle.core_steps.specs.Clock.{clock, durable_clock}
+use Rattle.core_steps.specs.Stages.{epoch_within}
 
 -- ---- what is noted of a part
 abbrev pub last_epoch : List Entry → ℕ
@@ -86,10 +88,19 @@ IsTrueNote c note =
     IsTrueOf (histories_of c.units) (cuts_of c.units) (clock c) (durable_clock c) note
 
 -- ---- what stays while a core goes on
--- all that a note is judged by
+-- the epoch within which a unit is left, where a caller was cut in it within one
+abbrev pub left_within : Option ℕ → UnitStage → Option ℕ
+left_within None stage = None
+left_within (Some k) stage = epoch_within stage
+
+abbrev pub lefts_of : List UnitPart → List (Option ℕ)
+lefts_of units = map (λ (p : UnitPart). left_within p.frozen p.stage) units
+
+-- all that a note is judged by, and within which epochs units are left
 pub record Moment : Type 0 where
   pub histories : List (List Entry)
   pub cuts : List (Option ℕ)
+  pub lefts : List (Option ℕ)
   pub now : ℕ
   pub durable : ℕ
 
@@ -97,6 +108,7 @@ abbrev pub moment_of : Core → Moment
 moment_of c = record {
   histories = histories_of c.units;
   cuts = cuts_of c.units;
+  lefts = lefts_of c.units;
   now = clock c;
   durable = durable_clock c;
 }
@@ -104,11 +116,12 @@ moment_of c = record {
 abbrev pub BeginsWith : List Entry → List Entry → Type 0
 BeginsWith h front = (rest : List Entry) × (h ≡ front ++ rest)
 
--- Each history begins with the earlier one, whoever was cut in a unit stays so, and no clock has
--- fallen.
+-- Each history begins with the earlier one, whoever was cut in a unit stays so, a unit that is left
+-- within an epoch stays within it, and no clock has fallen.
 pub record Grows (old new : Moment) : Type 0 where
   pub histories : AllZip BeginsWith new.histories old.histories
   pub cuts : (u k : ℕ) → slice_get old.cuts u ≡ Some (Some k) → slice_get new.cuts u ≡ Some (Some k)
+  pub lefts : (u e : ℕ) → slice_get old.lefts u ≡ Some (Some e) → slice_get new.lefts u ≡ Some (Some e)
   pub now : old.now ≤ new.now
   pub durable : old.durable ≤ new.durable
 

@@ -29,6 +29,11 @@ epoch_of (Told e) = e
 epoch_of (Within e) = e
 epoch_of _ = 0
 
+-- the epoch that the unit is within, if it is within one
+abbrev pub epoch_within : UnitStage → Option ℕ
+epoch_within (Within e) = Some e
+epoch_within _ = None
+
 -- the slot is the one that is being closed
 abbrev pub is_closing : UnitStage → ℕ → Bool
 is_closing (Closing s) slot = slot == s

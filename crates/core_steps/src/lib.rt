@@ -19,7 +19,10 @@ pub use event::Event;
 pub use mont_laws::Retired;
 pub use noting::{notes_last, splits_are_true};
 pub use parts::{AdvPart, CallerPart, Core, Mark, Note, Part, UnitPart, UnitStage, Writing};
-pub use reuse::{closed_slots_are_unneeded, free_slots_are_unseen, reclaimed_have_room};
+pub use reuse::{
+    closed_slots_are_unneeded, first_stores_are_unseen, free_slots_are_unseen, reclaimed_have_room,
+};
 pub use soundness::{
-    fresh_cores_are_sound, recovered_cores_are_sound, soundness_lasts, steps_keep_soundness,
+    fresh_cores_are_sound, images_are_recovered, recovered_cores_are_sound, soundness_lasts,
+    steps_keep_soundness,
 };

@@ -129,6 +129,12 @@ fn spelled(alloc: Global, clock: u64, reply: &Reply) -> Result<String, AllocErro
         Reply::Count { number } => format!(in alloc; "{clock} count {number}"),
         Reply::Nothing => format!(in alloc; "{clock} none"),
         Reply::NoEnds => format!(in alloc; "{clock} noends"),
+        Reply::Key { key } => {
+            let mut text = format!(in alloc; "{clock} key ")?;
+            add_text(&mut text, key)?;
+            Ok(text)
+        }
+        Reply::Pairs { number } => format!(in alloc; "{clock} pairs {number}"),
     }
 }
 

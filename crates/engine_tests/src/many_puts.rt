@@ -37,12 +37,27 @@ pub(crate) fn put_many<R: Wait>(rt: &R, alloc: Global) -> Result<(Words, Vec<Epo
     let mut live = BTreeMap::new(alloc);
     let mut epochs = Vec::new(alloc);
     for number in 0..PUTS {
-        epochs.push(put(rt, alloc, &mut engine, &mut live, number)?)?;
-        if number % 50 == 49 && !tick(&mut engine)? {
-            return Err(Fail::new("cut"));
-        }
+        epochs.push(put_in_turn(rt, alloc, &mut engine, &mut live, number)?)?;
     }
     Ok((stop(alloc, engine)?, epochs))
+}
+
+// Puts a number, with an advance behind each fiftieth, and answers the epoch of the put.
+fn put_in_turn<R: Wait>(
+    rt: &R,
+    alloc: Global,
+    engine: &mut Engine,
+    live: &mut BTreeMap<Text, Live>,
+    number: u64,
+) -> Result<Epoch, Fail>
+    requires { IsIdle engine.old }
+    ensures { IfOk result (λ _. IsIdle engine.new) }
+{
+    let epoch = put(rt, alloc, engine, live, number)?;
+    if number % 50 == 49 && !tick(engine)? {
+        return Err(Fail::new("cut"));
+    }
+    Ok(epoch)
 }
 
 // Puts a number, and answers the epoch.

@@ -1,5 +1,6 @@
 -- The seats with which a heap may be stopped: those that it was opened with, also after steps.
-use Rattle.std.proofs.Common.{◌≡◌, ℕ, zero, suc, List, [], ◌∷◌, length, set, false, refl, sym, ap, ◌∙◌, subst, ⊎_elim, arith, length-append, length-set}
+use Rattle.std.proofs.Common.{◌≡◌, ℕ, zero, suc, ◌<◌, List, [], ◌∷◌, length, set, false, refl, sym, ap, ◌∙◌, subst, ⊎_elim, arith, length-append, length-set}
+use Rattle.atomic_table.specs.Seated.{TableId}
 use Rattle.mont_base.specs.Layout.{units_of}
 use Rattle.core_steps.specs.Places.{EachAt}
 use Rattle.core_steps.proofs.RowFacts.{row_push}
@@ -39,6 +40,18 @@ module _ (heap : HeapShown) (o : Opening) where
       (λ (t : (k ≡ length (dealt_callers heap.table o n)) × (record { table = heap.table; held = first_caller o n } ≡ s)).
       subst (λ (x : ℕ × CallerShown). IsSeatOfCaller heap x.0 x.1) (λ i. (sym (t.0 ∙ callers_count n) i, t.1 i)) (refl, refl))
       (row_push (dealt_callers heap.table o n) k (record { table = heap.table; held = first_caller o n }) s e)
+
+-- each of the units dealt so far is the first of its number
+pub each_dealt : (table : TableId) (o : Opening) (n : ℕ)
+    → EachAt (λ (u : ℕ) (s : UnitShown). (u < n) × (s ≡ record { table = table; held = first_unit o u })) (dealt_units table o n)
+each_dealt table o zero u s e = absurd (cc)
+each_dealt table o (suc n) u s e =
+    let heap : HeapShown = record { table = table; opening = o } in
+    ⊎_elim (λ t. let k = each_dealt table o n u s t in (let low = k.0 in omega arith, k.1))
+    (λ (t : (u ≡ length (dealt_units table o n)) × (record { table = table; held = first_unit o n } ≡ s)).
+    let same : u ≡ n = t.0 ∙ units_count heap o n in
+    (omega (arith, same), sym t.1 ∙ (λ i. record { table = table; held = first_unit o (sym same i) })))
+    (row_push (dealt_units table o n) u (record { table = table; held = first_unit o n }) s e)
 
 module _ (o : Opening) (heap : HeapShown) (units : List UnitShown) (advancer : AdvShown) (callers : List CallerShown)
     (opens : Opens o heap units advancer callers) where

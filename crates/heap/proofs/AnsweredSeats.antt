@@ -117,6 +117,7 @@ module _ (t : TableId) (number : ℕ) (counts : Counts) (fronts synced : List �
         whole = refl;
         number_is = k.number_is;
         calls_are = ap (λ (x : ℕ). x + 1) k.calls_are;
+        answered = ap (λ (x : ℕ). x + 1) k.answered ∙ sym (length-append asker.part.receipts _);
         newest_is = refl;
         durable_is = k.durable_is;
         fronts_are = λ j. set (k.fronts_are j) (of_unit j) (at j + 1);
@@ -125,14 +126,15 @@ module _ (t : TableId) (number : ℕ) (counts : Counts) (fronts synced : List �
         slots = k.slots ∙ sym (ap (λ (x : ℕ). 2 * x) (length-set fronts unit (place + 1)));
       })
 
-  pub cut_keeps : (r : TableId) (n : Seated) (unit : ℕ) → r ≡ t → n ≡ (caller_view (caller_cut asker unit), [])
+  pub cut_keeps : (r : TableId) (n : Seated) (h : UnitHeld) → r ≡ t → n ≡ (caller_view (caller_cut asker h), [])
       → IsCaller r number counts fronts synced n
-  cut_keeps r n unit same is = subst (λ (z : TableId × Seated). IsCaller z.0 number counts fronts synced z.1) (λ j.
+  cut_keeps r n h same is = subst (λ (z : TableId × Seated). IsCaller z.0 number counts fronts synced z.1) (λ j.
       (sym same j, sym is j))
       (record {
         whole = refl;
         number_is = k.number_is;
         calls_are = k.calls_are;
+        answered = k.answered;
         newest_is = k.newest_is;
         durable_is = k.durable_is;
         fronts_are = k.fronts_are;

@@ -123,6 +123,7 @@ first_caller_is o k table fronts synced me is zero_fronts zero_synced slots =
       whole = refl;
       number_is = refl;
       calls_are = refl;
+      answered = refl;
       newest_is = refl;
       durable_is = refl;
       fronts_are = zero_fronts;

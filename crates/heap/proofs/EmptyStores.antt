@@ -34,11 +34,11 @@ copies f a same zero from = refl
 copies f a same (suc n) from = λ i. same from i ∷ copies f a same n (from + 1) i
 
 -- a range has its numbers
-or_right : (b c : Bool) → c ≡ true → (b || c) ≡ true
+pub or_right : (b c : Bool) → c ≡ true → (b || c) ≡ true
 or_right true c e = refl
 or_right false c e = e
 
-in_range : (n from k : ℕ) → k < n → is_among (range_with_len from n) (from + k) ≡ true
+pub in_range : (n from k : ℕ) → k < n → is_among (range_with_len from n) (from + k) ≡ true
 in_range zero from k low = absurd (omega arith)
 in_range (suc n) from zero low =
     let same : from ≡ from + 0 = omega arith in

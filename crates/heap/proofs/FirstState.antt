@@ -6,6 +6,7 @@ use Rattle.std.specs.List.{Contains, range_with_len}
 use Rattle.std.proofs.lemmas.Bool.{eqb-true}
 use Rattle.std.proofs.lemmas.Bool.Decides.{nat_tests}
 use Rattle.std.proofs.lemmas.List.{length-replicate, length-map}
+use Rattle.std.proofs.lemmas.List.Elements.{All-nil}
 use Rattle.std.proofs.lemmas.List.FromFn.{get_or-range_with_len, length-range_with_len}
 use Rattle.std.proofs.lemmas.Option.{slice_get_within, slice_get_read, get_or_from_slice_get}
 use mathlib.Core.Option.{Option, some, some-injective, some-ne-none}
@@ -33,7 +34,7 @@ use Rattle.core_steps.proofs.StartLaws.{recovered_cores_are_sound}
 use Rattle.heap_rule.specs.declared.rule.Opening.{Opening}
 use Rattle.heap_rule.specs.declared.views.View.{View}
 use Rattle.heap_rule.specs.HomeLists.{Full, Waiting, Empty, full_at, full_home, unit_home, IsTouched, HomesFit}
-use Rattle.heap_rule.specs.Rule.{Each, Board, Owners, FitsUnit, FitsAdvancer, FitsCaller, FitsView, AreClean, IsLearnt, Homes, ShowsCore, seen_in}
+use Rattle.heap_rule.specs.Rule.{Each, Board, Owners, FitsUnit, FitsAdvancer, FitsCaller, FitsView, IsLeft, AreClean, IsLearnt, Homes, ShowsCore, seen_in}
 use Rattle.heap_rule.specs.TableWords.{table_words}
 use Rattle.heap_rule.specs.Views.{Cell, listing, list_place, home_turn, full_rest, none_learnt, clean_at, is_among, first_advancer, units_from, callers_from, first_view}
 
@@ -193,6 +194,7 @@ module _ (o : Opening) (well : IsWellFormed o.layout o.words) where
       part = copy_row o.callers k (fresh_caller (units_of o.layout)) (omega arith);
       entries = none_seen (units_of o.layout) (histories_of first_units) (length-map first_units (λ (p : UnitPart). p.history)
           ∙ unit_count);
+      left = All-nil (IsLeft first_units);
       clean = first_clean;
     },
     callers_fit (k + 1) n (omega arith),

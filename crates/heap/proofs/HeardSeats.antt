@@ -34,6 +34,7 @@ module _ (t : TableId) (number : ℕ) (counts : Counts) (fronts synced : List �
         whole = refl;
         number_is = k.number_is;
         calls_are = k.calls_are;
+        answered = k.answered;
         newest_is = newest_is ∙ ap (λ (x : ℕ). max x note.note.newest) k.newest_is;
         durable_is = durable_is ∙ ap (λ (x : ℕ). max x note.note.durable) k.durable_is;
         fronts_are = fronts_are ∙ ap (λ (x : List ℕ). greater_fronts x note.note.fronts) k.fronts_are;

@@ -18,7 +18,7 @@ use Rattle.core_steps.specs.Notes.{histories_of}
 use Rattle.core_steps.proofs.RowFacts.{item_at}
 use Rattle.heap_rule.specs.declared.rule.Opening.{Opening}
 use Rattle.heap_rule.specs.declared.views.View.{View}
-use Rattle.heap_rule.specs.Rule.{Each, FitsUnit, FitsCaller, FitsView, IsLearnt, ShowsCore, seen_in}
+use Rattle.heap_rule.specs.Rule.{Each, FitsUnit, FitsCaller, FitsView, AreLeft, IsLearnt, ShowsCore, seen_in}
 use Rattle.heap_rule.specs.TableWords.{spread, laid_out}
 use Rattle.heap_rule.specs.Views.{Cell}
 use Rattle.heap_rule.proofs.RunFacts.{always_sound}
@@ -117,6 +117,7 @@ module _ (o : Opening) (heap : HeapShown) (seat : ℕ) (v : View) (all : List �
     learnt_by_advancer = fits.advancers.0.learnt;
     seen = all_at (λ (s : CallerShown). s.held.entries ≡ seen_in s.held.part.fronts (histories_of core.units)) callers
         (λ k s e. (caller_fits k s e).entries);
+    left = all_at (λ (s : CallerShown). AreLeft core.units s.held.within) callers (λ k s e. (caller_fits k s e).left);
   }
 
   sound_for : (states : List State) → IsRecovered o.layout o.words states → IsSound (opened_at (clock_of o.words) states) core

@@ -80,6 +80,7 @@ pub record IsCaller
   pub whole : me ≡ (caller_view (the_caller me.0), [])
   pub number_is : number ≡ (the_caller me.0).caller
   pub calls_are : counts.calls ≡ (the_caller me.0).part.calls
+  pub answered : (the_caller me.0).part.calls ≡ length (the_caller me.0).part.receipts
   pub newest_is : counts.newest ≡ (the_caller me.0).part.newest
   pub durable_is : counts.durable ≡ (the_caller me.0).part.durable
   pub fronts_are : fronts ≡ (the_caller me.0).part.fronts

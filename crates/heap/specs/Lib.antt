@@ -6,3 +6,4 @@ pub mod Receipts
 pub mod Opens
 pub mod FreshOpening
 pub mod Stops
+pub mod Passing

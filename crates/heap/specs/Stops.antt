@@ -18,7 +18,7 @@ use Rattle.core_steps.specs.Sound.{base_state, IsSound}
 use Rattle.heap_rule.specs.declared.rule.Opening.{Opening}
 use Rattle.heap_rule.specs.declared.views.View.{View}
 use Rattle.heap_rule.specs.Views.{nothing}
-use Rattle.heap_rule.specs.Rule.{IsRun, IsLearnt, AreLists, seen_in}
+use Rattle.heap_rule.specs.Rule.{IsRun, IsLearnt, AreLeft, AreLists, seen_in}
 use Rattle.heap.specs.HeapShown.{HeapShown, UnitShown, AdvShown, CallerShown}
 
 -- ---- the seats
@@ -77,6 +77,7 @@ pub record IsToldTruly
   pub seen : All
       (λ (s : CallerShown). s.held.entries ≡ seen_in s.held.part.fronts (histories_of c.units))
       callers
+  pub left : All (λ (s : CallerShown). AreLeft c.units s.held.within) callers
 
 -- Both memories are those of a core that a run of allowed steps leads to from the one with which
 -- the store opened, and of which the seats showed the parts.

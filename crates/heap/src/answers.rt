@@ -241,7 +241,7 @@ impl Heap {
         } }
         ensures caller { ticket.new ≡ record {
           table = ticket.old.table;
-          held = caller_cut ticket.old.held seat.old.held.unit;
+          held = caller_cut ticket.old.held seat.old.held;
         } }
     {
         let place = self.announcement(seat);

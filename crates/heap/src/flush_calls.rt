@@ -1,14 +1,15 @@
 // The steps by which the advancer passes the units, writes slots back, and moves the clock.
-ghost use Rattle.std.specs.Prelude.{◌≡◌, ◌<◌, List, ℕ, length, false, IsTrue, IfOk, OnOk, OnErr};
+ghost use Rattle.std.specs.Prelude.{◌≡◌, ◌<◌, length, false, IsTrue, IfOk, OnOk, OnErr};
 ghost use Rattle.mont_base.specs.declared.constants.TheConstants.{LAST, FIELDS};
 ghost use Rattle.mont_base.specs.Layout.{units_of, total_of};
 ghost use Rattle.core_steps.specs.declared.parts.AdvPart.TheVariants.{Rest};
 ghost use Rattle.core_steps.specs.Advancing.{can_check, unit_at_hand, after_check, is_clocked};
 ghost use Rattle.core_steps.specs.Flushing.{can_load_word, can_persist_word, after_persist_word, is_flushed};
 ghost use Rattle.heap_rule.specs.Plays.{IsAnnouncement, IsAhead, IsPlaceListed};
-ghost use Rattle.heap_rule.specs.Views.{are_clean, joined, holding, slot_at_hand, field_at_hand, word_in_hand, advancer_checked, advancer_loaded, advancer_persisted, advancer_set, advancer_rested, advancer_view, the_advancer};
-ghost use Rattle.heap_rule.specs.TableWords.{durable_place};
+ghost use Rattle.heap_rule.specs.Views.{are_clean, joined, holding, slot_at_hand, field_at_hand, word_in_hand, advancer_loaded, advancer_persisted, advancer_set, advancer_rested, advancer_view, the_advancer};
+ghost use Rattle.heap_rule.specs.TableWords.{announcement_place, durable_place};
 ghost use Rattle.heap.specs.GateAsked.{IsAskedOnce};
+ghost use Rattle.heap.specs.Passing.{RemembersList, ShowsList};
 
 use crate::heap::Heap;
 use crate::seats::AdvSeat;
@@ -27,19 +28,38 @@ impl Heap {
         requires clean { seat.old.held.part ≡ Rest
             → IsTrue (are_clean (units_of self.now.opening.layout) seat.old.held.clean) }
         ensures gate { IsAskedOnce G.cuts G.endless G.asked gate.old gate.new result }
-        ensures ok { IfOk result (λ word. (list : List ℕ) × (seat.new ≡ record {
-          table = seat.old.table;
-          held = advancer_checked seat.old.held word list;
-        })) }
+        ensures ok { IfOk result (λ word. RemembersList self.now.opening seat.old seat.new word) }
         ensures word { IfOk result (λ word. IsAnnouncement word) }
         ensures durable { OnOk result (seat.new.held.durable ≡ seat.new.held.clock) }
         ensures cut { OnErr result (seat.new ≡ seat.old) }
     {
         gate.step()?;
         let place = self.announcement_at_hand(seat);
-        let found = self.table.shared.load::<Checks>(&mut seat.seat, place);
+        let found = self.load_announced::<Brand>(&mut seat.seat, place);
         seat.part = checked(self.layout.units(), seat.clock, found, seat.part);
         Ok(found)
+    }
+
+    // The load of the announcement of the unit at hand, by the advancer's seat.
+    fn load_announced<N: Opened>(&self, seat: &mut Seat<Cell, View>, place: usize) -> u64
+        requires heap { seat.old.table_id ≡ self.now.table }
+        requires view { seat.old.me.0 ≡ advancer_view (the_advancer seat.old.me.0) }
+        requires place { place ≡ announcement_place self.now.opening.layout
+            (unit_at_hand (the_advancer seat.old.me.0).part) }
+        requires inside { place < self.now.table.words }
+        requires hand { unit_at_hand (the_advancer seat.old.me.0).part
+            < (the_advancer seat.old.me.0).units }
+        requires may { IsTrue (can_check (the_advancer seat.old.me.0).clock
+            (the_advancer seat.old.me.0).part) }
+        requires clean { (the_advancer seat.old.me.0).part ≡ Rest
+            → IsTrue (are_clean (units_of self.now.opening.layout)
+            (the_advancer seat.old.me.0).clean) }
+        requires opening { N.opening ≡ self.now.opening }
+        ensures seat { seat.new.table_id ≡ seat.old.table_id }
+        ensures view { ShowsList N.opening seat.old.me seat.new.me result }
+        ensures word { IsAnnouncement result }
+    {
+        self.table.shared.load::<Checks<N>>(seat, place)
     }
 
     /// Loads the word at hand: a field of the next slot that is to be written back.

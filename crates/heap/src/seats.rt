@@ -125,7 +125,8 @@ impl Ticket {
 
     /// How many of its calls were answered.
     pub fn calls(&self) -> u64
-        ensures { result ≡ self.now.held.part.calls }
+        ensures calls { result ≡ self.now.held.part.calls }
+        ensures receipts { result ≡ length self.now.held.part.receipts }
     {
         self.calls
     }

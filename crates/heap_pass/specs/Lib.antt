@@ -2,3 +2,4 @@ pub mod NoHeap
 pub mod OfLayout
 pub mod OfHeap
 pub mod Spare
+pub mod Kept

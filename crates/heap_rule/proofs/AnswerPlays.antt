@@ -2,6 +2,7 @@
 use Rattle.std.proofs.Common.{◌≡◌, ◌≢◌, ℕ, zero, suc, ◌+◌, ◌-◌, List, [], ◌∷◌, ◌++◌, length, set, take, refl, sym, ap, ◌∙◌, subst, arith, true, false, length-set, length-append}
 use Rattle.std.specs.Prelude.{slice_get, slice_index, Option, Some, None, is_none, max, All}
 use Rattle.std.proofs.lemmas.List.{take_all}
+use Rattle.std.proofs.lemmas.List.Elements.{All-nil, All-cons, All-append}
 use Rattle.std.proofs.lemmas.Option.{slice_get_within, slice_get-get_or, same_Some}
 use mathlib.Core.Option.{none, some}
 use mathlib.Core.Logic.{dite}
@@ -28,26 +29,27 @@ use Rattle.core_steps.specs.Announcing.{can_freeze, made_odd, after_freeze, call
 use Rattle.core_steps.specs.Answering.{CanLeave, CanRead, entry_of, after_answer, after_leave, after_read, leave, read}
 use Rattle.core_steps.specs.Closing.{after_see_durable, see_durable}
 use Rattle.core_steps.specs.Flushing.{unit_list}
-use Rattle.core_steps.specs.Notes.{moment_of, histories_of}
+use Rattle.core_steps.specs.Notes.{moment_of, left_within, histories_of}
 use Rattle.core_steps.specs.Sound.{StageFits, announcement}
-use Rattle.core_steps.proofs.CallerFrames.{histories_set}
+use Rattle.core_steps.proofs.CallerFrames.{histories_set, left_row}
 use Rattle.core_steps.proofs.RoleFacts.{written_epochs}
 use Rattle.core_steps.proofs.RowFacts.{row_from}
 use Rattle.core_steps.proofs.Rows.{row_here, row_else}
 use Rattle.core_steps.proofs.UnitLists.{listed_else, listed_there}
 use Rattle.heap_rule.specs.declared.rule.Opening.{Opening}
 use Rattle.heap_rule.specs.declared.views.CallerHeld.{CallerHeld}
+use Rattle.heap_rule.specs.declared.views.LeftWithin.{LeftWithin}
 use Rattle.heap_rule.specs.declared.views.UnitHeld.{UnitHeld}
 use Rattle.heap_rule.specs.declared.views.UnitTurn.{UnitTurn}
 use Rattle.heap_rule.specs.declared.views.View.{View}
-use Rattle.heap_rule.specs.Views.{Cell, listing, home_turn, caller_view, pair_view, are_clean, slots_written, odd_announcement, unit_left, unit_read, unit_frozen, caller_answered, caller_saw, caller_cut}
+use Rattle.heap_rule.specs.Views.{Cell, listing, home_turn, caller_view, pair_view, are_clean, slots_written, odd_announcement, left_at, unit_left, unit_read, unit_frozen, caller_answered, caller_saw, caller_cut}
 use Rattle.heap_rule.specs.TableWords.{laid_out, durable_place, announcement_place}
 use Rattle.heap_rule.specs.HomeLists.{turn_home, unit_home}
-use Rattle.heap_rule.specs.Rule.{Board, HasPassed, Homes, Passed, seen_in, FitsUnit, FitsCaller, FitsView, ShowsCore}
+use Rattle.heap_rule.specs.Rule.{Board, HasPassed, Homes, Passed, IsLeft, AreLeft, seen_in, FitsUnit, FitsCaller, FitsView, ShowsCore}
 use Rattle.heap_rule.specs.SoundUnits.{IsSoundUnit}
 use Rattle.heap_rule.specs.Plays.{answer_of, left, read as was_read, frozen, saw_durable}
 use Rattle.heap_rule.proofs.HomeSlots.{unit_home_in, in_other, unit_home_else}
-use Rattle.heap_rule.proofs.Growing.{Sweeps, sweeps_itself, clean_still, learnt_still, entries_still}
+use Rattle.heap_rule.proofs.Growing.{Sweeps, sweeps_itself, clean_still, learnt_still, left_still, entries_still}
 use Rattle.heap_rule.proofs.RuleFrames.{Reached, goes, stays, Moves, steps, loads, one_given, given_hit, given_miss}
 use Rattle.heap_rule.proofs.RunFacts.{unit_sound}
 use Rattle.heap_rule.proofs.CoreFacts.{at_row, none_clean, none_announced, clock_low, is_clock, is_durable, stores_announced, not_beyond, found_clock, found_durable_clock}
@@ -78,12 +80,13 @@ module _ (o : Opening) (s : State Cell View) (k : ShowsCore o s) (seat : ℕ) (h
     homes : Homes (pair_board d w) s.homes
     fits : FitsView (pair_board d w) k.own seat v
 
-  pair_owes : (p : UnitPart) (w : UnitTurn) (n l : ℕ) (r : CallerPart) (entries : List (List Entry)) (d : Core)
+  pair_owes : (p : UnitPart) (w : UnitTurn) (n l : ℕ) (r : CallerPart) (entries : List (List Entry)) (within : List LeftWithin) (d : Core)
       → Reached o k.states k.board.core d → IsOwnStep k.board.core d h.unit h.part p → d.callers ≡ set k.board.core.callers q.caller r
       → HomeStays p w (clock k.board.core) → HomeStays p w (clock k.board.core - 1)
-      → entries ≡ seen_in r.fronts (histories_of d.units)
-      → PairOwed d w (pair_view (record h { part = p; turn = w; steps = n; loaded = l }) (record q { part = r; entries = entries }))
-  pair_owes p w n l r entries d y is callers young old seen =
+      → entries ≡ seen_in r.fronts (histories_of d.units) → AreLeft d.units within
+      → PairOwed d w (pair_view (record h { part = p; turn = w; steps = n; loaded = l })
+      (record q { part = r; entries = entries; within = within }))
+  pair_owes p w n l r entries within d y is callers young old seen left =
       let given = given_hit k.board.turn h.unit w in
       let room : ℕ = k.board.core.layout.slots in
       let sweeps = subst (Sweeps k.board.core.units) (sym is.units) (sweeps_one k.board.core.units h.unit h.part p f.part is.lost) in
@@ -116,6 +119,7 @@ module _ (o : Opening) (s : State Cell View) (k : ShowsCore o s) (seat : ℕ) (h
               mine = g.mine;
               part = ap (λ (cs : List CallerPart). slice_get cs q.caller) callers ∙ row_here k.board.core.callers q.caller r q.part g.part;
               entries = seen;
+              left = left;
               clean = clean_still k.board.core.units d.units q.clean sweeps g.clean;
             },
             tt,
@@ -199,8 +203,8 @@ leaves o slots seat h q c op reply may given s k long at small =
     let home : (x : ℕ) → HomeStays o s k seat h q f g p home_turn x =
     λ (x : ℕ). home_left core.layout.slots x epoch h.part e (k.board.turn h.unit) may.stage epochs (f.turn ∙ given) in
     let owed = pair_owes o s k seat h q f g p home_turn (h.steps + 1) h.loaded (after_answer q.part h.unit (length h.part.history) e)
-    (set q.entries h.unit (h.part.history ++ e ∷ [])) d y is refl (home (clock core)) (home (clock core - 1))
-    (answered_entries o s k seat h q f g p e refl) in (
+    (set q.entries h.unit (h.part.history ++ e ∷ [])) q.within d y is refl (home (clock core)) (home (clock core - 1))
+    (answered_entries o s k seat h q f g p e refl) (left_still core d q.within y.grows g.left) in (
       pair_view (unit_left h e) (caller_answered q h e),
       keeps,
       tt,
@@ -261,8 +265,8 @@ reads o slots seat h q c op reply may clean s k long at small =
     let home : (z : ℕ) → HomeStays o s k seat h q f g p h.turn z =
     λ (z : ℕ). ap (unit_home core.layout.slots z h.part) (sym f.turn) in
     let owed = pair_owes o s k seat h q f g p h.turn (h.steps + 1) x (after_answer q.part h.unit (length h.part.history) e)
-    (set q.entries h.unit (h.part.history ++ e ∷ [])) d y is refl (home (clock core)) (home (clock core - 1))
-    (answered_entries o s k seat h q f g p e refl) in
+    (set q.entries h.unit (h.part.history ++ e ∷ [])) q.within d y is refl (home (clock core)) (home (clock core - 1))
+    (answered_entries o s k seat h q f g p e refl) (left_still core d q.within y.grows g.left) in
     let caller = k.sound.callers.each q.caller q.part g.part in
     let reached = caller.reached in
     let durable = k.sound.clocks.of_callers q.caller q.part g.part in
@@ -302,6 +306,18 @@ odd_made (Told x) word e = omega arith
 odd_made (Within x) word e = omega arith
 odd_made (Closing slot) word e = e
 
+-- the unit is left where it is
+left_by_cut : (units : List UnitPart) (u k : ℕ) (p : UnitPart) → slice_get units u ≡ Some p → p.frozen ≡ Some k
+    → AreLeft units (left_at u p.stage)
+left_by_cut units u k p at cut = by p.stage refl
+  where
+    by : (stage : UnitStage) → p.stage ≡ stage → AreLeft units (left_at u stage)
+    by Idle is = All-nil (IsLeft units)
+    by (Told x) is = All-nil (IsLeft units)
+    by (Within x) is = All-cons (IsLeft units) (record { unit = u; epoch = x }) []
+        (left_row units u p at ∙ (λ i. Some (left_within (cut i) (is i)))) (All-nil (IsLeft units))
+    by (Closing slot) is = All-nil (IsLeft units)
+
 pub freezes : (o : Opening) (slots seat : ℕ) (h : UnitHeld) (q : CallerHeld) (c : List (ℕ × Cell)) (value : ℕ) → can_freeze h.part ≡ true
     → are_clean (units_of o.layout) h.clean ≡ true → value ≡ odd_announcement h.part.stage
     → Allows (ShowsCore o) slots seat (pair_view h q, c) (announcement_place o.layout h.unit) (λ _. value)
@@ -335,9 +351,11 @@ freezes o slots seat h q c value may clean odd s k long at small =
     let home : (z : ℕ) → HomeStays o s k seat h q f g p h.turn z =
     λ (z : ℕ). ap (unit_home core.layout.slots z h.part) (sym f.turn) in
     let fits = (k.sound.callers.each q.caller q.part g.part).seen in
-    let owed = pair_owes o s k seat h q f g p h.turn (h.steps + 1) h.loaded (caller_after_freeze q.part h.unit) q.entries d y is refl
-    (home (clock core)) (home (clock core - 1))
-    (entries_still (moment_of core) (moment_of d) (view_of q.part) q.entries y.grows fits g.entries) in
+    let owed = pair_owes o s k seat h q f g p h.turn (h.steps + 1) h.loaded (caller_after_freeze q.part h.unit) q.entries
+    (q.within ++ left_at h.unit h.part.stage) d y is refl (home (clock core)) (home (clock core - 1))
+    (entries_still (moment_of core) (moment_of d) (view_of q.part) q.entries y.grows fits g.entries)
+    (All-append (IsLeft d.units) q.within (left_at h.unit h.part.stage) (left_still core d q.within y.grows g.left)
+    (left_by_cut d.units h.unit q.caller p (row_here core.units h.unit p h.part f.part) refl)) in
     let told = k.sound.announcements.as_many in
     let within = slice_get_within core.units h.unit h.part f.part in
     let there : slice_index core.told h.unit ≡ announcement h.part.stage h.part.frozen =
@@ -345,10 +363,10 @@ freezes o slots seat h q c value may clean odd s k long at small =
     let word : value ≡ made_odd h.part.stage (slice_index core.told h.unit) =
     odd ∙ sym (odd_made h.part.stage (slice_index core.told h.unit) (there
     ∙ ap (announcement h.part.stage) (none_from h.part.frozen may))) in (
-      pair_view (unit_frozen h q.caller) (caller_cut q h.unit),
+      pair_view (unit_frozen h q.caller) (caller_cut q h),
       keeps,
       tt,
-      steps o s k seat (announcement_place o.layout h.unit) value c (pair_view (unit_frozen h q.caller) (caller_cut q h.unit)) keeps
+      steps o s k seat (announcement_place o.layout h.unit) value c (pair_view (unit_frozen h q.caller) (caller_cut q h)) keeps
           (pair_board o s k seat h q f g d h.turn) y owed.moves
           (stores_announced o s k h.unit value ∙ ap (λ (z : ℕ). laid_out core.cur core.dur (set core.told h.unit z)) word)
           owed.passed owed.homes owed.fits,
@@ -402,6 +420,7 @@ sees_durable o slots seat q c s k long at small =
                 mine = g.mine;
                 part = row_here core.callers q.caller r q.part g.part;
                 entries = g.entries;
+                left = g.left;
                 clean = g.clean;
               },
               tt,

@@ -1,6 +1,6 @@
 -- What each step of the advancer owes the rule.
-use Rattle.std.proofs.Common.{◌≡◌, ℕ, ◌+◌, ◌-◌, ◌*◌, ◌<◌, ◌≤◌, List, length, set, refl, sym, ap, ◌∙◌, subst, arith, Bool, true, false, cond}
-use Rattle.std.specs.Prelude.{slice_get, slice_index, min, nat_lt}
+use Rattle.std.proofs.Common.{◌≡◌, ℕ, ◌+◌, ◌-◌, ◌*◌, ◌<◌, ◌≤◌, List, [], length, set, refl, sym, ap, ◌∙◌, subst, arith, Bool, true, false, cond}
+use Rattle.std.specs.Prelude.{slice_get, slice_index, Some, min, nat_lt}
 use mathlib.Core.Option.{none}
 use Rattle.atomic_table.specs.Table.{State, keeps, step, Allows}
 use Rattle.std.proofs.lemmas.Option.{slice_get_within, slice_get-get_or, same_Some}
@@ -26,16 +26,18 @@ use Rattle.core_steps.proofs.Rows.{first_set}
 use Rattle.heap_rule.specs.declared.rule.Opening.{Opening}
 use Rattle.heap_rule.specs.declared.views.AdvHeld.{AdvHeld}
 use Rattle.heap_rule.specs.declared.views.FullTurn.{FullTurn}
+use Rattle.heap_rule.specs.declared.views.UnitHeld.{UnitHeld}
+use Rattle.heap_rule.specs.SoundUnits.{IsSoundUnit}
 use Rattle.heap_rule.specs.declared.views.View.{View}
-use Rattle.heap_rule.specs.Views.{Cell, advancer_view, are_clean, full_rest, list_at, joined, holding, place_at_hand, slot_at_hand, field_at_hand, word_in_hand, advancer_checked, advancer_loaded, advancer_persisted, advancer_set, advancer_rested}
+use Rattle.heap_rule.specs.Views.{Cell, advancer_view, are_clean, home_turn, none_learnt, full_rest, list_at, joined, holding, place_at_hand, slot_at_hand, field_at_hand, word_in_hand, advancer_checked, advancer_loaded, advancer_persisted, advancer_set, advancer_rested}
 use Rattle.heap_rule.specs.TableWords.{laid_out, durable_place, announcement_place}
 use Rattle.heap_rule.specs.HomeLists.{IsTouched, full_at, HomesFit}
 use Rattle.heap_rule.specs.Rule.{IsLearnt, AreClean, Owners, Board, Homes, AreLists, FitsAdvancer, FitsView, ShowsCore}
-use Rattle.heap_rule.specs.Plays.{IsAnnouncement, IsAhead, checked, loaded_word, persisted_word, set_clock as clock_was_set, persisted_clock}
+use Rattle.heap_rule.specs.Plays.{IsAnnouncement, IsListOf, IsAhead, checked, loaded_word, persisted_word, set_clock as clock_was_set, persisted_clock}
 use Rattle.heap_rule.proofs.HomeSlots.{in_later, full_below, full_none, clock_moves}
 use Rattle.heap_rule.proofs.Growing.{Sweeps, sweeps_itself, learnt_still}
-use Rattle.heap_rule.proofs.RuleFrames.{Reached, goes, Moves, steps, loads}
-use Rattle.heap_rule.proofs.RunFacts.{announces}
+use Rattle.heap_rule.proofs.RuleFrames.{Reached, goes, stays, Moves, steps, loads}
+use Rattle.heap_rule.proofs.RunFacts.{unit_sound, announces}
 use Rattle.heap_rule.proofs.CoreFacts.{durable_low, none_clean, none_moving, stores_current, stores_durable, found_current, found_announced, slot_word_within}
 use Rattle.heap_rule.proofs.ListRoom.{lists_few, all_few}
 use Rattle.heap_rule.proofs.ListFacts.{list_above, joined_lists, remembers, lists_after_check, still_passed}
@@ -107,10 +109,34 @@ none_at_check units (Flushing d g) wait rest = none_moving units (Flushing d g) 
 none_at_check units (Holding d g v) wait rest = none_moving units (Holding d g v) wait (λ e. absurd (cc))
 none_at_check units Clocked wait rest = none_moving units Clocked wait (λ e. absurd (cc))
 
+-- the list of a unit by its part
+list_known : (o : Opening) (s : State Cell View) (k : ShowsCore o s) (a : AdvHeld) (u : ℕ) (p : UnitPart)
+    → slice_get k.board.core.units u ≡ Some p → u ≡ unit_at_hand a.part → clock k.board.core ≡ a.clock
+    → IsListOf o a.clock (unit_at_hand a.part) (unit_list (clock k.board.core - 1) p)
+list_known o s k a u p at hand now =
+    let core = k.board.core in
+    let h : UnitHeld = record {
+      unit = u;
+      room = a.room;
+      part = p;
+      turn = home_turn;
+      steps = 0;
+      loaded = 0;
+      learnt = none_learnt;
+      clean = [];
+    } in record {
+      durable = durable_clock core;
+      shown = h;
+      sound = subst (λ (x : ℕ). IsSoundUnit o x (durable_clock core) h) now
+          (unit_sound o s k core (stays o s k) refl h at (λ v q is among. absurd (cc)));
+      of_unit = hand;
+      is = ap (λ (x : ℕ). unit_list (x - 1) p) now;
+    }
+
 pub checks : (o : Opening) (slots seat : ℕ) (a : AdvHeld) (c : List (ℕ × Cell)) → can_check a.clock a.part ≡ true
     → (a.part ≡ Rest → are_clean (units_of o.layout) a.clean ≡ true) → unit_at_hand a.part < a.units
     → Allows (ShowsCore o) slots seat (advancer_view a, c) (announcement_place o.layout (unit_at_hand a.part)) (λ n. n)
-    (checked (step slots (announcement_place o.layout (unit_at_hand a.part)) 0 0 none) (advancer_view a, c))
+    (checked o (step slots (announcement_place o.layout (unit_at_hand a.part)) 0 0 none) (advancer_view a, c))
 checks o slots seat a c may rest inside s k long at small =
     let f = (k.views seat (advancer_view a) at).advancers.0 in
     let core = k.board.core in
@@ -149,7 +175,7 @@ checks o slots seat a c may rest inside s k long at small =
           ap (λ (z : ℕ × ℕ). list_at (cond (lets_pass z.0 x) (set a.lists z.1 list) a.lists) u) (λ i. (sym f.clock_is i, sym there i))
           ∙ lists_after_check core a.lists x one.0 can one.1 (omega arith) f.lists u q is passed)
           refl refl refl refl),
-      ((list, refl), subst IsAnnouncement (sym (found ∙ word)) (announces o s k j one.0 one.1)),
+      ((list, refl, list_known o s k a j one.0 one.1 there f.clock_is), subst IsAnnouncement (sym (found ∙ word)) (announces o s k j one.0 one.1)),
     )
 
 -- ---- LoadWord and PersistWord

@@ -1,6 +1,7 @@
 -- What the view of a part says stays true while the core goes on.
 use Rattle.std.proofs.Common.{◌≡◌, ℕ, suc, ◌≤◌, List, [], ◌∷◌, length, sym, refl, ◌∙◌, arith}
 use Rattle.std.specs.Prelude.{slice_get, Some}
+use Rattle.std.proofs.lemmas.List.Elements.{All-weaker}
 use Rattle.std.specs.List.{AllZip}
 use Rattle.mont_base.specs.declared.operation.Entry.{Entry}
 use Rattle.mont_base.specs.Seen.{View as Front, FitsHistories}
@@ -9,7 +10,8 @@ use Rattle.core_steps.specs.declared.parts.UnitPart.{UnitPart}
 use Rattle.core_steps.specs.Notes.{BeginsWith, Moment, moment_of, Grows}
 use Rattle.core_steps.proofs.Growth.{front_stays}
 use Rattle.heap_rule.specs.declared.views.Learnt.{Learnt}
-use Rattle.heap_rule.specs.Rule.{IsLearnt, AreClean, seen_in}
+use Rattle.heap_rule.specs.declared.views.LeftWithin.{LeftWithin}
+use Rattle.heap_rule.specs.Rule.{IsLearnt, IsLeft, AreLeft, AreClean, seen_in}
 
 -- no unit loses a slot
 abbrev pub Sweeps : List UnitPart → List UnitPart → Type 0
@@ -25,6 +27,10 @@ clean_still old new clean sweeps are u q at among = let was = sweeps u q at in w
 pub learnt_still : (c d : Core) (l : Learnt) → Grows (moment_of c) (moment_of d) → IsLearnt c l → IsLearnt d l
 learnt_still c d l g is = let now = g.now in let durable = g.durable in let a = is.newest in let b = is.durable in
     record { newest = omega arith; durable = omega arith }
+
+-- what is left within an epoch stays so
+pub left_still : (c d : Core) (within : List LeftWithin) → Grows (moment_of c) (moment_of d) → AreLeft c.units within → AreLeft d.units within
+left_still c d within g are = All-weaker (IsLeft c.units) (IsLeft d.units) (λ w is. g.lefts w.unit w.epoch is) within are
 
 -- the entries before a front that is there
 seen_later : (fronts : List ℕ) (hs gs : List (List Entry)) → AllZip BeginsWith gs hs

@@ -129,6 +129,7 @@ module _ (o : Opening) (s : State Cell View) (k : ShowsCore o s) (at : ℕ) (q :
         entries = (λ i. longer_each (g.entries i) (f.entries i))
             ∙ longer_seen q.part.fronts n.note.fronts (histories_of k.board.core.units)
             (λ u x h a b. (seen.each u x h a b).there) (λ u x h a b. (note.each u x h a b).there);
+        left = g.left;
         clean = clean_both k.board.core.units q.clean n.clean g.clean f.clean;
       }
 

@@ -33,7 +33,7 @@ use Rattle.heap_rule.specs.declared.views.View.{View}
 use Rattle.heap_rule.specs.Views.{Cell, nothing}
 use Rattle.heap_rule.specs.TableWords.{table_words}
 use Rattle.heap_rule.specs.Rule.{Each, Owners, Board, HasPassed, Homes, Passed, FitsUnit, FitsAdvancer, FitsCaller, FitsNote, FitsView, IsRun, ShowsCore}
-use Rattle.heap_rule.proofs.Growing.{Sweeps, sweeps_itself, clean_still, learnt_still, entries_still}
+use Rattle.heap_rule.proofs.Growing.{Sweeps, sweeps_itself, clean_still, learnt_still, left_still, entries_still}
 
 pub each_map : {A : Type 0} (P Q : A → Type 0) → ((x : A) → P x → Q x) → (xs : List A) → Each P xs → Each Q xs
 each_map P Q f [] h = tt
@@ -152,6 +152,7 @@ module _ (own : Owners) (mine : ℕ → Type 0) (c d : Board) (m : Moves own min
     part = m.callers q.caller (λ x. off (subst mine f.mine x)) ∙ f.part;
     entries = entries_still (moment_of c.core) (moment_of d.core) (view_of q.part) q.entries g
         (sound.callers.each q.caller q.part f.part).seen f.entries;
+    left = left_still c.core d.core q.within g f.left;
     clean = clean_still c.core.units d.core.units q.clean m.sweeps f.clean;
   }
 
@@ -256,7 +257,7 @@ module _ (b : Board) (own now : Owners) (j i : ℕ) where
   }
 
   pub caller_handed : (q : CallerHeld) → now.caller q.caller ≡ i → FitsCaller b own j q → FitsCaller b now i q
-  caller_handed q is f = record { mine = is; part = f.part; entries = f.entries; clean = f.clean }
+  caller_handed q is f = record { mine = is; part = f.part; entries = f.entries; left = f.left; clean = f.clean }
 
 -- the view of another seat fits
 view_elsewhere : (b : Board) (own now : Owners) (gone : ℕ) → Hands gone own now → (j : ℕ) → j ≢ gone → (v : View)

@@ -95,13 +95,14 @@ persists_close_as o w slots seat i x m h slot same is at new may inside home =
     (step slots z.0 z.1 0 none) (z.2, m.1) z.1 n))
     (λ j. (sym at j, sym new j, sym is j, sym same j)) (persists_close o slots seat h m.1 slot may inside home)
 
-pub checks_as : (o : Opening) (slots seat i : ℕ) (m : Seated) (a : AdvHeld) → m.0 ≡ advancer_view a
+pub checks_as : (o w : Opening) (slots seat i : ℕ) (m : Seated) (a : AdvHeld) → w ≡ o → m.0 ≡ advancer_view a
     → i ≡ announcement_place o.layout (unit_at_hand a.part) → can_check a.clock a.part ≡ true → (a.part ≡ Rest
     → are_clean (units_of o.layout) a.clean ≡ true) → unit_at_hand a.part < a.units
-    → Allows (ShowsCore o) slots seat m i (λ n. n) (checked (step slots i 0 0 none) m)
-checks_as o slots seat i m a is at may rest inside =
-    subst (λ (z : ℕ × View). Allows (ShowsCore o) slots seat (z.1, m.1) z.0 (λ n. n) (checked (step slots z.0 0 0 none) (z.1, m.1)))
-    (λ j. (sym at j, sym is j)) (checks o slots seat a m.1 may rest inside)
+    → Allows (ShowsCore o) slots seat m i (λ n. n) (checked w (step slots i 0 0 none) m)
+checks_as o w slots seat i m a same is at may rest inside =
+    subst (λ (z : ℕ × View × Opening). Allows (ShowsCore o) slots seat (z.1, m.1) z.0 (λ n. n)
+    (checked z.2 (step slots z.0 0 0 none) (z.1, m.1)))
+    (λ j. (sym at j, sym is j, sym same j)) (checks o slots seat a m.1 may rest inside)
 
 pub loads_word_as : (o : Opening) (slots seat i : ℕ) (m : Seated) (a : AdvHeld) → m.0 ≡ advancer_view a
     → i ≡ word_of (slot_at_hand a) (field_at_hand a.part) → can_load_word (length (joined a.lists)) a.part ≡ true

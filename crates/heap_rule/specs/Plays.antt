@@ -1,5 +1,5 @@
 -- What each step tells: the seat after it, and what the rule says of the word that was found.
-use Rattle.std.specs.Prelude.{◌≡◌, ℕ, ◌+◌, ◌*◌, ◌/◌, ◌<◌, ◌≤◌, ◌⊎◌, List, ◌∷◌, ◌++◌, length, max, take, slice_get, slice_index, All, Some}
+use Rattle.std.specs.Prelude.{◌≡◌, ℕ, ◌+◌, ◌-◌, ◌*◌, ◌/◌, ◌<◌, ◌≤◌, ◌⊎◌, List, ◌∷◌, ◌++◌, length, max, take, slice_get, slice_index, All, Some}
 use Rattle.atomic_table.specs.Table.{Step, rest}
 use Rattle.mont_base.specs.declared.constants.TheConstants.{FIRST_CLOCK, LAST}
 use Rattle.mont_base.specs.Image.{clock_of}
@@ -8,8 +8,10 @@ use Rattle.mont_base.specs.declared.operation.Op.{Op}
 use Rattle.mont_base.specs.declared.operation.Reply.{Reply}
 use Rattle.core_steps.specs.declared.parts.UnitPart.{UnitPart}
 use Rattle.core_steps.specs.Stages.{epoch_of}
+use Rattle.core_steps.specs.Advancing.{unit_at_hand}
 use Rattle.core_steps.specs.Answering.{entry_of}
 use Rattle.core_steps.specs.Events.{closing_of}
+use Rattle.core_steps.specs.Flushing.{unit_list}
 use Rattle.core_steps.specs.Notes.{last_epoch}
 use Rattle.heap_rule.specs.declared.rule.Opening.{Opening}
 use Rattle.heap_rule.specs.declared.views.Learnt.{Learnt}
@@ -131,7 +133,7 @@ abbrev pub frozen : Step Cell → Seated → ℕ → Seated → Type 0
 frozen s m found n =
     let h : UnitHeld = the_unit m.0 in
     let q : CallerHeld = the_caller m.0 in
-    n ≡ (pair_view (unit_frozen h q.caller) (caller_cut q h.unit), m.1)
+    n ≡ (pair_view (unit_frozen h q.caller) (caller_cut q h), m.1)
 
 abbrev pub saw_durable : Step Cell → Seated → ℕ → Seated → Type 0
 saw_durable s m found n =
@@ -147,9 +149,20 @@ pub record IsEpoch (epoch : ℕ) : Type 0 where
 abbrev pub IsAnnouncement : ℕ → Type 0
 IsAnnouncement found = (found ≡ 0) ⊎ IsEpoch (found / 2)
 
-abbrev pub checked : Step Cell → Seated → ℕ → Seated → Type 0
-checked s m found n =
-    ((list : List ℕ) × (n ≡ (advancer_view (advancer_checked (the_advancer m.0) found list), m.1)))
+-- the list of a unit for the epoch before the clock, by what its part is when the clock shows now
+pub record IsListOf (o : Opening) (now unit : ℕ) (list : List ℕ) : Type 0 where
+  pub durable : ℕ
+  pub shown : UnitHeld
+  pub sound : IsSoundUnit o now durable shown
+  pub of_unit : shown.unit ≡ unit
+  pub is : list ≡ unit_list (now - 1) shown.part
+
+abbrev pub checked : Opening → Step Cell → Seated → ℕ → Seated → Type 0
+checked o s m found n =
+    let a : AdvHeld = the_advancer m.0 in
+    ((list : List ℕ)
+    × (n ≡ (advancer_view (advancer_checked a found list), m.1))
+    × IsListOf o a.clock (unit_at_hand a.part) list)
     × IsAnnouncement found
 
 abbrev pub loaded_word : Step Cell → Seated → ℕ → Seated → Type 0

@@ -1,7 +1,7 @@
 -- The rule of the table: there is a core, reached from the one with which the store opened by
 -- allowed steps, whose words are the table's, to whose records the lists at home belong, and which
 -- every view fits.
-use Rattle.std.specs.Prelude.{◌≡◌, ℕ, ◌-◌, ◌<◌, ◌≤◌, true, List, [], ◌∷◌, length, take, slice_get, Some}
+use Rattle.std.specs.Prelude.{◌≡◌, ℕ, ◌-◌, ◌<◌, ◌≤◌, true, List, [], ◌∷◌, length, take, slice_get, Some, All}
 use mathlib.Core.Option.{Option, some}
 use lib.ListN.{get_elem?}
 use Rattle.atomic_table.specs.Table.{State}
@@ -14,7 +14,7 @@ use Rattle.core_steps.specs.declared.parts.UnitPart.{UnitPart}
 use Rattle.core_steps.specs.Clock.{clock, durable_clock}
 use Rattle.core_steps.specs.Stages.{passed_of}
 use Rattle.core_steps.specs.Flushing.{unit_list}
-use Rattle.core_steps.specs.Notes.{histories_of, IsTrueNote}
+use Rattle.core_steps.specs.Notes.{histories_of, lefts_of, IsTrueNote}
 use Rattle.core_steps.specs.Events.{IsAllowed, after}
 use Rattle.core_steps.specs.Opened.{recovered, opened_at}
 use Rattle.core_steps.specs.Sound.{IsSound}
@@ -24,6 +24,7 @@ use Rattle.heap_rule.specs.declared.views.UnitTurn.{UnitTurn}
 use Rattle.heap_rule.specs.declared.views.UnitHeld.{UnitHeld}
 use Rattle.heap_rule.specs.declared.views.FullTurn.{FullTurn}
 use Rattle.heap_rule.specs.declared.views.AdvHeld.{AdvHeld}
+use Rattle.heap_rule.specs.declared.views.LeftWithin.{LeftWithin}
 use Rattle.heap_rule.specs.declared.views.CallerHeld.{CallerHeld}
 use Rattle.heap_rule.specs.declared.views.NoteHeld.{NoteHeld}
 use Rattle.heap_rule.specs.declared.views.View.{View}
@@ -79,6 +80,13 @@ seen_in [] histories = []
 seen_in (n ∷ ns) [] = []
 seen_in (n ∷ ns) (h ∷ hs) = take n h ∷ seen_in ns hs
 
+-- a caller was cut in the unit, which is left within the epoch
+abbrev pub IsLeft : List UnitPart → LeftWithin → Type 0
+IsLeft units w = slice_get (lefts_of units) w.unit ≡ Some (Some w.epoch)
+
+abbrev pub AreLeft : List UnitPart → List LeftWithin → Type 0
+AreLeft units within = All (IsLeft units) within
+
 pub record FitsUnit (b : Board) (own : Owners) (seat : ℕ) (h : UnitHeld) : Type 0 where
   pub mine : own.unit h.unit ≡ seat
   pub part : slice_get b.core.units h.unit ≡ Some h.part
@@ -111,6 +119,7 @@ pub record FitsCaller (b : Board) (own : Owners) (seat : ℕ) (q : CallerHeld) :
   pub mine : own.caller q.caller ≡ seat
   pub part : slice_get b.core.callers q.caller ≡ Some q.part
   pub entries : q.entries ≡ seen_in q.part.fronts (histories_of b.core.units)
+  pub left : AreLeft b.core.units q.within
   pub clean : AreClean b.core.units q.clean
 
 pub record FitsNote (b : Board) (n : NoteHeld) : Type 0 where

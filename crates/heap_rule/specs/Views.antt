@@ -29,6 +29,7 @@ use Rattle.heap_rule.specs.declared.views.UnitTurn.{UnitTurn}
 use Rattle.heap_rule.specs.declared.views.UnitHeld.{UnitHeld}
 use Rattle.heap_rule.specs.declared.views.FullTurn.{FullTurn}
 use Rattle.heap_rule.specs.declared.views.AdvHeld.{AdvHeld}
+use Rattle.heap_rule.specs.declared.views.LeftWithin.{LeftWithin}
 use Rattle.heap_rule.specs.declared.views.CallerHeld.{CallerHeld}
 use Rattle.heap_rule.specs.declared.views.NoteHeld.{NoteHeld}
 use Rattle.heap_rule.specs.declared.views.View.{View}
@@ -123,6 +124,7 @@ first_caller o k = record {
   caller = k;
   part = fresh_caller (units_of o.layout);
   entries = replicate (units_of o.layout) [];
+  within = [];
   steps = 0;
   loaded = 0;
   clean = clean_at o;
@@ -353,8 +355,17 @@ abbrev pub caller_saw : CallerHeld → ℕ → CallerHeld
 caller_saw q found =
     record q { part = after_see_durable q.part found; steps = q.steps + 1; loaded = found }
 
-abbrev pub caller_cut : CallerHeld → ℕ → CallerHeld
-caller_cut q u = record q { part = caller_after_freeze q.part u }
+-- a unit that is within an epoch is left within it
+abbrev pub left_at : ℕ → UnitStage → List LeftWithin
+left_at u (Within e) = record { unit = u; epoch = e } ∷ []
+left_at u _ = []
+
+-- it is cut in the unit
+abbrev pub caller_cut : CallerHeld → UnitHeld → CallerHeld
+caller_cut q h = record q {
+  part = caller_after_freeze q.part h.unit;
+  within = q.within ++ left_at h.unit h.part.stage;
+}
 
 -- ---- notes
 -- what a unit, the advancer and a caller show to one that knows so many units

@@ -22,4 +22,6 @@ pub use seat_moves::{
     Callers, CopiesCaller, FirstCaller, FirstUnit, HearsAdvancer, HearsNews, ShowsCaller,
     TakesCallers, TakesUnits, Whole,
 };
-pub use views::{AdvHeld, CallerHeld, Cell, FullTurn, Learnt, NoteHeld, UnitHeld, UnitTurn, View};
+pub use views::{
+    AdvHeld, CallerHeld, Cell, FullTurn, Learnt, LeftWithin, NoteHeld, UnitHeld, UnitTurn, View,
+};

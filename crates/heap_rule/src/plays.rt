@@ -169,12 +169,14 @@ impl Play<Cell, View> for SeesDurable {
 }
 
 /// The advancer loads an announcement.
-pub struct Checks;
+pub struct Checks<N> {
+    of: PhantomData<N>,
+}
 
-impl Play<Cell, View> for Checks {
+impl<N: Opened> Play<Cell, View> for Checks<N> {
     ghost use Rattle.heap_rule.specs.Plays.{checked};
 
-    ghost then = { checked };
+    ghost then = { checked N.opening };
 }
 
 /// The advancer loads a word.

@@ -62,6 +62,13 @@ pub struct AdvHeld {
     pub clean: Sequence<Unit>,
 }
 
+/// A unit that is left within an epoch, since a caller was cut in it there.
+#[derive(Clone, Copy)]
+pub struct LeftWithin {
+    pub unit: Unit,
+    pub epoch: Epoch,
+}
+
 /// A caller's part.
 #[derive(Drop)]
 pub struct CallerHeld {
@@ -69,6 +76,8 @@ pub struct CallerHeld {
     pub part: CallerPart,
     /// Of each unit the entries that it has seen.
     pub entries: Sequence<Sequence<Entry>>,
+    /// The units in which it was cut while they were within an epoch.
+    pub within: Sequence<LeftWithin>,
     pub steps: u64,
     pub loaded: u64,
     pub clean: Sequence<Unit>,

@@ -14,7 +14,7 @@ use Rattle.mont_base.specs.History.{IsLegal, state_after, cut_at}
 use Rattle.mont_base.specs.Image.{clock_of, cut_of}
 use Rattle.mont_base.specs.Layout.{Shape, units_of}
 use Rattle.mont_base.specs.Seen.{FitsHistories, names_place}
-use Rattle.mont_base.specs.State.{State}
+use Rattle.mont_base.specs.State.{State, Run}
 use Rattle.plain.specs.States.{states_of}
 use Rattle.core_steps.specs.declared.parts.CallerPart.{CallerPart}
 use Rattle.core_steps.specs.declared.parts.Mark.{Mark}
@@ -29,7 +29,7 @@ use Rattle.job_text.specs.declared.job.Job.{Job}
 use Rattle.job_text.specs.declared.outcome.Outcome.{Outcome}
 use Rattle.job_text.specs.AnsweredLines.{AnswersLines}
 use Rattle.job_text.specs.Causes.{WasCutIn}
-use Rattle.job_text.specs.Faithful.{HasStop, IsFaithful, LegalAt, CutAt, AnsweredAt, AllNamedAt}
+use Rattle.job_text.specs.Faithful.{HasStop, IsFaithful, LegalAt, RunsAt, CutAt, AnsweredAt, AllNamedAt}
 use Rattle.job_text.specs.Outcomes.{names_entry}
 use Rattle.job_text.specs.Report.{Report, lines_of}
 use Rattle.job_worker.specs.Asking.{opened_records}
@@ -40,9 +40,11 @@ use Rattle.job_worker.specs.Ending.{units_cut}
 use Rattle.store_stop.specs.declared.headline.Stopped.{Stopped}
 use Rattle.store_stop.specs.Headline.{HasSeen, IsCutAsMarked, parts_shown, cut_states}
 use Rattle.store_stop.proofs.Items.{all_gives}
+use Rattle.job_report.specs.Ranges.{AreRuns}
 use Rattle.job_report.specs.Reported.{WasRun}
 use Rattle.job_report.proofs.Answering.{lines_for}
 use Rattle.job_report.proofs.Naming.{named_alike, sums_alike, cut_named}
+use Rattle.job_report.proofs.RunLaws.{all_short}
 
 -- ---- marks
 same_by : (a b : Option ℕ) → same_caller a b ≡ true → a ≡ b
@@ -77,7 +79,8 @@ cut_state_of x (b ∷ base) (g ∷ histories) zero state h e f =
 cut_state_of x (b ∷ base) (g ∷ histories) (suc unit) state h e f = cut_state_of x base histories unit state h e f
 
 module _ (j : Job) (o : Opening) (callers : List CallerShown) (outcomes : List (List Outcome)) (t : Stopped) (image : List ℕ)
-    (image_clock : ℕ) (contents : List State) (w : WasRun j o callers outcomes t image image_clock contents) where
+    (image_clock : ℕ) (contents : List State) (w : WasRun j o callers outcomes t image image_clock contents)
+    (own : List (List Run)) (are_runs : AreRuns (states_of t.base) t.histories own) where
   abbrev told : Report
   told = record {
     layout = j.layout;
@@ -85,6 +88,7 @@ module _ (j : Job) (o : Opening) (callers : List CallerShown) (outcomes : List (
     base_clock = t.base_clock;
     base = states_of t.base;
     histories = t.histories;
+    runs = own;
     outcomes = outcomes;
     image_clock = image_clock;
     contents = contents;
@@ -191,6 +195,10 @@ module _ (j : Job) (o : Opening) (callers : List CallerShown) (outcomes : List (
   legal unit state h e f =
       subst (λ (s : Shape). IsLegal s unit state t.base_clock h) w.layout (w.stopped.legal.each unit state h e f)
 
+  runs : (unit : ℕ) → RunsAt told (states_of t.base) unit
+  runs unit state h e f =
+      are_runs.each unit state h e f (all_short j.layout unit h (legal unit state h e f).of_unit)
+
   answers : (k : ℕ) → AnsweredAt j (opened_records o) told k
   answers k xs e =
       let left = caller_at k xs e in
@@ -230,13 +238,16 @@ module _ (j : Job) (o : Opening) (callers : List CallerShown) (outcomes : List (
       job = record { layout = refl; callers = refl };
       clocks = record { base_clock = refl; begun = begun; last = last };
       whole = record {
+        base = w.stopped.legal.based ∙ ap units_of w.layout;
         histories = w.stopped.legal.units ∙ ap units_of w.layout;
+        runs = are_runs.units ∙ w.stopped.legal.units ∙ ap units_of w.layout;
         outcomes = w.answered;
         contents = w.recovered.0 ∙ ap units_of w.layout;
       };
     };
     base_states = refl;
     legal = legal;
+    runs = runs;
     answers = answers;
     named_once = named_once;
     cut = cut;

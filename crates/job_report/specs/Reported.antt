@@ -3,7 +3,7 @@
 use Rattle.std.specs.Prelude.{◌≡◌, ℕ, List, [], length, slice_get, Some}
 use Rattle.mont_base.specs.Faults.{Rose}
 use Rattle.mont_base.specs.Image.{IsPermitted, IsRecovered, clock_of}
-use Rattle.mont_base.specs.State.{State}
+use Rattle.mont_base.specs.State.{State, Run}
 use Rattle.plain.specs.States.{states_of}
 use Rattle.heap_rule.specs.declared.rule.Opening.{Opening}
 use Rattle.heap_rule.specs.declared.views.CallerHeld.{CallerHeld}
@@ -47,14 +47,17 @@ pub record WasRun (j : Job) (o : Opening) (callers : List CallerShown)
   pub clock : image_clock ≡ clock_of image
   pub recovered : IsRecovered o.layout image contents
 
--- the report of a job, beside what the stopped store told, with an image's clock and contents
-abbrev pub report_made : Job → Stopped → List (List Outcome) → ℕ → List State → Report
-report_made j t outcomes image_clock contents = record {
+-- the report of a job, beside what the stopped store told and the runs of its ranges, with an
+-- image's clock and contents
+abbrev pub report_made :
+    Job → Stopped → List (List Run) → List (List Outcome) → ℕ → List State → Report
+report_made j t runs outcomes image_clock contents = record {
   layout = j.layout;
   callers = j.callers;
   base_clock = t.base_clock;
   base = states_of t.base;
   histories = t.histories;
+  runs = runs;
   outcomes = outcomes;
   image_clock = image_clock;
   contents = contents;

@@ -3,5 +3,6 @@
 #![tactic(auto)]
 
 mod reported;
+mod runs;
 
 pub use reported::make_report;

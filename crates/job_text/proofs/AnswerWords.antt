@@ -1,220 +1,158 @@
 -- How an operation and its reply are spelled, and the lines of entries.
-use Rattle.std.proofs.Common.{◌≡◌, ◌≢◌, ℕ, ◌+◌, ◌-◌, ◌*◌, ◌^◌, ◌≤◌, ◌<◌, Bool, true, false, not, ◌⊎◌, inl, inr, Bor, List, [], ◌∷◌, ◌++◌, length, map, take, drop, get_or, decimal, codes, refl, sym, ap, ◌∙◌, subst, arith, lit≤, lit<}
+use Rattle.std.proofs.Common.{◌≡◌, ◌≢◌, ℕ, ◌+◌, ◌-◌, ◌*◌, ◌^◌, ◌≤◌, ◌<◌, Bool, true, false, not, Bor, List, [], ◌∷◌, ◌++◌, length, map, take, drop, get_or, decimal, codes, refl, sym, ap, ◌∙◌, subst, arith, lit≤, lit<}
 use Rattle.std.specs.List.{All}
-use Rattle.std.proofs.lemmas.List.{append_assoc, map-append, length-append, take_all}
+use Rattle.std.proofs.lemmas.List.{map-append, length-append, length-map, length-take-le, length-drop, take-append-drop, take_all}
 use Rattle.std.proofs.lemmas.List.Elements.{All-cons, All-head, All-tail}
 use Rattle.std.proofs.lemmas.Fmt.{decimal_injective}
-use Rattle.mont_base.specs.declared.operation.Entry.{Entry}
 use Rattle.mont_base.specs.declared.operation.Op.{Op}
 use Rattle.mont_base.specs.declared.operation.Op.TheVariants as ops
 use Rattle.mont_base.specs.declared.operation.Reply.{Reply}
 use Rattle.mont_base.specs.declared.operation.Reply.TheVariants as replies
-use Rattle.mont_base.specs.Texts.{IsText}
-use Rattle.job_text.specs.declared.words.TheConstants.{MOST_WORDS}
-use Rattle.job_text.specs.Spelling.{op_words, reply_words, text_word}
-use Rattle.job_text.specs.Operations.{IsOp, IsNumber}
-use Rattle.job_text.specs.ReportText.{entry_words}
-use Rattle.job_text.specs.ReportRanges.{IsReply, IsEntry, is_of_key}
-use Rattle.job_text.specs.ReportRows.{answer_words, is_short}
+use Rattle.mont_base.specs.State.{Run}
+use Rattle.job_text.specs.declared.op_name.OpName.{OpName}
+use Rattle.job_text.specs.Spelling.{op_words, reply_words, run_words, text_word}
+use Rattle.job_text.specs.Operations.{IsOp, IsNumber, name_word, args_count}
+use Rattle.job_text.specs.ReportText.{entry_words, answer_words}
+use Rattle.job_text.specs.ReportRanges.{IsReply, IsRunOf, IsSpelled, is_of_key}
 use Rattle.job_text.specs.TextParts.{Row}
 use Rattle.job_text.proofs.TextWords.{text_word_once}
+use Rattle.job_text.proofs.OpSpelling.{name_of, args_of, op_spelled, name_once, first_words, args_counted}
+use Rattle.job_text.proofs.SeenWords.{few_op_words}
 use Rattle.job_text.proofs.Once.{op_once}
 use Rattle.job_text.proofs.Counted.{three_numbers}
 use Rattle.job_text.proofs.ReadLines.{IsLinePart}
+use Rattle.job_text.proofs.RunWords.{AllPairs, run_words_long, run_once}
 
-equals : List ℕ
-equals = codes "="
-
--- ---- lists by their last items
-pub last_parts : {X : Type 0} (xs ys : List X) (x y : X) → xs ++ x ∷ [] ≡ ys ++ y ∷ [] → (xs ≡ ys) × (x ≡ y)
-last_parts [] [] x y e = (refl, cc)
-last_parts [] (v ∷ []) x y e = absurd (cc)
-last_parts [] (v ∷ w ∷ ys) x y e = absurd (cc)
-last_parts (u ∷ []) [] x y e = absurd (cc)
-last_parts (u ∷ w ∷ xs) [] x y e = absurd (cc)
-last_parts (u ∷ xs) (v ∷ ys) x y e =
-    let first : u ≡ v = cc in
-    let rest : xs ++ x ∷ [] ≡ ys ++ y ∷ [] = cc in
-    let more = last_parts xs ys x y rest in
+-- ---- lists with others behind them
+pub same_front : {X : Type 0} (xs ys us vs : List X) → length xs ≡ length ys → xs ++ us ≡ ys ++ vs → (xs ≡ ys) × (us ≡ vs)
+same_front [] [] us vs long e = (refl, e)
+same_front [] (y ∷ ys) us vs long e = absurd (omega (arith, long))
+same_front (x ∷ xs) [] us vs long e = absurd (omega (arith, long))
+same_front (x ∷ xs) (y ∷ ys) us vs long e =
+    let first : x ≡ y = cc in
+    let rest : xs ++ us ≡ ys ++ vs = cc in
+    let more = same_front xs ys us vs (omega (arith, long)) rest in
     ((let same : xs ≡ ys = more.0 in cc), more.1)
-
-pub nows_push : (ws front : List (Bor (List ℕ))) (x : Bor (List ℕ)) → ws ≡ front ++ x ∷ [] → map (λ word. word.now) ws
-    ≡ map (λ word. word.now) front ++ x.now ∷ []
-nows_push ws front x e = ap (map (λ word. word.now)) e ∙ map-append (λ word. word.now) front (x ∷ [])
-
--- ---- replies
--- a reply has one word, or two of which the first isn't `=`
-HasOne : Reply → Type 0
-HasOne r = (word : List ℕ) × (reply_words r ≡ word ∷ []) × (is_short r ≡ true)
-
-HasTwo : Reply → Type 0
-HasTwo r = (name : List ℕ) × (word : List ℕ) × (reply_words r ≡ name ∷ word ∷ []) × (name ≢ codes "=")
-
-first_code : List ℕ → ℕ
-first_code word = get_or word 0 0
-
-reply_shape : (r : Reply) → HasOne r ⊎ HasTwo r
-unfolding HasOne HasTwo
-reply_shape replies.Nothing = inl (codes "none", refl, refl)
-reply_shape (replies.Was value) = inr (codes "was", decimal value, refl, λ e. omega (arith, ap (λ (w : List ℕ). get_or w 0 0) e))
-reply_shape (replies.WasText value) = inr (codes "was", text_word value, refl, λ e. omega (arith, ap (λ (w : List ℕ). get_or w 0 0) e))
-reply_shape (replies.Count number) = inr (codes "count", decimal number, refl, λ e. omega (arith, ap (λ (w : List ℕ). get_or w 0 0) e))
-reply_shape replies.NoEnds = inl (codes "noends", refl, refl)
-
--- the words of an operation, `=` and a reply, by the last ones
-module _ (ws us vs ow : Row) (l b : List ℕ) (r : Reply) (last : ws ≡ us ++ l ∷ []) (before : us ≡ vs ++ b ∷ [])
-    (whole : ws ≡ ow ++ codes "=" ∷ reply_words r) where
-  one_word : (w : List ℕ) → reply_words r ≡ w ∷ [] → (us ≡ ow ++ codes "=" ∷ []) × (l ≡ w)
-  one_word w is = last_parts us (ow ++ codes "=" ∷ []) l w
-      (sym last ∙ whole ∙ ap (λ (t : Row). ow ++ codes "=" ∷ t) is ∙ sym (append_assoc ow (codes "=" ∷ []) (w ∷ [])))
-
-  two_words : (name w : List ℕ) → reply_words r ≡ name ∷ w ∷ [] → (us ≡ (ow ++ codes "=" ∷ []) ++ name ∷ []) × (l ≡ w)
-  two_words name w is = last_parts us ((ow ++ codes "=" ∷ []) ++ name ∷ []) l w
-      (sym last ∙ whole ∙ ap (λ (t : Row). ow ++ codes "=" ∷ t) is ∙ sym (append_assoc ow (codes "=" ∷ []) (name ∷ w ∷ []))
-      ∙ sym (append_assoc (ow ++ codes "=" ∷ []) (name ∷ []) (w ∷ [])))
-
-  pub short_split : b ≡ codes "=" → (ow ≡ vs) × (reply_words r ≡ l ∷ [])
-  unfolding HasOne HasTwo
-  short_split is = elim (reply_shape r) [
-    | inl one ↦
-        let parts = one_word one.0 one.1 in
-        (sym (last_parts vs ow b (codes "=") (sym before ∙ parts.0)).0, one.1 ∙ ap (λ (w : List ℕ). w ∷ []) (sym parts.1))
-    | inr two ↦
-        let parts = two_words two.0 two.1 two.2 in
-        let same = (last_parts vs (ow ++ codes "=" ∷ []) b two.0 (sym before ∙ parts.0)).1 in
-        absurd (two.3 (sym same ∙ is))
-  ]
-
-  pub long_split : b ≢ codes "=" → (vs ≡ ow ++ codes "=" ∷ []) × (reply_words r ≡ b ∷ l ∷ [])
-  unfolding HasOne HasTwo
-  long_split differs = elim (reply_shape r) [
-    | inl one ↦
-        let parts = one_word one.0 one.1 in
-        absurd (differs (last_parts vs ow b (codes "=") (sym before ∙ parts.0)).1)
-    | inr two ↦
-        let parts = two_words two.0 two.1 two.2 in
-        let same = last_parts vs (ow ++ codes "=" ∷ []) b two.0 (sym before ∙ parts.0) in
-        (same.0, two.2 ∙ (λ i. sym same.1 i ∷ sym parts.1 i ∷ []))
-  ]
-
-pub short_is : (k : Bool) (r : Reply) → is_short r ≡ true → IsReply k r
-short_is true replies.Nothing e = tt
-short_is false replies.Nothing e = tt
-short_is true replies.NoEnds e = tt
-short_is false replies.NoEnds e = tt
-short_is _ _ e = absurd (cc)
 
 abbrev pub Nows : List (Bor (List ℕ)) → Row
 Nows ws = map (λ word. word.now) ws
 
-pub short_answer : (ws us vs : List (Bor (List ℕ))) (l b : Bor (List ℕ)) (o : Op) (r : Reply) → ws ≡ us ++ l ∷ [] → us ≡ vs ++ b ∷ []
-    → b.now ≡ codes "=" → IsOp o × (Nows vs ≡ op_words o) → (is_short r ≡ true) × (reply_words r ≡ l.now ∷ [])
-    → IsOp o × IsReply (is_of_key o) r × (Nows ws ≡ answer_words o r)
-short_answer ws us vs l b o r last before is op reply = (
-  op.0,
-  short_is (is_of_key o) r reply.0,
-  nows_push ws us l last ∙ ap (λ (t : Row). t ++ l.now ∷ []) (nows_push us vs b before ∙ (λ i. op.1 i ++ is i ∷ []))
-      ∙ append_assoc (op_words o) (codes "=" ∷ []) (l.now ∷ []) ∙ ap (λ (t : Row). op_words o ++ codes "=" ∷ t) (sym reply.1),
-)
-
-pub long_answer : (ws us vs zs : List (Bor (List ℕ))) (l b e : Bor (List ℕ)) (o : Op) (r : Reply) → ws ≡ us ++ l ∷ []
-    → us ≡ vs ++ b ∷ []
-    → vs ≡ zs ++ e ∷ [] → e.now ≡ codes "=" → IsOp o × (Nows zs ≡ op_words o)
-    → IsReply (is_of_key o) r × (reply_words r ≡ b.now ∷ l.now ∷ []) → IsOp o × IsReply (is_of_key o) r × (Nows ws ≡ answer_words o r)
-long_answer ws us vs zs l b e o r last before third is op reply = (
-  op.0,
-  reply.0,
-  nows_push ws us l last
-      ∙ ap (λ (t : Row). t ++ l.now ∷ []) (nows_push us vs b before ∙ ap (λ (t : Row). t ++ b.now ∷ []) (nows_push vs zs e third
-      ∙ (λ i. op.1 i ++ is i ∷ [])))
-      ∙ append_assoc (op_words o ++ codes "=" ∷ []) (b.now ∷ []) (l.now ∷ [])
-      ∙ append_assoc (op_words o) (codes "=" ∷ []) (b.now ∷ l.now ∷ [])
-      ∙ ap (λ (t : Row). op_words o ++ codes "=" ∷ t) (sym reply.1),
-)
-
 -- ---- entries
-few_op_words : (o : Op) → length (op_words o) ≤ 5
-few_op_words (ops.Put k v) = lit≤ tt
-few_op_words (ops.Get k) = lit≤ tt
-few_op_words (ops.Del k) = lit≤ tt
-few_op_words (ops.Enq u i) = lit≤ tt
-few_op_words (ops.Deq u) = lit≤ tt
-few_op_words (ops.Len u) = lit≤ tt
-few_op_words (ops.AddV u v a) = lit≤ tt
-few_op_words (ops.DelV u v) = lit≤ tt
-few_op_words (ops.AddE u f t a) = lit≤ tt
-few_op_words (ops.DelE u f t) = lit≤ tt
-few_op_words (ops.Vertex u v) = lit≤ tt
-few_op_words (ops.Degree u v) = lit≤ tt
-
 few_reply_words : (r : Reply) → length (reply_words r) ≤ 2
 few_reply_words replies.Nothing = lit≤ tt
 few_reply_words (replies.Was v) = lit≤ tt
 few_reply_words (replies.WasText v) = lit≤ tt
 few_reply_words (replies.Count n) = lit≤ tt
 few_reply_words replies.NoEnds = lit≤ tt
+few_reply_words (replies.Key k) = lit≤ tt
+few_reply_words (replies.Pairs n) = lit≤ tt
 
-reply_once : (k : Bool) (r s : Reply) → IsReply k r → IsReply k s → reply_words r ≡ reply_words s → r ≡ s
-reply_once k replies.Nothing replies.Nothing a b e = refl
-reply_once true (replies.Was v) (replies.Was w) a b e = absurd a
-reply_once false (replies.Was v) (replies.Was w) a b e =
-    let same = decimal_injective v w a b (let d : decimal v ≡ decimal w = cc in d) in cc
-reply_once true (replies.WasText v) (replies.WasText w) a b e =
-    let same = text_word_once v w a b (let d : text_word v ≡ text_word w = cc in d) in cc
-reply_once false (replies.WasText v) (replies.WasText w) a b e = absurd a
-reply_once true (replies.Was v) (replies.WasText w) a b e = absurd a
-reply_once false (replies.Was v) (replies.WasText w) a b e = absurd b
-reply_once true (replies.WasText v) (replies.Was w) a b e = absurd b
-reply_once false (replies.WasText v) (replies.Was w) a b e = absurd a
-reply_once true (replies.Count v) (replies.Count w) a b e =
-    let same = decimal_injective v w a b (let d : decimal v ≡ decimal w = cc in d) in cc
-reply_once false (replies.Count v) (replies.Count w) a b e =
-    let same = decimal_injective v w a b (let d : decimal v ≡ decimal w = cc in d) in cc
-reply_once k replies.NoEnds replies.NoEnds a b e = refl
-reply_once k _ _ a b e = absurd (omega (arith, ap (λ (ws : Row). length (get_or ws 0 []) * 1000 + length ws) e))
+few_run_words : (k : Bool) (r : Reply) (run : Run) → IsReply k r → IsRunOf r run → length (run_words run) ≤ 32
+few_run_words k replies.Nothing run is of = omega (arith, ap (λ (t : Run). length (run_words t)) of)
+few_run_words k (replies.Was v) run is of = omega (arith, ap (λ (t : Run). length (run_words t)) of)
+few_run_words k (replies.WasText v) run is of = omega (arith, ap (λ (t : Run). length (run_words t)) of)
+few_run_words k (replies.Count n) run is of = omega (arith, ap (λ (t : Run). length (run_words t)) of)
+few_run_words k replies.NoEnds run is of = omega (arith, ap (λ (t : Run). length (run_words t)) of)
+few_run_words k (replies.Key key) run is of = omega (arith, ap (λ (t : Run). length (run_words t)) of)
+few_run_words true (replies.Pairs n) run is of = omega (arith, run_words_long run, of.1, is)
+few_run_words false (replies.Pairs n) run is of = omega (arith, run_words_long run, of.1, is)
 
--- an operation and its reply are told by their words
-pub answer_once : (o p : Op) (r s : Reply) → IsOp o → IsOp p → IsReply (is_of_key o) r → IsReply (is_of_key p) s
-    → answer_words o r ≡ answer_words p s → (o ≡ p) × (r ≡ s)
-unfolding HasOne HasTwo
-answer_once o p r s is are fits suits e = by_shape (reply_shape r)
-  where
-    from_words : op_words o ≡ op_words p → reply_words r ≡ reply_words s → (o ≡ p) × (r ≡ s)
-    from_words ow rw =
-        let same = op_once o p is are ow in
-        (same, reply_once (is_of_key p) r s (subst (λ (q : Op). IsReply (is_of_key q) r) same fits) suits rw)
+-- the first word of a reply as one number
+reply_mark : Row → ℕ
+reply_mark ws = length (get_or ws 0 []) * 1000 + get_or (get_or ws 0 []) 0 0
 
-    by_shape : HasOne r ⊎ HasTwo r → (o ≡ p) × (r ≡ s)
-    by_shape (inl one) =
-        let parts = short_split (answer_words o r) (op_words o ++ codes "=" ∷ []) (op_words o) (op_words p) one.0 (codes "=") s
-        (ap (λ (t : Row). op_words o ++ codes "=" ∷ t) one.1
-        ∙ sym (append_assoc (op_words o) (codes "=" ∷ []) (one.0 ∷ []))) refl e refl in
-        from_words (sym parts.0) (one.1 ∙ sym parts.1)
-    by_shape (inr two) =
-        let parts = long_split (answer_words o r) ((op_words o ++ codes "=" ∷ []) ++ two.0 ∷ []) (op_words o ++ codes "=" ∷ [])
-        (op_words p) two.1
-        two.0 s
-        (ap (λ (t : Row). op_words o ++ codes "=" ∷ t) two.2 ∙ sym (append_assoc (op_words o) (codes "=" ∷ []) (two.0 ∷ two.1 ∷ []))
-        ∙ sym (append_assoc (op_words o ++ codes "=" ∷ []) (two.0 ∷ []) (two.1 ∷ []))) refl e two.3 in
-        from_words (last_parts (op_words o) (op_words p) (codes "=") (codes "=") parts.0).0 (two.2 ∙ sym parts.1)
+pub reply_once : (k : Bool) (r s : Reply) (a b : Run) → IsReply k r → IsReply k s → IsRunOf r a → IsRunOf s b
+    → reply_words r ++ run_words a ≡ reply_words s ++ run_words b → (r ≡ s) × (a ≡ b)
+unfolding reply_mark
+reply_once k replies.Nothing replies.Nothing a b is are of too e = (refl, of ∙ sym too)
+reply_once true (replies.Was v) (replies.Was w) a b is are of too e = absurd is
+reply_once false (replies.Was v) (replies.Was w) a b is are of too e =
+    let same = decimal_injective v w is are (let d : decimal v ≡ decimal w = cc in d) in (cc, of ∙ sym too)
+reply_once true (replies.WasText v) (replies.WasText w) a b is are of too e =
+    let same = text_word_once v w is are (let d : text_word v ≡ text_word w = cc in d) in (cc, of ∙ sym too)
+reply_once false (replies.WasText v) (replies.WasText w) a b is are of too e = absurd is
+reply_once true (replies.Was v) (replies.WasText w) a b is are of too e = absurd is
+reply_once false (replies.Was v) (replies.WasText w) a b is are of too e = absurd are
+reply_once true (replies.WasText v) (replies.Was w) a b is are of too e = absurd are
+reply_once false (replies.WasText v) (replies.Was w) a b is are of too e = absurd is
+reply_once k (replies.Count v) (replies.Count w) a b is are of too e =
+    let same = decimal_injective v w is are (let d : decimal v ≡ decimal w = cc in d) in (cc, of ∙ sym too)
+reply_once k replies.NoEnds replies.NoEnds a b is are of too e = (refl, of ∙ sym too)
+reply_once k (replies.Key v) (replies.Key w) a b is are of too e =
+    let same = text_word_once v w is are (let d : text_word v ≡ text_word w = cc in d) in (cc, of ∙ sym too)
+reply_once k (replies.Pairs v) (replies.Pairs w) a b is are of too e =
+    let same = decimal_injective v w (omega (arith, is)) (omega (arith, are)) (let d : decimal v ≡ decimal w = cc in d) in
+    (cc, run_once 0 0 a b of.0 too.0 (let d : run_words a ≡ run_words b = cc in d))
+reply_once k _ _ a b is are of too e = absurd (omega (arith, ap reply_mark e))
 
-pub entry_part : (callers place : ℕ) → (1 ≤ callers) × (callers < 2 ^ 64) → IsLinePart (IsEntry callers) (entry_words place)
+-- words that begin as those of pairs are those of pairs
+pub pairs_told : (k : Bool) (r : Reply) (run : Run) (number : ℕ) (other : Run) → IsReply k r → IsRunOf r run → IsNumber number
+    → AllPairs 0 other → codes "pairs" ∷ decimal number ∷ run_words other ≡ reply_words r ++ run_words run → length other ≡ number
+unfolding reply_mark
+pairs_told k (replies.Pairs n) run number other is of small all e =
+    let same = decimal_injective number n small (omega (arith, is)) (let d : decimal number ≡ decimal n = cc in d) in
+    ap length (run_once 0 0 other run all of.0 (let d : run_words other ≡ run_words run = cc in d)) ∙ of.1 ∙ sym same
+pairs_told k _ run number other is of small all e = absurd (omega (arith, ap reply_mark e))
+
+-- ---- an operation and its reply are told by their words
+-- as many words as its first word tells
+pub op_counted : (o : Op) (n : OpName) (word : List ℕ) (rest more : Row) → word ∷ rest ≡ op_words o ++ more → word ≡ name_word n
+    → length (op_words o) ≡ 1 + args_count n
+op_counted o n word rest more e is =
+    let parts = first_words word (name_word (name_of o)) rest (args_of o ++ more)
+    (e ∙ ap (λ (ws : Row). ws ++ more) (op_spelled o)) in
+    args_counted o ∙ ap (λ (m : OpName). 1 + args_count m) (name_once (name_of o) n (sym parts.0 ∙ is))
+
+same_count : (o p : Op) (us vs : Row) → op_words o ++ us ≡ op_words p ++ vs → length (op_words o) ≡ length (op_words p)
+same_count o p us vs e =
+    op_counted o (name_of p) (name_word (name_of o)) (args_of o ++ us) us (sym (ap (λ (ws : Row). ws ++ us) (op_spelled o)))
+    (first_words (name_word (name_of o)) (name_word (name_of p)) (args_of o ++ us) (args_of p ++ vs)
+    (sym (ap (λ (ws : Row). ws ++ us) (op_spelled o)) ∙ e ∙ ap (λ (ws : Row). ws ++ vs) (op_spelled p))).0
+    ∙ sym (args_counted p)
+
+pub answer_once : (o p : Op) (r s : Reply) (a b : Run) → IsOp o → IsOp p → IsReply (is_of_key o) r → IsReply (is_of_key p) s
+    → IsRunOf r a → IsRunOf s b → answer_words o r a ≡ answer_words p s b → (o ≡ p) × (r ≡ s) × (a ≡ b)
+answer_once o p r s a b is are fits suits of too e =
+    let mine = codes "=" ∷ (reply_words r ++ run_words a) in
+    let theirs = codes "=" ∷ (reply_words s ++ run_words b) in
+    let parts = same_front (op_words o) (op_words p) mine theirs (same_count o p mine theirs e) e in
+    let same = op_once o p is are parts.0 in
+    let behind = first_words (codes "=") (codes "=") (reply_words r ++ run_words a) (reply_words s ++ run_words b) parts.1 in
+    let reply = reply_once (is_of_key p) r s a b (subst (λ (q : Op). IsReply (is_of_key q) r) same fits) suits of too behind.1 in
+    (same, reply.0, reply.1)
+
+pub entry_part : (callers place : ℕ) → (1 ≤ callers) × (callers < 2 ^ 64) → IsLinePart (IsSpelled callers) (entry_words place)
 entry_part callers place some = record {
-  value = record { caller = 0; call = 0; op = ops.Len 0; reply = replies.Nothing; epoch = 0 };
-  is = record { caller = (let one = some.0 in omega arith); call = lit< tt; op = lit< tt; reply = tt; epoch = lit< tt };
-  short = λ e is.
-      omega (arith, few_op_words e.op, few_reply_words e.reply, length-append (op_words e.op) (codes "=" ∷ reply_words e.reply));
-  once = λ d e is are words.
+  value = (record { caller = 0; call = 0; op = ops.Len 0; reply = replies.Nothing; epoch = 0 }, []);
+  is = (
+    record { caller = (let one = some.0 in omega arith); call = lit< tt; op = lit< tt; reply = tt; epoch = lit< tt },
+    refl,
+  );
+  short = λ p is.
+      omega (
+        arith,
+        few_op_words p.0.op,
+        few_reply_words p.0.reply,
+        few_run_words (is_of_key p.0.op) p.0.reply p.1 is.0.reply is.1,
+        length-append (op_words p.0.op) (codes "=" ∷ (reply_words p.0.reply ++ run_words p.1)),
+        length-append (reply_words p.0.reply) (run_words p.1),
+      );
+  once = λ p q is are words.
+      let d = p.0 in
+      let e = q.0 in
       let caller : d.caller ≡ e.caller = decimal_injective d.caller e.caller
-      (let low = is.caller in let few = some.1 in omega arith) (let low = are.caller in let few = some.1 in omega arith)
+      (let low = is.0.caller in let few = some.1 in omega arith) (let low = are.0.caller in let few = some.1 in omega arith)
       (let w : decimal d.caller ≡ decimal e.caller = cc in w) in
-      let call : d.call ≡ e.call = decimal_injective d.call e.call is.call are.call (let w : decimal d.call
+      let call : d.call ≡ e.call = decimal_injective d.call e.call is.0.call are.0.call (let w : decimal d.call
       ≡ decimal e.call = cc in w) in
-      let epoch : d.epoch ≡ e.epoch = decimal_injective d.epoch e.epoch is.epoch are.epoch (let w : decimal d.epoch
+      let epoch : d.epoch ≡ e.epoch = decimal_injective d.epoch e.epoch is.0.epoch are.0.epoch (let w : decimal d.epoch
       ≡ decimal e.epoch = cc in w) in
-      let answer = answer_once d.op e.op d.reply e.reply is.op are.op is.reply are.reply
-      (let w : answer_words d.op d.reply ≡ answer_words e.op e.reply = cc in w) in
-      λ i. record { caller = caller i; call = call i; op = answer.0 i; reply = answer.1 i; epoch = epoch i };
+      let answer = answer_once d.op e.op d.reply e.reply p.1 q.1 is.0.op are.0.op is.0.reply are.0.reply is.1 are.1
+      (let w : answer_words d.op d.reply p.1 ≡ answer_words e.op e.reply q.1 = cc in w) in
+      λ i. (
+        record { caller = caller i; call = call i; op = answer.0 i; reply = answer.1 i; epoch = epoch i },
+        answer.2 i,
+      );
 }
 
 -- ---- tests of words
@@ -252,3 +190,37 @@ leading_numbers (m ∷ n ∷ ns) a b d f x y all e one two = (
   decimal_injective m a (All-head IsNumber m (n ∷ ns) all) one (let same : decimal m ≡ decimal a = cc in same),
   decimal_injective n b (All-head IsNumber n ns (All-tail IsNumber m (n ∷ ns) all)) two (let same : decimal n ≡ decimal b = cc in same),
 )
+
+-- ---- the words of an entry behind its numbers
+-- the first words, as many as these, and those behind them
+pub parted : (ws : List (Bor (List ℕ))) (n : ℕ) (xs ys : Row) → Nows ws ≡ xs ++ ys → length xs ≡ n
+    → (Nows (take n ws) ≡ xs) × (Nows (take (length ws - n) (drop n ws)) ≡ ys)
+parted ws n xs ys e long =
+    let whole = ap length e in
+    let low : n ≤ length ws = omega (arith, whole, long, length-map ws (λ word. word.now), length-append xs ys) in
+    let both : Nows (take n ws) ++ Nows (drop n ws) ≡ xs ++ ys =
+    sym (map-append (λ word. word.now) (take n ws) (drop n ws)) ∙ ap Nows (take-append-drop n ws) ∙ e in
+    let parts = same_front (Nows (take n ws)) xs (Nows (drop n ws)) ys
+    (length-map (take n ws) (λ word. word.now) ∙ length-take-le n ws low ∙ sym long) both in
+    (parts.0, ap Nows (all_behind ws n low) ∙ parts.1)
+  where
+    all_behind : (ws : List (Bor (List ℕ))) (n : ℕ) → n ≤ length ws → take (length ws - n) (drop n ws) ≡ drop n ws
+    all_behind ws n low = take_all (length ws - n) (drop n ws) (omega (arith, length-drop n ws))
+
+pub joined_words : (ws : List (Bor (List ℕ))) (n : ℕ) (xs ys : Row) → n ≤ length ws → Nows (take n ws) ≡ xs
+    → Nows (take (length ws - n) (drop n ws)) ≡ ys → Nows ws ≡ xs ++ ys
+joined_words ws n xs ys low first second =
+    sym (ap Nows (take-append-drop n ws)) ∙ map-append (λ word. word.now) (take n ws) (drop n ws)
+    ∙ (λ i. first i ++ (ap Nows (sym (take_all (length ws - n) (drop n ws) (omega (arith, length-drop n ws)))) ∙ second) i)
+
+-- whose first word is this, and names an operation
+module _ (ws : List (Bor (List ℕ))) (word : Bor (List ℕ)) (behind : List (Bor (List ℕ))) (first : ws ≡ word ∷ behind) where
+  pub no_name_here : ((n : OpName) → word.now ≢ name_word n) → (o : Op) (more : Row) → Nows ws ≢ op_words o ++ more
+  no_name_here none o more e =
+      none (name_of o)
+      (first_words word.now (name_word (name_of o)) (Nows behind) (args_of o ++ more)
+      (ap Nows (sym first) ∙ e ∙ ap (λ (t : Row). t ++ more) (op_spelled o))).0
+
+  pub counted_here : (n : OpName) (o : Op) (more : Row) → word.now ≡ name_word n → Nows ws ≡ op_words o ++ more
+      → length (op_words o) ≡ 1 + args_count n
+  counted_here n o more is e = op_counted o n word.now (Nows behind) more (ap Nows (sym first) ∙ e) is

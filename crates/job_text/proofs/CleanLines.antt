@@ -1,13 +1,11 @@
 -- The lines of a text whose words have no space and no line feed are these lines.
-use Rattle.std.proofs.Common.{◌≡◌, ℕ, List, [], ◌∷◌, ◌++◌, length, map, refl, sym, ap, ◌∙◌}
+use Rattle.std.proofs.Common.{◌≡◌, ℕ, List, [], ◌∷◌, ◌++◌, refl, ap, ◌∙◌}
 use Rattle.std.proofs.lemmas.List.{append_assoc}
-use Rattle.std.specs.List.{All}
 use Rattle.job_text.specs.Lines.{spaced, line_of, text_of}
-use Rattle.job_text.specs.Parts.{Lacks, IsSplit}
+use Rattle.job_text.specs.Parts.{Lacks}
 use Rattle.job_text.specs.LineWords.{words_of}
 use Rattle.job_text.specs.TextParts.{Row}
 use Rattle.job_text.specs.Readings.{lines_in}
-use Rattle.job_text.proofs.LineWords.{words_spaced}
 use Rattle.job_text.proofs.ReadLines.{lines_split}
 
 -- a line whose words are found again, and which has no line feed

@@ -1,26 +1,26 @@
 -- The lines of reports have no words with a space or a line feed in them.
-use Rattle.std.proofs.Common.{◌≡◌, ℕ, suc, ◌+◌, ◌^◌, ◌<◌, ◌≤◌, Bool, true, false, List, [], ◌∷◌, ◌++◌, length, map, codes, decimal, refl, sym, ap, ◌∙◌, subst, arith, lit<}
+use Rattle.std.proofs.Common.{Option, Some, ℕ, ◌+◌, ◌^◌, ◌<◌, ◌≤◌, Bool, true, false, List, [], ◌∷◌, ◌++◌, length, map, codes, decimal, refl, sym, subst, arith, lit<}
 use Rattle.std.specs.List.{All}
 use Rattle.std.specs.FinMap.{entries, len, len-entries}
 use Rattle.std.proofs.lemmas.List.Elements.{All-cons, All-nil, All-append}
 use Rattle.mont_base.specs.declared.kinds.UnitKind.{UnitKind}
 use Rattle.mont_base.specs.declared.kinds.UnitKind.TheVariants as kinds
-use Rattle.mont_base.specs.declared.operation.Entry.{Entry}
 use Rattle.mont_base.specs.declared.operation.Reply.{Reply}
 use Rattle.mont_base.specs.declared.operation.Reply.TheVariants as replies
 use Rattle.mont_base.specs.declared.refusal.Which.{Which}
 use Rattle.mont_base.specs.declared.refusal.Which.TheVariants as counts
-use Rattle.mont_base.specs.Layout.{Shape, IsLayout, letters_of}
-use Rattle.mont_base.specs.State.{State, MapOf, QueueOf, GraphOf}
+use Rattle.mont_base.specs.Layout.{letters_of}
+use Rattle.mont_base.specs.State.{State, MapOf, QueueOf, GraphOf, Run}
 use Rattle.job_text.specs.declared.outcome.Outcome.{Outcome}
 use Rattle.job_text.specs.declared.outcome.Outcome.TheVariants as outcomes
 use Rattle.job_text.specs.Operations.{IsNumber}
-use Rattle.job_text.specs.Spelling.{op_words, reply_words}
+use Rattle.job_text.specs.Spelling.{text_word, op_words, reply_words, pair_words, run_words}
 use Rattle.job_text.specs.Report.{Report}
+use Rattle.job_text.specs.Runs.{Spelled, spelled_all}
 use Rattle.job_text.specs.TextParts.{Row, rows_from, AllFrom}
-use Rattle.job_text.specs.ReportText.{report_lines, state_lines, contents_lines, entry_words, history_lines, histories_lines, outcome_words, count_word, caller_lines, outcomes_lines, pair_words, item_words, vertex_words, edge_words}
-use Rattle.job_text.specs.ReportRanges.{IsReport, IsStateOf, IsUnit, AreCounted, IsEntry, IsReply, is_of_key, AreNumbers, IsOutcomeAt, AreOutcomes, IsPair, IsVertex, IsEdge}
-use Rattle.job_text.specs.ReportRows.{line_of_row, RowsOf}
+use Rattle.job_text.specs.ReportText.{report_lines, state_lines, unit_lines, contents_lines, answer_words, entry_words, history_lines, histories_lines, outcome_words, count_word, caller_lines, outcomes_lines, item_words, vertex_words, edge_words}
+use Rattle.job_text.specs.ReportRanges.{IsReport, IsStateOf, IsUnit, AreCounted, IsSpelled, IsReply, is_of_key, AreNumbers, IsOutcomeAt, AreOutcomes, IsPair, IsVertex, IsEdge}
+use Rattle.job_text.specs.ReportRows.{line_of_row}
 use Rattle.job_text.proofs.TextWords.{IsSeen, text_seen}
 use Rattle.job_text.proofs.SeenWords.{IsWord, words_lack, spaced_lacks, seen_tested, decimal_seen, op_seen}
 use Rattle.job_text.proofs.LineWords.{words_spaced}
@@ -67,11 +67,16 @@ letter_seen [] = All-nil IsSeen
 letter_seen (kinds.Map ∷ ks) = All-cons IsSeen _ _ (omega arith, omega arith) (letter_seen ks)
 letter_seen (kinds.Queue ∷ ks) = All-cons IsSeen _ _ (omega arith, omega arith) (letter_seen ks)
 letter_seen (kinds.Graph ∷ ks) = All-cons IsSeen _ _ (omega arith, omega arith) (letter_seen ks)
+letter_seen (kinds.Ordered ∷ ks) = All-cons IsSeen _ _ (omega arith, omega arith) (letter_seen ks)
 
 -- ---- contents
-clean_state : (unit : ℕ) → IsNumber unit → (kind : UnitKind) (s : State) → IsStateOf kind s → AllClean (state_lines unit s)
+clean_state : (unit : ℕ) → IsNumber unit → (kind : UnitKind) (s : State) → IsStateOf kind s → AllClean (state_lines (Some kind) unit s)
 clean_state unit small kinds.Map (MapOf m) is = (
   counted (codes "map") unit (len m) (seen_tested (codes "map") refl) small (subst IsNumber (sym (len-entries m)) is.count),
+  clean_map IsPair pair_words (λ p h. clean _ _ (two_words _ _ (text_seen p.0) (text_seen p.1))) (entries m) is.each,
+)
+clean_state unit small kinds.Ordered (MapOf m) is = (
+  counted (codes "ordered") unit (len m) (seen_tested (codes "ordered") refl) small (subst IsNumber (sym (len-entries m)) is.count),
   clean_map IsPair pair_words (λ p h. clean _ _ (two_words _ _ (text_seen p.0) (text_seen p.1))) (entries m) is.each,
 )
 clean_state unit small kinds.Queue (QueueOf items) is = (
@@ -91,6 +96,8 @@ clean_state unit small kinds.Graph (GraphOf g) is = (
 )
 clean_state unit small kinds.Map (QueueOf items) is = absurd is
 clean_state unit small kinds.Map (GraphOf g) is = absurd is
+clean_state unit small kinds.Ordered (QueueOf items) is = absurd is
+clean_state unit small kinds.Ordered (GraphOf g) is = absurd is
 clean_state unit small kinds.Queue (MapOf m) is = absurd is
 clean_state unit small kinds.Queue (GraphOf g) is = absurd is
 clean_state unit small kinds.Graph (MapOf m) is = absurd is
@@ -106,19 +113,30 @@ reply_seen false (replies.WasText v) is = absurd is
 reply_seen true (replies.Count n) is = two_words _ _ (seen_tested (codes "count") refl) (decimal_seen n is)
 reply_seen false (replies.Count n) is = two_words _ _ (seen_tested (codes "count") refl) (decimal_seen n is)
 reply_seen k replies.NoEnds is = All-cons IsWord (codes "noends") [] (seen_tested (codes "noends") refl) (All-nil IsWord)
+reply_seen k (replies.Key key) is = two_words _ _ (seen_tested (codes "key") refl) (text_seen key)
+reply_seen true (replies.Pairs n) is = two_words _ _ (seen_tested (codes "pairs") refl) (decimal_seen n (omega (arith, is)))
+reply_seen false (replies.Pairs n) is = two_words _ _ (seen_tested (codes "pairs") refl) (decimal_seen n (omega (arith, is)))
 
-entry_clean : (callers place : ℕ) (e : Entry) → callers < 2 ^ 64 → IsEntry callers e → IsNumber place → IsClean (entry_words place e)
-entry_clean callers place e few is small =
+run_seen : (run : Run) → All IsWord (run_words run)
+run_seen [] = All-nil IsWord
+run_seen (p ∷ run) =
+    All-cons IsWord (text_word p.0) (text_word p.1 ∷ run_words run) (text_seen p.0)
+    (All-cons IsWord (text_word p.1) (run_words run) (text_seen p.1) (run_seen run))
+
+entry_clean : (callers place : ℕ) (p : Spelled) → callers < 2 ^ 64 → IsSpelled callers p → IsNumber place → IsClean (entry_words place p)
+entry_clean callers place p few spelled small =
+    let e = p.0 in
+    let is = spelled.0 in
     let low = is.caller in
-    let answer : Row = op_words e.op ++ codes "=" ∷ reply_words e.reply in
+    let answer : Row = answer_words e.op e.reply p.1 in
     clean (decimal place) (decimal e.caller ∷ decimal e.call ∷ decimal e.epoch ∷ answer)
     (All-cons IsWord (decimal place) (decimal e.caller ∷ decimal e.call ∷ decimal e.epoch ∷ answer) (decimal_seen place small)
     (All-cons IsWord (decimal e.caller) (decimal e.call ∷ decimal e.epoch ∷ answer) (decimal_seen e.caller (omega arith))
     (All-cons IsWord (decimal e.call) (decimal e.epoch ∷ answer) (decimal_seen e.call is.call)
     (All-cons IsWord (decimal e.epoch) answer (decimal_seen e.epoch is.epoch)
-    (All-append IsWord (op_words e.op) (codes "=" ∷ reply_words e.reply) (op_seen e.op is.op)
-    (All-cons IsWord (codes "=") (reply_words e.reply) (seen_tested (codes "=") refl) (reply_seen
-    (is_of_key e.op) e.reply is.reply)))))))
+    (All-append IsWord (op_words e.op) (codes "=" ∷ (reply_words e.reply ++ run_words p.1)) (op_seen e.op is.op)
+    (All-cons IsWord (codes "=") (reply_words e.reply ++ run_words p.1) (seen_tested (codes "=") refl)
+    (All-append IsWord (reply_words e.reply) (run_words p.1) (reply_seen (is_of_key e.op) e.reply is.reply) (run_seen p.1))))))))
 
 -- places below the length of a list that can be told
 placed : {X : Type 0} (Is : ℕ → X → Type 0) (n k : ℕ) (xs : List X) → k + length xs ≤ n → AllFrom Is k xs
@@ -126,15 +144,15 @@ placed : {X : Type 0} (Is : ℕ → X → Type 0) (n k : ℕ) (xs : List X) → 
 placed Is n k [] low all = tt
 placed Is n k (x ∷ xs) low all = ((all.0, omega arith), placed Is n (k + 1) xs (omega arith) all.1)
 
-history_clean : (callers unit : ℕ) (h : List Entry) → callers < 2 ^ 64 → IsNumber unit → AreCounted (IsEntry callers) h
+history_clean : (callers unit : ℕ) (h : List Spelled) → callers < 2 ^ 64 → IsNumber unit → AreCounted (IsSpelled callers) h
     → AllClean (history_lines unit h)
 history_clean callers unit h few small is =
     let count = is.count in (
       counted (codes "unit") unit (length h) (seen_tested (codes "unit") refl) small count,
       subst AllClean (placed_rows entry_words 0 h)
-          (clean_rows (λ j e. IsEntry callers e × (j < 2 ^ 64)) (λ (place : ℕ). line_of_row (entry_words place))
+          (clean_rows (λ j e. IsSpelled callers e × (j < 2 ^ 64)) (λ (place : ℕ). line_of_row (entry_words place))
           (λ k e t. one_line (entry_words k e) (entry_clean callers k e few t.0 t.1)) 0 h
-          (placed (λ j e. IsEntry callers e) (2 ^ 64) 0 h (omega arith) is.each)),
+          (placed (λ j e. IsSpelled callers e) (2 ^ 64) 0 h (omega arith) is.each)),
     )
 
 count_seen : (w : Which) → IsWord (count_word w)
@@ -170,13 +188,15 @@ caller_clean units callers caller os small is = (
       (λ k o t. one_line (outcome_words o) (outcome_clean o t.numbers)) 0 os is.each),
 )
 
-contents_clean : (ks : List UnitKind) (ss : List State) → length ss ≤ 16 → AllFrom (IsUnit ks) 0 ss → AllClean (contents_lines ss)
+contents_clean : (ks : List UnitKind) (ss : List State) → length ss ≤ 16 → AllFrom (IsUnit ks) 0 ss → AllClean (contents_lines ks ss)
 contents_clean ks ss few all =
-    clean_rows (λ j s. IsUnit ks j s × (j < 16)) state_lines (λ k s t. let low = t.1 in clean_state k (omega arith) t.0.0 s t.0.2) 0 ss
+    clean_rows (λ j s. IsUnit ks j s × (j < 16)) (unit_lines ks)
+    (λ k s t. let low = t.1 in
+    subst (λ (kind : Option UnitKind). AllClean (state_lines kind k s)) (sym t.0.1) (clean_state k (omega arith) t.0.0 s t.0.2)) 0 ss
     (placed (IsUnit ks) 16 0 ss (omega arith) all)
 
 start_clean : (word : List ℕ) (clock : ℕ) (ks : List UnitKind) (ss : List State) → IsWord word → IsNumber clock → length ss ≤ 16
-    → AllFrom (IsUnit ks) 0 ss → AllClean ((word ∷ decimal clock ∷ []) ∷ contents_lines ss)
+    → AllFrom (IsUnit ks) 0 ss → AllClean ((word ∷ decimal clock ∷ []) ∷ contents_lines ks ss)
 start_clean word clock ks ss seen small few all = (
   clean _ _ (two_words _ _ seen
       (decimal_seen clock small)),
@@ -203,30 +223,34 @@ report_clean r is =
     let callers = is.few_callers in
     clean_append (((codes "montage-report" ∷ codes "3" ∷ letters_of r.layout.kinds ∷ decimal r.layout.slots ∷ decimal r.callers ∷ [])
     ∷ [])
-    ++ ((codes "base" ∷ decimal r.base_clock ∷ []) ∷ contents_lines r.base) ++ histories_lines r.histories ++ outcomes_lines r.outcomes
-    ++ ((codes "image" ∷ decimal r.image_clock ∷ []) ∷ contents_lines r.contents))
+    ++ ((codes "base" ∷ decimal r.base_clock ∷ []) ∷ contents_lines r.layout.kinds r.base) ++ histories_lines (spelled_all r.histories
+    r.runs) ++ outcomes_lines r.outcomes
+    ++ ((codes "image" ∷ decimal r.image_clock ∷ []) ∷ contents_lines r.layout.kinds r.contents))
     ((codes "end" ∷ []) ∷ [])
     (clean_append (((codes "montage-report" ∷ codes "3" ∷ letters_of r.layout.kinds ∷ decimal r.layout.slots ∷ decimal r.callers ∷ [])
     ∷ [])
-    ++ ((codes "base" ∷ decimal r.base_clock ∷ []) ∷ contents_lines r.base) ++ histories_lines r.histories ++ outcomes_lines r.outcomes)
-    ((codes "image" ∷ decimal r.image_clock ∷ []) ∷ contents_lines r.contents)
+    ++ ((codes "base" ∷ decimal r.base_clock ∷ []) ∷ contents_lines r.layout.kinds r.base) ++ histories_lines (spelled_all r.histories
+    r.runs) ++ outcomes_lines r.outcomes)
+    ((codes "image" ∷ decimal r.image_clock ∷ []) ∷ contents_lines r.layout.kinds r.contents)
     (clean_append (((codes "montage-report" ∷ codes "3" ∷ letters_of r.layout.kinds ∷ decimal r.layout.slots ∷ decimal r.callers ∷ [])
     ∷ [])
-    ++ ((codes "base" ∷ decimal r.base_clock ∷ []) ∷ contents_lines r.base) ++ histories_lines r.histories)
+    ++ ((codes "base" ∷ decimal r.base_clock ∷ []) ∷ contents_lines r.layout.kinds r.base) ++ histories_lines (spelled_all r.histories
+    r.runs))
     (outcomes_lines r.outcomes)
     (clean_append (((codes "montage-report" ∷ codes "3" ∷ letters_of r.layout.kinds ∷ decimal r.layout.slots ∷ decimal r.callers ∷ [])
     ∷ [])
-    ++ ((codes "base" ∷ decimal r.base_clock ∷ []) ∷ contents_lines r.base))
-    (histories_lines r.histories)
+    ++ ((codes "base" ∷ decimal r.base_clock ∷ []) ∷ contents_lines r.layout.kinds r.base))
+    (histories_lines (spelled_all r.histories r.runs))
     (clean_append (((codes "montage-report" ∷ codes "3" ∷ letters_of r.layout.kinds ∷ decimal r.layout.slots ∷ decimal r.callers ∷ [])
     ∷ []))
-    ((codes "base" ∷ decimal r.base_clock ∷ []) ∷ contents_lines r.base)
+    ((codes "base" ∷ decimal r.base_clock ∷ []) ∷ contents_lines r.layout.kinds r.base)
     (first_clean r.layout.kinds r.layout.slots r.callers (omega arith) (omega arith))
     (start_clean (codes "base") r.base_clock r.layout.kinds r.base (seen_tested (codes "base") refl) is.base_clock (omega
     (arith, is.base.1)) is.base.0))
-    (clean_rows (λ j h. AreCounted (IsEntry r.callers) h × (j < 16)) history_lines
-    (λ k h t. let low = t.1 in history_clean r.callers k h (omega arith) (omega arith) t.0) 0 r.histories
-    (placed (λ j h. AreCounted (IsEntry r.callers) h) 16 0 r.histories (omega (arith, is.histories.1)) is.histories.0)))
+    (clean_rows (λ j h. AreCounted (IsSpelled r.callers) h × (j < 16)) history_lines
+    (λ k h t. let low = t.1 in history_clean r.callers k h (omega arith) (omega arith) t.0) 0 (spelled_all r.histories r.runs)
+    (placed (λ j h. AreCounted (IsSpelled r.callers) h) 16 0 (spelled_all r.histories r.runs) (omega (arith, is.histories.1))
+    is.histories.0)))
     (clean_rows (λ j os. AreOutcomes (length r.layout.kinds) r.callers os × (j < 16)) caller_lines
     (λ k os t. let low = t.1 in caller_clean (length r.layout.kinds) r.callers k os (omega arith) t.0) 0 r.outcomes
     (placed (λ j os. AreOutcomes (length r.layout.kinds) r.callers os) 16 0 r.outcomes (omega (arith, is.callers)) is.outcomes)))

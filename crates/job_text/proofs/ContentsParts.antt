@@ -1,19 +1,20 @@
 -- The contents of units as parts of a report's text.
-use Rattle.std.proofs.Common.{◌≡◌, ℕ, suc, zero, ◌+◌, ◌<◌, ◌≤◌, Option, Some, None, List, [], ◌∷◌, ◌++◌, length, map, codes, slice_get, get_or, refl, sym, ap, ◌∙◌, subst, arith, lit<}
+use Rattle.std.proofs.Common.{◌≡◌, ℕ, suc, zero, ◌<◌, ◌≤◌, Option, Some, None, List, [], ◌∷◌, ◌++◌, length, map, codes, slice_get, get_or, refl, sym, ap, ◌∙◌, subst, arith, lit<}
 use Rattle.std.specs.Ordering.{nat_cmp}
-use Rattle.std.specs.FinMap.{FinMap, entries, len, len-entries, same_entries_map}
+use Rattle.std.specs.FinMap.{entries, len-entries, same_entries_map}
 use Rattle.std.proofs.lemmas.Cmp.{nat_list_cmp_total, nat_cmp_total}
 use Rattle.mont_base.specs.declared.constants.TheConstants.{TEXT_BYTES}
 use Rattle.mont_base.specs.declared.kinds.UnitKind.{UnitKind}
 use Rattle.mont_base.specs.declared.kinds.UnitKind.TheVariants as kinds
-use Rattle.mont_base.specs.State.{State, MapOf, QueueOf, GraphOf, Graph, Pairs, Vertices, Edges, Ends, edge_cmp}
+use Rattle.mont_base.specs.State.{State, MapOf, QueueOf, GraphOf, Graph, Pairs, Ends, edge_cmp}
 use Rattle.mont_base.specs.Texts.{IsText, text_cmp}
 use Rattle.job_text.specs.declared.report_refusal.ReportRefusal.{ReportRefusal}
 use Rattle.job_text.specs.Operations.{IsNumber}
-use Rattle.job_text.specs.TextParts.{Row, BothAre, both_rows, AllFrom}
+use Rattle.job_text.specs.TextParts.{Row, BothAre, both_rows}
 use Rattle.job_text.specs.Ranks.{texts_behind, numbers_behind, edges_behind}
 use Rattle.job_text.specs.Readings.{Unread, Reads, Refuses}
-use Rattle.job_text.specs.ReportText.{pair_words, item_words, vertex_words, edge_words, graph_words, state_lines, contents_lines}
+use Rattle.job_text.specs.Spelling.{pair_words}
+use Rattle.job_text.specs.ReportText.{pairs_name, item_words, vertex_words, edge_words, state_lines, unit_lines, contents_lines}
 use Rattle.job_text.specs.ReportRanges.{IsPair, IsVertex, IsEdge, IsStateOf, IsUnit, AreCounted, AreContents}
 use Rattle.job_text.specs.ReportRows.{line_of_row, AllOf, AllRising, RowsOf, count_words, graph_counts, pair_behind, vertex_behind, edge_behind, all_pairs, all_vertices, all_edges}
 use Rattle.job_text.proofs.Leaves.{IsOnce, both_once}
@@ -22,7 +23,7 @@ use Rattle.job_text.proofs.RowParts.{count_part, graph_part, item_part, pair_onc
 use Rattle.job_text.proofs.Ranked.{number_rank}
 use Rattle.job_text.proofs.KeyRanks.{text_rank, edge_rank, edges_total, IsEnds, some_pair, some_vertex, some_edge, many_pairs}
 use Rattle.job_text.proofs.MapParts.{map_of, map_rises}
-use Rattle.job_text.proofs.ListParts.{plain_rows, each_some, each_once, rising_some, rising_once, sized_reads, sized_refuses_head, sized_refuses_rest, sized_some, sized_once}
+use Rattle.job_text.proofs.ListParts.{plain_rows, each_some, each_once, rising_some, rising_once, sized_once}
 
 -- ---- items of queues
 abbrev pub item_rows : ℕ → ℕ → List Row
@@ -46,14 +47,14 @@ queue_is is count all = record { each = all.0; count = count }
 pub queue_back : (is : List ℕ) → AreCounted IsNumber is → IsNumber (length is) × AllOf (λ (place : ℕ). IsNumber) (length is) is
 queue_back is h = (h.count, (h.each, refl))
 
-pub queue_rows : (unit : ℕ) (is : List ℕ) → state_lines unit (QueueOf is)
+pub queue_rows : (unit : ℕ) (is : List ℕ) → state_lines None unit (QueueOf is)
     ≡ count_words (codes "queue") unit (length is) ∷ RowsOf item_words is
 queue_rows unit is = ap (λ (rs : List Row). count_words (codes "queue") unit (length is) ∷ rs) (sym (plain_rows item_words 0 is))
 
-queue_once : (unit : ℕ) → IsOnce (AreCounted IsNumber) (λ is. state_lines unit (QueueOf is))
+queue_once : (unit : ℕ) → IsOnce (AreCounted IsNumber) (λ is. state_lines None unit (QueueOf is))
 queue_once unit = sized_once (count_words (codes "queue") unit) (count_part (codes "queue") unit) (AllOf (λ (place : ℕ). IsNumber))
     (RowsOf item_words)
-    length (λ n is h. h.1) (AreCounted IsNumber) (λ is. state_lines unit (QueueOf is)) queue_is queue_back (queue_rows unit) items_once
+    length (λ n is h. h.1) (AreCounted IsNumber) (λ is. state_lines None unit (QueueOf is)) queue_is queue_back (queue_rows unit) items_once
 
 -- ---- pairs of maps
 abbrev pub PairsOf : ℕ → Pairs → Type 0
@@ -91,15 +92,17 @@ map_back m is = (
       pair_once some_pair m is.each,
 )
 
-pub map_rows : (unit : ℕ) (m : Pairs) → state_lines unit (MapOf m) ≡ count_words (codes "map") unit (pairs_size m) ∷ pairs_rows m
-map_rows unit m =
-    ap (λ (n : ℕ). count_words (codes "map") unit n ∷ map pair_words (entries m)) (len-entries m)
-    ∙ ap (λ (rs : List Row). count_words (codes "map") unit (pairs_size m) ∷ rs) (sym (plain_rows pair_words 0 (entries m)))
+pub map_rows : (kind : Option UnitKind) (unit : ℕ) (m : Pairs)
+    → state_lines kind unit (MapOf m) ≡ count_words (pairs_name kind) unit (pairs_size m) ∷ pairs_rows m
+map_rows kind unit m =
+    ap (λ (n : ℕ). count_words (pairs_name kind) unit n ∷ map pair_words (entries m)) (len-entries m)
+    ∙ ap (λ (rs : List Row). count_words (pairs_name kind) unit (pairs_size m) ∷ rs) (sym (plain_rows pair_words 0 (entries m)))
 
-map_once : (unit : ℕ) → IsOnce (λ (m : Pairs). AreCounted IsPair (entries m)) (λ m. state_lines unit (MapOf m))
-map_once unit = sized_once (count_words (codes "map") unit) (count_part (codes "map") unit) PairsOf pairs_rows pairs_size
+map_once : (kind : Option UnitKind) (unit : ℕ)
+    → IsOnce (λ (m : Pairs). AreCounted IsPair (entries m)) (λ m. state_lines kind unit (MapOf m))
+map_once kind unit = sized_once (count_words (pairs_name kind) unit) (count_part (pairs_name kind) unit) PairsOf pairs_rows pairs_size
     (λ n m is. is.1)
-    (λ (m : Pairs). AreCounted IsPair (entries m)) (λ m. state_lines unit (MapOf m)) map_is map_back (map_rows unit) pairs_once
+    (λ (m : Pairs). AreCounted IsPair (entries m)) (λ m. state_lines kind unit (MapOf m)) map_is map_back (map_rows kind unit) pairs_once
 
 -- ---- vertices and edges of graphs
 abbrev pub VerticesOf : ℕ × ℕ → List (ℕ × ℕ) → Type 0
@@ -135,7 +138,7 @@ module _ (unit : ℕ) where
   IsGraph g = AreCounted IsVertex (entries g.vertices) × AreCounted IsEdge (entries g.edges)
 
   abbrev pub graph_rows : Graph → List Row
-  graph_rows g = state_lines unit (GraphOf g)
+  graph_rows g = state_lines None unit (GraphOf g)
 
   pub counts_once : IsOnce IsVertex counts_rows
   counts_once = line_once IsVertex (graph_counts unit) (graph_part unit)
@@ -204,29 +207,42 @@ module _ (unit : ℕ) where
 
   -- ---- a unit
   pub state_back_map : (s : State) → IsStateOf kinds.Map s
-      → (m : Pairs) × AreCounted IsPair (entries m) × (state_lines unit (MapOf m) ≡ state_lines unit s)
+      → (m : Pairs) × AreCounted IsPair (entries m)
+      × (state_lines (Some kinds.Map) unit (MapOf m) ≡ state_lines (Some kinds.Map) unit s)
   state_back_map (MapOf m) is = (m, is, refl)
   state_back_map (QueueOf items) is = absurd is
   state_back_map (GraphOf g) is = absurd is
 
+  pub state_back_ordered : (s : State) → IsStateOf kinds.Ordered s
+      → (m : Pairs) × AreCounted IsPair (entries m)
+      × (state_lines (Some kinds.Ordered) unit (MapOf m) ≡ state_lines (Some kinds.Ordered) unit s)
+  state_back_ordered (MapOf m) is = (m, is, refl)
+  state_back_ordered (QueueOf items) is = absurd is
+  state_back_ordered (GraphOf g) is = absurd is
+
   pub state_back_queue : (s : State) → IsStateOf kinds.Queue s
-      → (is : List ℕ) × AreCounted IsNumber is × (state_lines unit (QueueOf is) ≡ state_lines unit s)
+      → (is : List ℕ) × AreCounted IsNumber is × (state_lines None unit (QueueOf is) ≡ state_lines (Some kinds.Queue) unit s)
   state_back_queue (MapOf m) is = absurd is
   state_back_queue (QueueOf items) is = (items, is, refl)
   state_back_queue (GraphOf g) is = absurd is
 
   pub state_back_graph : (s : State) → IsStateOf kinds.Graph s
-      → (g : Graph) × IsGraph g × (state_lines unit (GraphOf g) ≡ state_lines unit s)
+      → (g : Graph) × IsGraph g × (state_lines None unit (GraphOf g) ≡ state_lines (Some kinds.Graph) unit s)
   state_back_graph (MapOf m) is = absurd is
   state_back_graph (QueueOf items) is = absurd is
   state_back_graph (GraphOf g) is = (g, is, refl)
 
-  pub state_once : (kind : UnitKind) → IsOnce (IsStateOf kind) (state_lines unit)
-  state_once kinds.Map (MapOf x) (MapOf y) a b is are e = ap MapOf (map_once unit x y a b is are e)
+  pub state_once : (kind : UnitKind) → IsOnce (IsStateOf kind) (state_lines (Some kind) unit)
+  state_once kinds.Map (MapOf x) (MapOf y) a b is are e = ap MapOf (map_once (Some kinds.Map) unit x y a b is are e)
   state_once kinds.Map (MapOf x) (QueueOf y) a b is are e = absurd are
   state_once kinds.Map (MapOf x) (GraphOf y) a b is are e = absurd are
   state_once kinds.Map (QueueOf x) y a b is are e = absurd is
   state_once kinds.Map (GraphOf x) y a b is are e = absurd is
+  state_once kinds.Ordered (MapOf x) (MapOf y) a b is are e = ap MapOf (map_once (Some kinds.Ordered) unit x y a b is are e)
+  state_once kinds.Ordered (MapOf x) (QueueOf y) a b is are e = absurd are
+  state_once kinds.Ordered (MapOf x) (GraphOf y) a b is are e = absurd are
+  state_once kinds.Ordered (QueueOf x) y a b is are e = absurd is
+  state_once kinds.Ordered (GraphOf x) y a b is are e = absurd is
   state_once kinds.Queue (QueueOf x) (QueueOf y) a b is are e = ap QueueOf (queue_once unit x y a b is are e)
   state_once kinds.Queue (QueueOf x) (MapOf y) a b is are e = absurd are
   state_once kinds.Queue (QueueOf x) (GraphOf y) a b is are e = absurd are
@@ -244,6 +260,11 @@ some_state kinds.Map = let m = some_pairs 0 (lit< tt) in (
   map_is m.0 (subst IsNumber (sym m.1.1) (lit< tt)) (subst (λ
       (n : ℕ). PairsOf n m.0) (sym m.1.1) m.1),
 )
+some_state kinds.Ordered = let m = some_pairs 0 (lit< tt) in (
+  MapOf m.0,
+  map_is m.0 (subst IsNumber (sym m.1.1) (lit< tt)) (subst (λ
+      (n : ℕ). PairsOf n m.0) (sym m.1.1) m.1),
+)
 some_state kinds.Queue = (QueueOf [], record { each = tt; count = lit< tt })
 some_state kinds.Graph =
     let vs = some_vertices (0, 0) (lit< tt, lit< tt) in
@@ -254,10 +275,11 @@ some_state kinds.Graph =
 same_kind : (ks : List UnitKind) (k : ℕ) (a b : UnitKind) → slice_get ks k ≡ Some a → slice_get ks k ≡ Some b → a ≡ b
 same_kind ks k a b one two = let both : ◌≡◌ {A = Option UnitKind} (Some a) (Some b) = sym one ∙ two in cc
 
-pub unit_once : (ks : List UnitKind) (k : ℕ) → IsOnce (IsUnit ks k) (state_lines k)
+pub unit_once : (ks : List UnitKind) (k : ℕ) → IsOnce (IsUnit ks k) (unit_lines ks k)
 unit_once ks k x y a b is are e =
     let same = same_kind ks k is.0 are.0 is.1 are.1 in
-    state_once k is.0 x y a b is.2 (subst (λ (kind : UnitKind). IsStateOf kind y) (sym same) are.2) e
+    state_once k is.0 x y a b is.2 (subst (λ (kind : UnitKind). IsStateOf kind y) (sym same) are.2)
+    (subst (λ (kind : Option UnitKind). state_lines kind k x ++ a ≡ state_lines kind k y ++ b) is.1 e)
 
 kind_at : (ks : List UnitKind) (k : ℕ) → k < length ks → (kind : UnitKind) × (slice_get ks k ≡ Some kind)
 kind_at [] k low = absurd (omega arith)
@@ -271,26 +293,29 @@ some_unit ks k low =
     (s.0, (kind.0, kind.1, s.1))
 
 pub some_contents : (ks : List UnitKind) → (ss : List State) × AreContents ks ss
-some_contents ks = each_some (IsUnit ks) state_lines (unit_once ks) (length ks) (some_unit ks)
+some_contents ks = each_some (IsUnit ks) (unit_lines ks) (unit_once ks) (length ks) (some_unit ks)
 
-pub contents_once : (ks : List UnitKind) → IsOnce (AreContents ks) contents_lines
-contents_once ks = each_once (IsUnit ks) state_lines (unit_once ks) (length ks) (some_unit ks)
+pub contents_once : (ks : List UnitKind) → IsOnce (AreContents ks) (contents_lines ks)
+contents_once ks = each_once (IsUnit ks) (unit_lines ks) (unit_once ks) (length ks) (some_unit ks)
 
 -- the state of a unit of this kind is one of the unit
 module _ (ks : List UnitKind) (k : ℕ) (kind : UnitKind) (at : slice_get ks k ≡ Some kind) where
-  pub unit_reads : (old new : Unread) (s : State) → Reads (IsStateOf kind) (state_lines k) old new s
-      → Reads (IsUnit ks k) (state_lines k) old new s
-  unit_reads old new s r = reads_other (IsStateOf kind) (state_lines k) (IsUnit ks k) (state_lines k) old new s s r
-      (kind, at, r.is) refl
+  lines_here : (s : State) → unit_lines ks k s ≡ state_lines (Some kind) k s
+  lines_here s = ap (λ (t : Option UnitKind). state_lines t k s) at
 
-  pub unit_refuses : (old : Unread) (e : ReportRefusal) → Refuses (IsStateOf kind) (state_lines k) old e
-      → Refuses (IsUnit ks k) (state_lines k) old e
-  unit_refuses old e r = refuses_other (IsStateOf kind) (state_lines k) (IsUnit ks k) (state_lines k) (λ s is. (
+  pub unit_reads : (old new : Unread) (s : State) → Reads (IsStateOf kind) (state_lines (Some kind) k) old new s
+      → Reads (IsUnit ks k) (unit_lines ks k) old new s
+  unit_reads old new s r = reads_other (IsStateOf kind) (state_lines (Some kind) k) (IsUnit ks k) (unit_lines ks k) old new s s r
+      (kind, at, r.is) (lines_here s)
+
+  pub unit_refuses : (old : Unread) (e : ReportRefusal) → Refuses (IsStateOf kind) (state_lines (Some kind) k) old e
+      → Refuses (IsUnit ks k) (unit_lines ks k) old e
+  unit_refuses old e r = refuses_other (IsStateOf kind) (state_lines (Some kind) k) (IsUnit ks k) (unit_lines ks k) (λ s is. (
     s,
     (kind, at, is),
-    refl,
+    lines_here s,
   ))
-      (λ s is. (s, subst (λ (u : UnitKind). IsStateOf u s) (same_kind ks k is.0 kind is.1 at) is.2, refl)) old e r
+      (λ s is. (s, subst (λ (u : UnitKind). IsStateOf u s) (same_kind ks k is.0 kind is.1 at) is.2, sym (lines_here s))) old e r
 
 -- ---- a graph, part by part
 module _ (unit : ℕ) (old : Unread) where

@@ -1,13 +1,11 @@
 -- Jobs in the making, with a stop or a line more.
-use Rattle.std.proofs.Common.{◌≡◌, ◌≢◌, ℕ, ◌+◌, ◌<◌, Bool, true, false, cond, ◌==◌, codes, decimal, inl, inr, List, [], ◌∷◌, ◌++◌, length, map, All, sym, ap, ◌∙◌, refl, subst, arith}
-use Rattle.std.specs.List.{count_by}
+use Rattle.std.proofs.Common.{◌≡◌, ◌≢◌, ℕ, ◌+◌, ◌<◌, false, cond, ◌==◌, codes, decimal, inl, inr, List, [], ◌∷◌, ◌++◌, length, map, sym, ap, ◌∙◌, refl, subst, arith}
 use Rattle.std.proofs.lemmas.List.{length-append, map-append}
 use Rattle.std.proofs.lemmas.List.Sums.{sum_by_push}
 use Rattle.std.proofs.lemmas.List.Elements.{All-nil}
 use Rattle.std.proofs.lemmas.Bool.{ne_eqb}
 use Rattle.job_text.specs.declared.draft.Draft.{Draft}
 use Rattle.job_text.specs.declared.grammar.Grammar.{Grammar}
-use Rattle.job_text.specs.declared.header.Head.{Head}
 use Rattle.job_text.specs.declared.job.Job.{Job}
 use Rattle.job_text.specs.declared.job.Line.{Line}
 use Rattle.job_text.specs.declared.job.Stop.{Stop}
@@ -22,13 +20,13 @@ use Rattle.job_text.proofs.Verdicts.{refused_stop, refused_operation}
 use Rattle.job_text.specs.Lines.{spaced}
 use Rattle.job_text.specs.Grammar.{head_of, job_of, IsJob, is_put, Takes, HasRoom}
 use Rattle.job_text.specs.JobText.{head_words, stop_words, line_words, deed_words, job_lines, first_word, BeginsStop, IsFirstRefused}
-use Rattle.job_text.specs.Parts.{Lacks, IsSplit}
+use Rattle.job_text.specs.Parts.{Lacks}
 use Rattle.job_text.proofs.Splits.{Lacks-cons, Lacks-tested}
 use Rattle.job_text.proofs.FirstWords.{first_word_split}
 use Rattle.job_text.proofs.SeenWords.{line_parts, caller_digit}
 use Rattle.job_text.specs.Draft.{so_far, IsDraft, lines_so_far, MayStop, MayAsk, Adds, NoneGoesOn, IsFaultBehind, IsNotAdded}
 use Rattle.job_text.proofs.Grammars.{takes_job, line_added, line_is, line_takes, line_room, stop_added, stop_is, stop_takes, stop_rises}
-use Rattle.job_text.proofs.JobItems.{IsLast, job_goes_on}
+use Rattle.job_text.proofs.JobItems.{job_goes_on}
 use Rattle.job_text.proofs.JobWritten.{line_pushed, stop_pushed}
 
 pub draft_job : (d : Draft) → IsDraft d → IsJob (so_far d)

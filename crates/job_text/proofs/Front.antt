@@ -1,9 +1,8 @@
 -- Texts that begin with a job's.
-use Rattle.std.proofs.Common.{◌≡◌, ℕ, suc, ◌+◌, ◌-◌, ◌<◌, ◌≤◌, inl, inr, List, [], ◌∷◌, ◌++◌, length, map, take, drop, get_or, All, sym, ap, ◌∙◌, refl, subst, arith, add-one}
+use Rattle.std.proofs.Common.{◌≡◌, ℕ, ◌+◌, ◌-◌, ◌<◌, ◌≤◌, inl, inr, List, [], ◌∷◌, ◌++◌, length, map, take, get_or, All, sym, ap, ◌∙◌, refl, subst, arith, add-one}
 use Rattle.std.proofs.Math.Seq.{take-append-add}
 use Rattle.std.specs.List.{take-map}
-use Rattle.std.proofs.lemmas.List.{append_assoc, append-nil, length-append, length-map, get_or-append-add, take_at, take-append-le, length-take-le, map-append}
-use Rattle.std.proofs.lemmas.List.Concat.{flat_map-append}
+use Rattle.std.proofs.lemmas.List.{append_assoc, append-nil, length-append, length-map, get_or-append-add, take_at, take-append-le, map-append}
 use Rattle.std.proofs.lemmas.List.Elements.{All-cons, All-map, All-append, All-weaker}
 use Rattle.std.proofs.lemmas.Bool.{cases_eq, cases_lt}
 use Rattle.job_text.specs.declared.grammar.Grammar.{Grammar}
@@ -11,11 +10,11 @@ use Rattle.job_text.specs.declared.header.Head.{Head}
 use Rattle.job_text.specs.declared.job.Job.{Job}
 use Rattle.job_text.specs.declared.job.Line.{Line}
 use Rattle.job_text.specs.declared.job.Stop.{Stop}
-use Rattle.job_text.specs.declared.limits.TheConstants.{MOST_LINES, LINE_BYTES}
+use Rattle.job_text.specs.declared.limits.TheConstants.{MOST_LINES}
 use Rattle.job_text.specs.Lines.{spaced, line_of, text_of, parts_of, line_at, IsEnded, HasLine}
-use Rattle.job_text.specs.Grammar.{head_of, job_of, IsHead, IsStop, IsLine, IsJob, Takes, TakesHead}
+use Rattle.job_text.specs.Grammar.{head_of, job_of, IsStop, IsLine, IsJob, Takes}
 use Rattle.job_text.specs.JobText.{head_words, stop_words, line_words, job_lines, job_text, MayStand}
-use Rattle.job_text.specs.Parts.{Lacks, IsSplit}
+use Rattle.job_text.specs.Parts.{IsSplit}
 use Rattle.job_text.specs.Refused.{BeginsWithHead}
 use Rattle.job_text.proofs.SeenWords.{IsShortLine, head_short, stop_short, line_short}
 use Rattle.job_text.proofs.Grammars.{takes_job, takes_begun, stops_cut, lines_cut}

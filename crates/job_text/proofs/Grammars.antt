@@ -1,7 +1,7 @@
 -- What a grammar takes, line by line.
-use Rattle.std.proofs.Common.{◌≡◌, ◌≢◌, ℕ, ◌+◌, ◌^◌, ◌<◌, ◌≤◌, Bool, true, false, cond, List, [], ◌∷◌, ◌++◌, length, take, map, get_or, All, sym, ap, ◌∙◌, refl, subst, arith, lit<, lit≤}
+use Rattle.std.proofs.Common.{◌≡◌, ◌≢◌, ℕ, ◌+◌, ◌<◌, ◌≤◌, Bool, true, false, cond, List, [], ◌∷◌, ◌++◌, length, take, get_or, All, sym, ap, ◌∙◌, refl, subst, arith, lit<, lit≤}
 use Rattle.std.proofs.Math.Seq.{take-nil}
-use Rattle.std.specs.Prelude.{AllPairs, None, slice_get}
+use Rattle.std.specs.Prelude.{AllPairs, None}
 use Rattle.std.specs.List.{count_by, fold}
 use Rattle.std.proofs.lemmas.List.{length-append, length-take-le, get_or_at, get_or_append_left, take_at, get_or-take}
 use Rattle.std.proofs.lemmas.List.Elements.{All-nil, All-take, All-push, All-weaker}
@@ -9,10 +9,8 @@ use Rattle.std.proofs.lemmas.List.Quantifiers.{all_pairs_push}
 use Rattle.std.proofs.lemmas.List.Sums.{sum_by_push, sum_by-take-le}
 use Rattle.mont_base.specs.declared.kinds.UnitKind.{UnitKind}
 use Rattle.mont_base.specs.declared.kinds.UnitKind.TheVariants as kinds
-use Rattle.mont_base.specs.declared.operation.Op.{Op}
 use Rattle.mont_base.specs.declared.operation.Op.TheVariants as ops
 use Rattle.mont_base.specs.Layout.{Shape, map_units, units_from, unit_of_key, key_number, next_digit}
-use Rattle.mont_base.specs.State.{unit_of_op}
 use Rattle.mont_base.proofs.Units.{absent}
 use Rattle.job_text.specs.declared.limits.TheConstants.{MOST_LINES}
 use Rattle.job_text.specs.declared.grammar.Grammar.{Grammar}
@@ -23,7 +21,7 @@ use Rattle.job_text.specs.declared.job.Line.{Line}
 use Rattle.job_text.specs.declared.job.Stop.{Stop}
 use Rattle.job_text.specs.declared.job.Deed.{Deed}
 use Rattle.job_text.specs.declared.job.Deed.TheVariants.{Call, Tick, Sync}
-use Rattle.job_text.specs.Grammar.{head_of, job_of, IsHead, IsStop, IsLine, Rises, HasUnit, IsAsked, IsJob, first_kinds, IsFirstOp, IsFirstDeed, IsFirstLine, is_put, IsFirstJob, Takes, IsFirstHead, TakesHead, TakesStops, IsOnPath, TakesDeed, HasRoom}
+use Rattle.job_text.specs.Grammar.{head_of, job_of, IsHead, IsStop, IsLine, Rises, HasUnit, IsAsked, IsJob, first_kinds, IsFirstDeed, IsFirstLine, is_put, IsFirstJob, Takes, TakesHead, TakesStops, IsOnPath, TakesDeed, HasRoom}
 
 -- ---- lists of which one more or fewer is said
 all_last : {X : Type 0} (P : X → Type 0) (xs : List X) (x : X) → All P (xs ++ x ∷ []) → P x
@@ -135,6 +133,12 @@ on_path (Call (ops.AddE unit from to attr)) h on = absurd on
 on_path (Call (ops.DelE unit from to)) h on = absurd on
 on_path (Call (ops.Vertex unit vertex)) h on = absurd on
 on_path (Call (ops.Degree unit vertex)) h on = absurd on
+on_path (Call (ops.OPut unit key value)) h on = absurd on
+on_path (Call (ops.OGet unit key)) h on = absurd on
+on_path (Call (ops.ODel unit key)) h on = absurd on
+on_path (Call (ops.OFloor unit key)) h on = absurd on
+on_path (Call (ops.ORank unit key)) h on = absurd on
+on_path (Call (ops.ORange unit from to most)) h on = absurd on
 on_path Tick h on = tt
 on_path Sync h on = absurd on
 

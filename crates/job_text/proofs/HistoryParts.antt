@@ -1,14 +1,14 @@
 -- Histories and outcomes as parts of a report's text.
-use Rattle.std.proofs.Common.{◌≡◌, ℕ, ◌+◌, ◌^◌, ◌<◌, ◌≤◌, List, [], ◌∷◌, ◌++◌, length, map, codes, refl, sym, ap, arith}
-use Rattle.mont_base.specs.declared.operation.Entry.{Entry}
+use Rattle.std.proofs.Common.{◌≡◌, ℕ, ◌^◌, ◌<◌, ◌≤◌, List, ◌∷◌, length, codes, refl, sym, ap}
 use Rattle.job_text.specs.declared.outcome.Outcome.{Outcome}
 use Rattle.job_text.specs.Operations.{IsNumber}
-use Rattle.job_text.specs.TextParts.{Row, rows_from, AllFrom}
+use Rattle.job_text.specs.TextParts.{Row, rows_from}
+use Rattle.job_text.specs.Runs.{Spelled}
 use Rattle.job_text.specs.ReportText.{entry_words, history_lines, histories_lines, outcome_words, caller_lines, outcomes_lines}
-use Rattle.job_text.specs.ReportRanges.{IsEntry, IsOutcomeAt, AreCounted, AreOutcomes}
+use Rattle.job_text.specs.ReportRanges.{IsSpelled, IsOutcomeAt, AreCounted, AreOutcomes}
 use Rattle.job_text.specs.ReportRows.{line_of_row, AllOf, count_words}
 use Rattle.job_text.proofs.Leaves.{IsOnce}
-use Rattle.job_text.proofs.ReadLines.{IsLinePart, line_once}
+use Rattle.job_text.proofs.ReadLines.{line_once}
 use Rattle.job_text.proofs.RowParts.{count_part}
 use Rattle.job_text.proofs.AnswerWords.{entry_part}
 use Rattle.job_text.proofs.OutcomeWords.{outcome_part}
@@ -19,50 +19,50 @@ FewCallers callers = (1 ≤ callers) × (callers < 2 ^ 64)
 
 -- ---- entries
 module _ (callers : ℕ) (few : FewCallers callers) where
-  abbrev pub EntryAt : ℕ → Entry → Type 0
-  EntryAt place e = IsEntry callers e
+  abbrev pub EntryAt : ℕ → Spelled → Type 0
+  EntryAt place e = IsSpelled callers e
 
-  abbrev pub entry_rows : ℕ → Entry → List Row
+  abbrev pub entry_rows : ℕ → Spelled → List Row
   entry_rows place = line_of_row (entry_words place)
 
   pub entry_once : (place : ℕ) → IsOnce (EntryAt place) (entry_rows place)
-  entry_once place = line_once (IsEntry callers) (entry_words place) (entry_part callers place few)
+  entry_once place = line_once (IsSpelled callers) (entry_words place) (entry_part callers place few)
 
-  pub some_entry : (n place : ℕ) → place < n → (e : Entry) × EntryAt place e
+  pub some_entry : (n place : ℕ) → place < n → (e : Spelled) × EntryAt place e
   some_entry n place low = let part = entry_part callers place few in (part.value, part.is)
 
-  pub some_entries : (n : ℕ) → IsNumber n → (h : List Entry) × AllOf EntryAt n h
+  pub some_entries : (n : ℕ) → IsNumber n → (h : List Spelled) × AllOf EntryAt n h
   some_entries n small = each_some EntryAt entry_rows entry_once n (some_entry n)
 
   pub entries_once : (n : ℕ) → IsNumber n → IsOnce (AllOf EntryAt n) (rows_from entry_rows 0)
   entries_once n small = each_once EntryAt entry_rows entry_once n (some_entry n)
 
   -- ---- a history
-  pub history_is : (h : List Entry) → IsNumber (length h) → AllOf EntryAt (length h) h → AreCounted (IsEntry callers) h
+  pub history_is : (h : List Spelled) → IsNumber (length h) → AllOf EntryAt (length h) h → AreCounted (IsSpelled callers) h
   history_is h count all = record { each = all.0; count = count }
 
-  pub history_back : (h : List Entry) → AreCounted (IsEntry callers) h → IsNumber (length h) × AllOf EntryAt (length h) h
+  pub history_back : (h : List Spelled) → AreCounted (IsSpelled callers) h → IsNumber (length h) × AllOf EntryAt (length h) h
   history_back h is = (is.count, (is.each, refl))
 
-  pub history_rows : (unit : ℕ) (h : List Entry)
+  pub history_rows : (unit : ℕ) (h : List Spelled)
       → history_lines unit h ≡ count_words (codes "unit") unit (length h) ∷ rows_from entry_rows 0 h
   history_rows unit h = ap (λ (rs : List Row). count_words (codes "unit") unit (length h) ∷ rs) (sym (placed_rows entry_words 0 h))
 
-  pub history_once : (unit : ℕ) → IsOnce (AreCounted (IsEntry callers)) (history_lines unit)
+  pub history_once : (unit : ℕ) → IsOnce (AreCounted (IsSpelled callers)) (history_lines unit)
   history_once unit =
       sized_once (count_words (codes "unit") unit) (count_part (codes "unit") unit) (AllOf EntryAt) (rows_from entry_rows 0) length
-      (λ n h is. is.1) (AreCounted (IsEntry callers)) (history_lines unit) history_is history_back (history_rows unit) entries_once
+      (λ n h is. is.1) (AreCounted (IsSpelled callers)) (history_lines unit) history_is history_back (history_rows unit) entries_once
 
-  pub some_history : (n unit : ℕ) → unit < n → (h : List Entry) × AreCounted (IsEntry callers) h
+  pub some_history : (n unit : ℕ) → unit < n → (h : List Spelled) × AreCounted (IsSpelled callers) h
   some_history n unit low =
       sized_some (count_words (codes "unit") unit) (count_part (codes "unit") unit) (AllOf EntryAt) (rows_from entry_rows 0) length
-      (λ n h is. is.1) (AreCounted (IsEntry callers)) (history_lines unit) history_is history_back (history_rows unit) some_entries
+      (λ n h is. is.1) (AreCounted (IsSpelled callers)) (history_lines unit) history_is history_back (history_rows unit) some_entries
 
-  pub some_histories : (n : ℕ) → (hs : List (List Entry)) × AllOf (λ unit h. AreCounted (IsEntry callers) h) n hs
-  some_histories n = each_some (λ unit h. AreCounted (IsEntry callers) h) history_lines history_once n (some_history n)
+  pub some_histories : (n : ℕ) → (hs : List (List Spelled)) × AllOf (λ unit h. AreCounted (IsSpelled callers) h) n hs
+  some_histories n = each_some (λ unit h. AreCounted (IsSpelled callers) h) history_lines history_once n (some_history n)
 
-  pub histories_once : (n : ℕ) → IsOnce (AllOf (λ unit h. AreCounted (IsEntry callers) h) n) histories_lines
-  histories_once n = each_once (λ unit h. AreCounted (IsEntry callers) h) history_lines history_once n (some_history n)
+  pub histories_once : (n : ℕ) → IsOnce (AllOf (λ unit h. AreCounted (IsSpelled callers) h) n) histories_lines
+  histories_once n = each_once (λ unit h. AreCounted (IsSpelled callers) h) history_lines history_once n (some_history n)
 
 -- ---- outcomes
 module _ (units callers : ℕ) where

@@ -1,5 +1,5 @@
 -- Jobs and their texts.
-use Rattle.std.proofs.Common.{◌≡◌, ℕ, ◌+◌, ◌*◌, ◌<◌, ◌≤◌, inl, inr, Result, Ok, Err, IfOk, IfErr, MatchResult, List, [], ◌∷◌, ◌++◌, length, map, sym, ap, ◌∙◌, refl, subst, arith}
+use Rattle.std.proofs.Common.{◌≡◌, ℕ, ◌<◌, inl, inr, Result, Ok, Err, IfOk, IfErr, MatchResult, List, [], ◌++◌, length, map, sym, ap, ◌∙◌, subst, arith}
 use Rattle.std.proofs.lemmas.List.{append-nil}
 use Rattle.std.proofs.lemmas.List.{append_cancel_right}
 use Rattle.job_text.specs.declared.grammar.Grammar.{Grammar}
@@ -7,7 +7,7 @@ use Rattle.job_text.specs.declared.job.Job.{Job}
 use Rattle.job_text.specs.declared.job.JobFault.{JobFault}
 use Rattle.job_text.specs.Lines.{spaced, parts_of}
 use Rattle.job_text.specs.declared.limits.TheConstants.{READ_BYTES}
-use Rattle.job_text.specs.Grammar.{IsJob, Takes}
+use Rattle.job_text.specs.Grammar.{Takes}
 use Rattle.job_text.specs.JobText.{job_lines, job_text, IsFirstRefused}
 use Rattle.job_text.specs.declared.job_refusal.JobRefusal.{JobRefusal}
 use Rattle.job_text.specs.declared.job_refusal.JobRefusal.TheVariants.{Text, Read, Memory}

@@ -1,5 +1,5 @@
 -- The ranks of keys of maps and of ends of edges, and the lines of pairs, vertices and edges as parts.
-use Rattle.std.proofs.Common.{◌≡◌, ◌≢◌, ℕ, zero, suc, ◌+◌, ◌-◌, ◌*◌, ◌/◌, ◌%◌, ◌^◌, ◌<◌, ◌≤◌, true, false, Bool, IsTrue, IfSome, ◌↔◌, Option, Some, None, List, [], ◌∷◌, length, refl, sym, ap, ◌∙◌, subst, arith, lit<, lit≤, min}
+use Rattle.std.proofs.Common.{◌≡◌, ◌≢◌, ℕ, ◌-◌, ◌/◌, ◌%◌, ◌^◌, ◌<◌, ◌≤◌, true, false, Bool, IsTrue, IfSome, ◌↔◌, Option, Some, None, List, [], refl, sym, ap, ◌∙◌, subst, arith, lit<, lit≤}
 use Rattle.std.specs.declared.cmp.Ordering.{Ordering}
 use Rattle.std.specs.declared.cmp.Ordering.TheVariants.{Less, Equal, Greater}
 use Rattle.std.specs.Ordering.{nat_cmp, ordering_then, is_lt}
@@ -7,14 +7,14 @@ use Rattle.std.specs.Cmp.{ranked, IsTotalOrder}
 use Rattle.std.specs.FinMap.{nat_cmp-IsAntisymmetric, slice_cmp-IsAntisymmetric}
 use Rattle.std.proofs.lemmas.Cmp.{nat_list_cmp_total, nat_cmp_total, then_total, on_total}
 use Rattle.std.proofs.lemmas.Map.Lookups.{exact_pairs, exact_unsigned}
-use Rattle.std.specs.List.{All}
 use Rattle.std.proofs.lemmas.List.Elements.{All-nil}
 use Rattle.mont_base.specs.declared.constants.TheConstants.{TEXT_BYTES}
 use Rattle.mont_base.specs.State.{Key, Value, Ends, edge_cmp}
 use Rattle.mont_base.specs.Texts.{IsText, text_cmp}
 use Rattle.job_text.specs.Operations.{IsNumber}
 use Rattle.job_text.specs.Ranks.{texts_of, texts_behind, numbers_behind, edges_behind, IsNext}
-use Rattle.job_text.specs.ReportText.{pair_words, vertex_words, edge_words}
+use Rattle.job_text.specs.Spelling.{pair_words}
+use Rattle.job_text.specs.ReportText.{vertex_words, edge_words}
 use Rattle.job_text.specs.ReportRanges.{IsPair, IsVertex, IsEdge}
 use Rattle.job_text.specs.ReportRows.{pair_behind, vertex_behind, edge_behind, all_pairs, all_vertices, all_edges, behind_last, MayFollow}
 use Rattle.job_text.proofs.Ranked.{IsRank, behind_low, text_falls, text_at, rank_of, number_rank, less_is}

@@ -1,7 +1,6 @@
 -- Where lines leave a part is told by where they leave what it is made of.
-use Rattle.std.proofs.Common.{◌≡◌, ◌≢◌, ℕ, zero, suc, ◌+◌, ◌-◌, ◌<◌, ◌≤◌, ◌⊎◌, inl, inr, List, [], ◌∷◌, ◌++◌, length, refl, sym, ap, ◌∙◌, subst, arith}
+use Rattle.std.proofs.Common.{◌≡◌, ℕ, zero, suc, ◌+◌, ◌-◌, ◌<◌, ◌≤◌, ◌⊎◌, inl, inr, List, [], ◌∷◌, ◌++◌, length, refl, sym, ap, ◌∙◌, subst, arith}
 use Rattle.std.proofs.lemmas.List.{append_assoc, append-nil, append_cancel_left, length-append, length_push}
-use Rattle.std.specs.List.{flat_map, enumerate_from}
 use Rattle.job_text.specs.TextParts.{Row, Begins, LeavesAt, BothAre, both_rows, rows_from, AllFrom}
 
 -- of two fronts of one list, one is a front of the other

@@ -23,13 +23,16 @@ pub mod Ranked
 pub mod RisingKeys
 pub mod ReadLines
 pub mod Counted
+pub mod RowParts
+pub mod Runs
+pub mod RunWords
 pub mod OutcomeWords
 pub mod AnswerWords
-pub mod RowParts
 pub mod KeyRanks
 pub mod Saturated
 pub mod ListParts
 pub mod HistoryParts
+pub mod EntryLines
 pub mod MapParts
 pub mod ContentsParts
 pub mod ReportParts

@@ -1,7 +1,7 @@
 -- Lines and their words.
-use Rattle.std.proofs.Common.{◌≡◌, ◌≢◌, ℕ, ◌+◌, ◌<◌, ◌==◌, Option, Some, Result, Ok, Err, List, [], ◌∷◌, ◌++◌, length, map, All, sym, ap, ◌∙◌, refl, arith}
+use Rattle.std.proofs.Common.{◌≡◌, ℕ, ◌<◌, ◌==◌, Option, Some, Result, Ok, Err, List, [], ◌∷◌, ◌++◌, length, All, sym, ap, ◌∙◌, refl, arith}
 use Rattle.std.specs.Result.{result_ok, OnOk}
-use Rattle.std.proofs.lemmas.List.{append_assoc, length-append, length-map, map-append}
+use Rattle.std.proofs.lemmas.List.{append_assoc}
 use Rattle.std.proofs.lemmas.List.Splits.{slice_split_at, slice_split_none, length-slice_split, join_with_byte-slice_split}
 use Rattle.std.proofs.lemmas.List.Elements.{All-head, All-tail}
 use Rattle.job_text.specs.Lines.{spaced}

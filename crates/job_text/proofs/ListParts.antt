@@ -1,14 +1,13 @@
 -- Lists of items as parts of a text: where each is what it must be at its place, where keys rise, and behind their count.
-use Rattle.std.proofs.Common.{◌≡◌, ◌≢◌, ℕ, zero, suc, ◌+◌, ◌-◌, ◌<◌, ◌≤◌, List, [], ◌∷◌, ◌++◌, length, map, refl, sym, ap, ◌∙◌, subst, arith}
-use Rattle.std.specs.List.{flat_map, enumerate_from}
-use Rattle.std.proofs.lemmas.List.{length_push}
+use Rattle.std.proofs.Common.{◌≡◌, ℕ, ◌+◌, ◌-◌, ◌<◌, ◌≤◌, List, [], ◌∷◌, ◌++◌, length, map, refl, sym, ap, ◌∙◌, subst, arith}
+use Rattle.std.specs.List.{enumerate_from}
 use Rattle.job_text.specs.declared.report_refusal.ReportRefusal.{ReportRefusal}
 use Rattle.job_text.specs.Operations.{IsNumber}
 use Rattle.job_text.specs.TextParts.{Row, BothAre, both_rows, rows_from, AllFrom}
-use Rattle.job_text.specs.Ranks.{Falls, limit_after, LeavesRoom, IsNext}
+use Rattle.job_text.specs.Ranks.{limit_after, LeavesRoom, IsNext}
 use Rattle.job_text.specs.Readings.{Unread, Reads, Refuses}
 use Rattle.job_text.specs.ReportRows.{line_of_row, AllOf, AllRising}
-use Rattle.job_text.proofs.Leaves.{IsOnce, all_push, all_last, all_front, filled, some_full, full_once, both_once}
+use Rattle.job_text.proofs.Leaves.{IsOnce, all_push, all_last, all_front, some_full, full_once, both_once}
 use Rattle.job_text.proofs.RisingKeys.{room_front, room_next, next_room, room_more, room_none}
 use Rattle.job_text.proofs.ReadLines.{IsLinePart, line_once, reads_other, refuses_other, reads_both, refuses_first, refuses_second, reads_start, reads_item, refuses_item}
 

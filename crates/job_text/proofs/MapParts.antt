@@ -1,15 +1,12 @@
 -- Maps, and vertices and edges of graphs, as they are read: each key behind the last one.
-use Rattle.std.proofs.Common.{◌≡◌, ℕ, suc, ◌+◌, ◌-◌, ◌<◌, ◌≤◌, T, Option, Some, None, List, [], ◌∷◌, ◌++◌, length, refl, sym, ap, ◌∙◌, subst, arith}
+use Rattle.std.proofs.Common.{◌≡◌, ℕ, ◌+◌, ◌-◌, ◌<◌, ◌≤◌, T, Option, List, [], ◌∷◌, ◌++◌, length, refl, sym, ap, ◌∙◌, subst, arith}
 use Rattle.std.specs.declared.cmp.Ordering.{Ordering}
 use Rattle.std.specs.Cmp.{IsTotalOrder}
-use Rattle.std.specs.FinMap.{FinMap, entries, entries-insert, entries_sorted, from_sorted, entries-from_sorted, insert, is_sorted, put, empty, len, len-entries, len-empty}
-use Rattle.std.proofs.lemmas.List.{length_push}
+use Rattle.std.specs.FinMap.{FinMap, entries, entries-insert, entries_sorted, from_sorted, entries-from_sorted, insert, is_sorted, empty, len, len-entries, len-empty}
 use Rattle.job_text.specs.declared.report_refusal.ReportRefusal.{ReportRefusal}
-use Rattle.job_text.specs.Operations.{IsNumber}
-use Rattle.job_text.specs.TextParts.{Row, rows_from, AllFrom}
-use Rattle.job_text.specs.Ranks.{Falls, limit_after, LeavesRoom, IsNext}
+use Rattle.job_text.specs.TextParts.{Row, AllFrom}
+use Rattle.job_text.specs.Ranks.{limit_after, LeavesRoom, IsNext}
 use Rattle.job_text.specs.Readings.{Unread, Reads, Refuses}
-use Rattle.job_text.specs.ReportRanges.{AreCounted}
 use Rattle.job_text.specs.ReportRows.{line_of_row, AllRising, RowsOf, behind_last}
 use Rattle.job_text.proofs.Ranked.{IsRank}
 use Rattle.job_text.proofs.RisingKeys.{entries_fall, falls_are_sorted, put_last, limit_append}

@@ -1,14 +1,13 @@
 -- Each line of a job spells one thing.
-use Rattle.std.proofs.Common.{◌≡◌, ◌≢◌, ℕ, suc, zero, ◌+◌, ◌*◌, ◌/◌, ◌%◌, ◌^◌, ◌<◌, ◌≤◌, ◌==◌, Bool, true, false, cond, List, [], ◌∷◌, ◌++◌, length, map, get_or, All, codes, decimal, sym, ap, ◌∙◌, refl, subst, arith}
+use Rattle.std.proofs.Common.{◌≡◌, ℕ, suc, zero, ◌*◌, ◌/◌, ◌%◌, ◌^◌, ◌<◌, ◌≤◌, ◌==◌, true, false, List, [], ◌∷◌, ◌++◌, length, get_or, All, codes, decimal, sym, ap, ◌∙◌, refl, arith}
 use Rattle.std.proofs.lemmas.List.{length-append, append_cancel_left}
 use Rattle.std.proofs.lemmas.Fmt.{decimal_injective}
 use Rattle.std.proofs.Math.Nat.{pow-succ', pow-le-pow_right}
 use Rattle.mont_base.specs.declared.kinds.UnitKind.{UnitKind}
-use Rattle.mont_base.specs.declared.kinds.UnitKind.TheVariants as kinds
 use Rattle.mont_base.specs.declared.operation.Op.{Op}
 use Rattle.mont_base.specs.declared.operation.Op.TheVariants as ops
-use Rattle.mont_base.specs.Layout.{Shape, shape, letter_of, letters_of}
-use Rattle.job_text.specs.declared.op_name.OpName.{OpName}
+use Rattle.mont_base.specs.Layout.{shape, letter_of, letters_of}
+use Rattle.mont_base.proofs.KindTable.{same_letter}
 use Rattle.job_text.specs.declared.op_name.OpName.TheVariants as names
 use Rattle.job_text.specs.declared.header.Head.{Head}
 use Rattle.job_text.specs.declared.job.Line.{Line}
@@ -19,7 +18,7 @@ use Rattle.job_text.specs.Lines.{spaced}
 use Rattle.job_text.specs.LineWords.{words_of}
 use Rattle.job_text.specs.Spelling.{text_word, hex_digit, hex_digits, op_words}
 use Rattle.job_text.specs.Operations.{IsOp, IsNumber, name_word}
-use Rattle.job_text.specs.Grammar.{IsHead, IsStop, IsLine, IsAsked}
+use Rattle.job_text.specs.Grammar.{IsHead, IsAsked}
 use Rattle.job_text.specs.JobText.{head_words, head_tail, stop_words, line_words, deed_words}
 use Rattle.job_text.proofs.TextWords.{text_word_once, digit_once}
 use Rattle.job_text.proofs.OpSpelling.{name_of, args_of, op_spelled, name_once, first_words}
@@ -118,6 +117,49 @@ op_once (ops.Degree a b) (ops.Degree c d) h i e =
     let second : b ≡ d = decimal_injective b d h.1 i.1 (cc) in
     cc
 op_once (ops.Degree a b) p h i e = let n : names.Degree ≡ name_of p = same_name (ops.Degree a b) p e in absurd (cc)
+op_once (ops.OPut a k v) (ops.OPut b m n) h i e =
+    let args : decimal a ∷ text_word k ∷ text_word v ∷ [] ≡ decimal b ∷ text_word m ∷ text_word n ∷ [] =
+    same_args (ops.OPut a k v) (ops.OPut b m n) e in
+    let unit : a ≡ b = decimal_injective a b h.0 i.0 (cc) in
+    let key : k ≡ m = text_word_once k m h.1 i.1 (cc) in
+    let value : v ≡ n = text_word_once v n h.2 i.2 (cc) in
+    cc
+op_once (ops.OPut a k v) p h i e = let n : names.OPut ≡ name_of p = same_name (ops.OPut a k v) p e in absurd (cc)
+op_once (ops.OGet a k) (ops.OGet b m) h i e =
+    let args : decimal a ∷ text_word k ∷ [] ≡ decimal b ∷ text_word m ∷ [] = same_args (ops.OGet a k) (ops.OGet b m) e in
+    let unit : a ≡ b = decimal_injective a b h.0 i.0 (cc) in
+    let key : k ≡ m = text_word_once k m h.1 i.1 (cc) in
+    cc
+op_once (ops.OGet a k) p h i e = let n : names.OGet ≡ name_of p = same_name (ops.OGet a k) p e in absurd (cc)
+op_once (ops.ODel a k) (ops.ODel b m) h i e =
+    let args : decimal a ∷ text_word k ∷ [] ≡ decimal b ∷ text_word m ∷ [] = same_args (ops.ODel a k) (ops.ODel b m) e in
+    let unit : a ≡ b = decimal_injective a b h.0 i.0 (cc) in
+    let key : k ≡ m = text_word_once k m h.1 i.1 (cc) in
+    cc
+op_once (ops.ODel a k) p h i e = let n : names.ODel ≡ name_of p = same_name (ops.ODel a k) p e in absurd (cc)
+op_once (ops.OFloor a k) (ops.OFloor b m) h i e =
+    let args : decimal a ∷ text_word k ∷ [] ≡ decimal b ∷ text_word m ∷ [] = same_args (ops.OFloor a k) (ops.OFloor b m) e in
+    let unit : a ≡ b = decimal_injective a b h.0 i.0 (cc) in
+    let key : k ≡ m = text_word_once k m h.1 i.1 (cc) in
+    cc
+op_once (ops.OFloor a k) p h i e = let n : names.OFloor ≡ name_of p = same_name (ops.OFloor a k) p e in absurd (cc)
+op_once (ops.ORank a k) (ops.ORank b m) h i e =
+    let args : decimal a ∷ text_word k ∷ [] ≡ decimal b ∷ text_word m ∷ [] = same_args (ops.ORank a k) (ops.ORank b m) e in
+    let unit : a ≡ b = decimal_injective a b h.0 i.0 (cc) in
+    let key : k ≡ m = text_word_once k m h.1 i.1 (cc) in
+    cc
+op_once (ops.ORank a k) p h i e = let n : names.ORank ≡ name_of p = same_name (ops.ORank a k) p e in absurd (cc)
+op_once (ops.ORange a k v x) (ops.ORange b m n y) h i e =
+    let args : decimal a ∷ text_word k ∷ text_word v ∷ decimal x ∷ [] ≡ decimal b ∷ text_word m ∷ text_word n ∷ decimal y ∷ [] =
+    same_args (ops.ORange a k v x) (ops.ORange b m n y) e in
+    let unit : a ≡ b = decimal_injective a b h.0 i.0 (cc) in
+    let from : k ≡ m = text_word_once k m h.1 i.1 (cc) in
+    let to : v ≡ n = text_word_once v n h.2 i.2 (cc) in
+    let few = h.4 in
+    let less = i.4 in
+    let most : x ≡ y = decimal_injective x y (omega arith) (omega arith) (cc) in
+    cc
+op_once (ops.ORange a k v x) p h i e = let n : names.ORange ≡ name_of p = same_name (ops.ORange a k v x) p e in absurd (cc)
 
 -- ---- what lines ask
 -- one word alone is no operation
@@ -134,6 +176,12 @@ no_single (ops.AddE a b c d) word e = cc
 no_single (ops.DelE a b c) word e = cc
 no_single (ops.Vertex a b) word e = cc
 no_single (ops.Degree a b) word e = cc
+no_single (ops.OPut a k v) word e = cc
+no_single (ops.OGet a k) word e = cc
+no_single (ops.ODel a k) word e = cc
+no_single (ops.OFloor a k) word e = cc
+no_single (ops.ORank a k) word e = cc
+no_single (ops.ORange a k v n) word e = cc
 
 tick_or_sync : codes "tick" ∷ [] ≡ codes "sync" ∷ [] → ⊥
 tick_or_sync e =
@@ -173,22 +221,13 @@ stop_once s t a b c d same =
     λ k. record { who = who k; steps = steps k }
 
 -- ---- headers
-kind_at : ℕ → UnitKind
-kind_at n = cond (n == 109) kinds.Map (cond (n == 113) kinds.Queue kinds.Graph)
-
-kind_back : (k : UnitKind) → kind_at (letter_of k) ≡ k
-unfolding kind_at
-kind_back kinds.Map = refl
-kind_back kinds.Queue = refl
-kind_back kinds.Graph = refl
-
 pub letters_once : (ks ls : List UnitKind) → letters_of ks ≡ letters_of ls → ks ≡ ls
 letters_once [] [] e = refl
 letters_once [] (l ∷ ls) e = absurd (cc)
 letters_once (k ∷ ks) [] e = absurd (cc)
 letters_once (k ∷ ks) (l ∷ ls) e =
     let letter : letter_of k ≡ letter_of l = cc in
-    let kind : k ≡ l = sym (kind_back k) ∙ ap kind_at letter ∙ kind_back l in
+    let kind : k ≡ l = same_letter k l letter in
     let rest : letters_of ks ≡ letters_of ls = cc in
     let more : ks ≡ ls = letters_once ks ls rest in
     cc

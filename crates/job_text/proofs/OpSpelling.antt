@@ -1,13 +1,14 @@
 -- How operations are spelled: by a name, and what stands behind it.
-use Rattle.std.proofs.Common.{◌≡◌, ◌≢◌, ℕ, ◌+◌, ◌*◌, ◌==◌, List, [], ◌∷◌, length, map, All, codes, decimal, slice_index_or, cond, sym, ap, ◌∙◌, refl}
+use Rattle.std.proofs.Common.{◌≡◌, ◌≢◌, ℕ, ◌≤◌, ◌+◌, ◌*◌, ◌==◌, List, [], ◌∷◌, length, map, All, codes, decimal, slice_index_or, cond, sym, ap, ◌∙◌, refl}
 use Rattle.std.proofs.lemmas.List.Elements.{All-cons, All-nil}
+use Rattle.mont_base.specs.declared.constants.TheConstants.{MOST_PAIRS}
 use Rattle.mont_base.specs.declared.operation.Op.{Op}
 use Rattle.mont_base.specs.declared.operation.Op.TheVariants as ops
 use Rattle.mont_base.specs.Texts.{IsText}
 use Rattle.job_text.specs.declared.op_name.OpName.{OpName}
 use Rattle.job_text.specs.declared.op_name.OpName.TheVariants as names
 use Rattle.job_text.specs.Spelling.{text_word, op_words}
-use Rattle.job_text.specs.Operations.{IsOp, IsNumber, name_word}
+use Rattle.job_text.specs.Operations.{IsOp, IsNumber, name_word, args_count}
 
 abbrev pub name_of : Op → OpName
 name_of (ops.Put key value) = names.Put
@@ -22,6 +23,12 @@ name_of (ops.AddE unit from to attr) = names.AddE
 name_of (ops.DelE unit from to) = names.DelE
 name_of (ops.Vertex unit vertex) = names.Vertex
 name_of (ops.Degree unit vertex) = names.Degree
+name_of (ops.OPut unit key value) = names.OPut
+name_of (ops.OGet unit key) = names.OGet
+name_of (ops.ODel unit key) = names.ODel
+name_of (ops.OFloor unit key) = names.OFloor
+name_of (ops.ORank unit key) = names.ORank
+name_of (ops.ORange unit from to most) = names.ORange
 
 abbrev pub args_of : Op → List (List ℕ)
 args_of (ops.Put key value) = text_word key ∷ text_word value ∷ []
@@ -36,6 +43,12 @@ args_of (ops.AddE unit from to attr) = decimal unit ∷ decimal from ∷ decimal
 args_of (ops.DelE unit from to) = decimal unit ∷ decimal from ∷ decimal to ∷ []
 args_of (ops.Vertex unit vertex) = decimal unit ∷ decimal vertex ∷ []
 args_of (ops.Degree unit vertex) = decimal unit ∷ decimal vertex ∷ []
+args_of (ops.OPut unit key value) = decimal unit ∷ text_word key ∷ text_word value ∷ []
+args_of (ops.OGet unit key) = decimal unit ∷ text_word key ∷ []
+args_of (ops.ODel unit key) = decimal unit ∷ text_word key ∷ []
+args_of (ops.OFloor unit key) = decimal unit ∷ text_word key ∷ []
+args_of (ops.ORank unit key) = decimal unit ∷ text_word key ∷ []
+args_of (ops.ORange unit from to most) = decimal unit ∷ text_word from ∷ text_word to ∷ decimal most ∷ []
 
 pub op_spelled : (o : Op) → op_words o ≡ name_word (name_of o) ∷ args_of o
 op_spelled (ops.Put key value) = refl
@@ -50,12 +63,19 @@ op_spelled (ops.AddE unit from to attr) = refl
 op_spelled (ops.DelE unit from to) = refl
 op_spelled (ops.Vertex unit vertex) = refl
 op_spelled (ops.Degree unit vertex) = refl
+op_spelled (ops.OPut unit key value) = refl
+op_spelled (ops.OGet unit key) = refl
+op_spelled (ops.ODel unit key) = refl
+op_spelled (ops.OFloor unit key) = refl
+op_spelled (ops.ORank unit key) = refl
+op_spelled (ops.ORange unit from to most) = refl
 
 -- ---- a word is one name
--- the first four bytes as one number
+-- the first five bytes as one number
 front_number : List ℕ → ℕ
 front_number w =
     slice_index_or w 0 0 + 256 * slice_index_or w 1 0 + 65536 * slice_index_or w 2 0 + 16777216 * slice_index_or w 3 0
+    + 4294967296 * slice_index_or w 4 0
 
 named : ℕ → OpName
 named n =
@@ -69,7 +89,13 @@ named n =
     (cond (n == front_number (codes "delv")) names.DelV
     (cond (n == front_number (codes "adde")) names.AddE
     (cond (n == front_number (codes "dele")) names.DelE
-    (cond (n == front_number (codes "vertex")) names.Vertex names.Degree))))))))))
+    (cond (n == front_number (codes "vertex")) names.Vertex
+    (cond (n == front_number (codes "degree")) names.Degree
+    (cond (n == front_number (codes "oput")) names.OPut
+    (cond (n == front_number (codes "oget")) names.OGet
+    (cond (n == front_number (codes "odel")) names.ODel
+    (cond (n == front_number (codes "ofloor")) names.OFloor
+    (cond (n == front_number (codes "orank")) names.ORank names.ORange))))))))))))))))
 
 named_back : (n : OpName) → named (front_number (name_word n)) ≡ n
 unfolding named front_number
@@ -85,6 +111,12 @@ named_back names.AddE = refl
 named_back names.DelE = refl
 named_back names.Vertex = refl
 named_back names.Degree = refl
+named_back names.OPut = refl
+named_back names.OGet = refl
+named_back names.ODel = refl
+named_back names.OFloor = refl
+named_back names.ORank = refl
+named_back names.ORange = refl
 
 pub name_once : (m n : OpName) → name_word m ≡ name_word n → m ≡ n
 name_once m n same = sym (named_back m) ∙ ap (λ w. named (front_number w)) same ∙ named_back n
@@ -179,3 +211,64 @@ no_vertex args none _ h n same = absurd (cc)
 pub no_degree : (args : List (List ℕ)) → NoNumbers 2 args → NoneNamed names.Degree args
 no_degree args none (ops.Degree unit vertex) h n same = none (unit ∷ vertex ∷ []) refl (two unit vertex h.0 h.1) same
 no_degree args none _ h n same = absurd (cc)
+
+-- ---- of ordered units
+abbrev NoKey : List (List ℕ) → Type 0
+NoKey args = (n : ℕ) (t : List ℕ) → IsNumber n → IsText t → args ≢ decimal n ∷ text_word t ∷ []
+
+abbrev NoRange : List (List ℕ) → Type 0
+NoRange args = (n : ℕ) (s t : List ℕ) (most : ℕ) → IsNumber n → IsText s → IsText t → 1 ≤ most → most ≤ MOST_PAIRS
+    → args ≢ decimal n ∷ text_word s ∷ text_word t ∷ decimal most ∷ []
+
+pub no_oput_unit : (args : List (List ℕ)) → ((n : ℕ) (rest : List (List ℕ)) → IsNumber n → args ≢ decimal n ∷ rest)
+    → NoneNamed names.OPut args
+no_oput_unit args none (ops.OPut unit key value) h n same = none unit (text_word key ∷ text_word value ∷ []) h.0 same
+no_oput_unit args none _ h n same = absurd (cc)
+
+pub no_oput : (args : List (List ℕ)) (own : ℕ) (rest : List (List ℕ)) → IsNumber own → args ≡ decimal own ∷ rest → NoTexts rest
+    → NoneNamed names.OPut args
+no_oput args own rest number whole none (ops.OPut unit key value) h n same =
+    let behind = first_words (decimal own) (decimal unit) rest (text_word key ∷ text_word value ∷ []) (sym whole ∙ same) in
+    none key value h.1 h.2 behind.1
+no_oput args own rest number whole none _ h n same = absurd (cc)
+
+pub no_orange : (args : List (List ℕ)) → NoRange args → NoneNamed names.ORange args
+no_orange args none (ops.ORange unit from to most) h n same = none unit from to most h.0 h.1 h.2 h.3 h.4 same
+no_orange args none _ h n same = absurd (cc)
+
+pub no_oget : (args : List (List ℕ)) → NoKey args → NoneNamed names.OGet args
+no_oget args none (ops.OGet unit key) h n same = none unit key h.0 h.1 same
+no_oget args none _ h n same = absurd (cc)
+
+pub no_odel : (args : List (List ℕ)) → NoKey args → NoneNamed names.ODel args
+no_odel args none (ops.ODel unit key) h n same = none unit key h.0 h.1 same
+no_odel args none _ h n same = absurd (cc)
+
+pub no_ofloor : (args : List (List ℕ)) → NoKey args → NoneNamed names.OFloor args
+no_ofloor args none (ops.OFloor unit key) h n same = none unit key h.0 h.1 same
+no_ofloor args none _ h n same = absurd (cc)
+
+pub no_orank : (args : List (List ℕ)) → NoKey args → NoneNamed names.ORank args
+no_orank args none (ops.ORank unit key) h n same = none unit key h.0 h.1 same
+no_orank args none _ h n same = absurd (cc)
+
+-- as many words stand behind a name as its operations have
+pub args_counted : (o : Op) → length (op_words o) ≡ 1 + args_count (name_of o)
+args_counted (ops.Put key value) = refl
+args_counted (ops.Get key) = refl
+args_counted (ops.Del key) = refl
+args_counted (ops.Enq unit item) = refl
+args_counted (ops.Deq unit) = refl
+args_counted (ops.Len unit) = refl
+args_counted (ops.AddV unit vertex attr) = refl
+args_counted (ops.DelV unit vertex) = refl
+args_counted (ops.AddE unit from to attr) = refl
+args_counted (ops.DelE unit from to) = refl
+args_counted (ops.Vertex unit vertex) = refl
+args_counted (ops.Degree unit vertex) = refl
+args_counted (ops.OPut unit key value) = refl
+args_counted (ops.OGet unit key) = refl
+args_counted (ops.ODel unit key) = refl
+args_counted (ops.OFloor unit key) = refl
+args_counted (ops.ORank unit key) = refl
+args_counted (ops.ORange unit from to most) = refl

@@ -1,5 +1,5 @@
 -- How outcomes are spelled: each by words of its own.
-use Rattle.std.proofs.Common.{◌≡◌, ◌≢◌, ℕ, ◌+◌, ◌*◌, ◌≤◌, ◌<◌, Bool, true, false, IsTrue, Option, Some, None, List, [], ◌∷◌, length, map, get_or, decimal, codes, refl, sym, ap, ◌∙◌, subst, arith, lit≤, lit<}
+use Rattle.std.proofs.Common.{◌≡◌, ◌≢◌, ℕ, ◌+◌, ◌*◌, ◌≤◌, Bool, true, false, IsTrue, Option, Some, None, List, [], ◌∷◌, length, map, get_or, decimal, codes, refl, sym, ap, ◌∙◌, subst, arith, lit≤}
 use Rattle.std.specs.List.{All}
 use Rattle.std.specs.Option.{is_some, MatchOption}
 use Rattle.std.proofs.lemmas.Fmt.{decimal_injective}
@@ -10,7 +10,7 @@ use Rattle.job_text.specs.declared.outcome.Outcome.{Outcome}
 use Rattle.job_text.specs.declared.outcome.Outcome.TheVariants as outcomes
 use Rattle.job_text.specs.Operations.{IsNumber}
 use Rattle.job_text.specs.ReportText.{outcome_words, count_word}
-use Rattle.job_text.specs.ReportRanges.{AreNumbers, InRange, IsOutcomeAt, is_cut}
+use Rattle.job_text.specs.ReportRanges.{AreNumbers, IsOutcomeAt}
 use Rattle.job_text.specs.ReportRows.{is_of_unit, is_of_clock, MayStand}
 use Rattle.job_text.proofs.Counted.{one_number, two_numbers, three_numbers}
 use Rattle.job_text.proofs.ReadLines.{IsLinePart}

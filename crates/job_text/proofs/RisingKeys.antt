@@ -1,5 +1,5 @@
 -- Lists of which each item has fewer behind it than the one before, and the maps that they are.
-use Rattle.std.proofs.Common.{◌≡◌, ◌≢◌, ℕ, zero, suc, ◌+◌, ◌-◌, ◌<◌, ◌≤◌, T, true, false, Bool, ◌&&◌, List, [], ◌∷◌, ◌++◌, length, refl, sym, ap, ◌∙◌, subst, arith}
+use Rattle.std.proofs.Common.{◌≡◌, ℕ, ◌+◌, ◌-◌, ◌<◌, ◌≤◌, T, true, false, Bool, ◌&&◌, List, [], ◌∷◌, ◌++◌, length, refl, sym, ap, ◌∙◌, subst, arith}
 use Rattle.std.proofs.lemmas.List.{length-append, length_push}
 use Rattle.std.specs.declared.cmp.Ordering.{Ordering}
 use Rattle.std.specs.declared.cmp.Ordering.TheVariants.{Less, Equal, Greater}
@@ -8,7 +8,7 @@ use Rattle.std.specs.FinMap.{put, is_sorted}
 use Rattle.std.specs.FinMap.Entries.{below_all, by_order}
 use Rattle.job_text.specs.TextParts.{AllFrom}
 use Rattle.job_text.specs.Ranks.{Falls, limit_after, LeavesRoom, IsNext}
-use Rattle.job_text.proofs.Leaves.{all_append, all_front, all_push, all_last}
+use Rattle.job_text.proofs.Leaves.{all_front, all_push, all_last}
 use Rattle.job_text.proofs.Ranked.{IsRank}
 
 -- ---- one more item

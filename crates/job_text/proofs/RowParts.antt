@@ -1,14 +1,12 @@
 -- The lines of a report as parts of one line: each has a value and few words, and spells one value.
-use Rattle.std.proofs.Common.{◌≡◌, ◌≢◌, ℕ, zero, suc, ◌+◌, ◌-◌, ◌^◌, ◌<◌, ◌≤◌, Bool, true, false, List, [], ◌∷◌, ◌++◌, length, map, refl, sym, ap, ◌∙◌, subst, arith, lit<, lit≤, decimal, codes}
+use Rattle.std.proofs.Common.{◌≡◌, ℕ, List, [], ◌∷◌, refl, arith, lit<, lit≤, decimal}
 use Rattle.std.proofs.lemmas.Fmt.{decimal_injective}
-use Rattle.mont_base.specs.declared.kinds.UnitKind.{UnitKind}
 use Rattle.mont_base.specs.declared.kinds.UnitKind.TheVariants as kinds
-use Rattle.mont_base.specs.Layout.{Shape, shape, IsLayout, letters_of}
-use Rattle.mont_base.specs.Texts.{IsText}
+use Rattle.mont_base.specs.Layout.{shape, letters_of}
 use Rattle.mont_base.specs.State.{Key, Value, Ends}
-use Rattle.job_text.specs.Spelling.{text_word}
+use Rattle.job_text.specs.Spelling.{text_word, pair_words}
 use Rattle.job_text.specs.Operations.{IsNumber}
-use Rattle.job_text.specs.ReportText.{item_words, pair_words, vertex_words, edge_words}
+use Rattle.job_text.specs.ReportText.{item_words, vertex_words, edge_words}
 use Rattle.job_text.specs.ReportRanges.{IsPair, IsVertex, IsEdge}
 use Rattle.job_text.specs.ReportRows.{IsTitle, title_words, clock_words, count_words, graph_counts, end_words}
 use Rattle.job_text.proofs.ReadLines.{IsLinePart}

@@ -1,15 +1,15 @@
 -- The words of jobs have bytes that can be seen, and are few and short.
-use Rattle.std.proofs.Common.{◌≡◌, ℕ, suc, zero, ◌+◌, ◌/◌, ◌%◌, ◌^◌, ◌<◌, ◌≤◌, Bool, true, false, ◌&&◌, ◌==◌, leb, List, [], ◌∷◌, ◌++◌, length, map, All, codes, decimal, sym, ap, ◌∙◌, refl, subst, arith, lit<, lit≤}
+use Rattle.std.proofs.Common.{◌≡◌, ◌≢◌, None, slice_get, ℕ, suc, zero, ◌+◌, ◌/◌, ◌%◌, ◌^◌, ◌<◌, ◌≤◌, Bool, true, false, ◌&&◌, ◌==◌, leb, List, [], ◌∷◌, ◌++◌, length, All, codes, decimal, ap, refl, arith, lit<, lit≤}
 use Rattle.std.proofs.lemmas.List.{length-append, length-map}
-use Rattle.std.proofs.lemmas.List.Elements.{All-nil, All-cons, All-head, All-tail, All-append, All-push, All-weaker, All-map}
+use Rattle.std.proofs.lemmas.List.Elements.{All-nil, All-cons, All-head, All-tail, All-push, All-weaker, All-map}
 use Rattle.std.proofs.lemmas.Bool.{and_parts, leb-true, ne_eqb}
-use Rattle.std.proofs.lemmas.Fmt.{decimal_by_steps, decimal_digit}
+use Rattle.std.proofs.lemmas.Fmt.{decimal_by_steps, decimal_digit, length-decimal-le}
 use Rattle.mont_base.specs.declared.kinds.UnitKind.{UnitKind}
 use Rattle.mont_base.specs.declared.kinds.UnitKind.TheVariants as kinds
 use Rattle.mont_base.specs.declared.operation.Op.{Op}
 use Rattle.mont_base.specs.declared.operation.Op.TheVariants as ops
-use Rattle.mont_base.specs.Layout.{letter_of, letters_of}
-use Rattle.mont_base.specs.Texts.{IsText}
+use Rattle.mont_base.specs.Layout.{Shape, letter_of, letters_of, is_of_kind, named_if, unit_named}
+use Rattle.mont_base.specs.State.{unit_of_op, unit_aimed, range_aim, can_range}
 use Rattle.job_text.specs.declared.header.Head.{Head}
 use Rattle.job_text.specs.declared.job.Line.{Line}
 use Rattle.job_text.specs.declared.job.Stop.{Stop}
@@ -19,7 +19,7 @@ use Rattle.job_text.specs.declared.limits.TheConstants.{LINE_BYTES}
 use Rattle.job_text.specs.Lines.{spaced}
 use Rattle.job_text.specs.Spelling.{text_word, hex_digit, hex_digits, op_words}
 use Rattle.job_text.specs.Operations.{IsOp, IsNumber}
-use Rattle.job_text.specs.Grammar.{IsHead, IsStop, IsLine, IsAsked}
+use Rattle.job_text.specs.Grammar.{IsHead, IsStop, IsLine, IsAsked, HasUnit}
 use Rattle.job_text.specs.JobText.{head_words, head_tail, stop_words, line_words, deed_words}
 use Rattle.job_text.specs.Parts.{Lacks}
 use Rattle.job_text.proofs.Splits.{Lacks-append, Lacks-cons}
@@ -75,6 +75,7 @@ letter_seen : (kind : UnitKind) → IsSeen (letter_of kind)
 letter_seen kinds.Map = (lit≤ tt, lit≤ tt)
 letter_seen kinds.Queue = (lit≤ tt, lit≤ tt)
 letter_seen kinds.Graph = (lit≤ tt, lit≤ tt)
+letter_seen kinds.Ordered = (lit≤ tt, lit≤ tt)
 
 letters_seen : (ks : List UnitKind) → IsWord (letters_of ks)
 letters_seen ks = All-map IsSeen letter_of ks (λ k d within. letter_seen _)
@@ -108,34 +109,80 @@ op_seen (ops.Vertex unit vertex) h =
     three_words _ _ _ (seen_tested (codes "vertex") refl) (decimal_seen unit h.0) (decimal_seen vertex h.1)
 op_seen (ops.Degree unit vertex) h =
     three_words _ _ _ (seen_tested (codes "degree") refl) (decimal_seen unit h.0) (decimal_seen vertex h.1)
+op_seen (ops.OPut unit key value) h =
+    four_words _ _ _ _ (seen_tested (codes "oput") refl) (decimal_seen unit h.0) (text_seen key) (text_seen value)
+op_seen (ops.OGet unit key) h = three_words _ _ _ (seen_tested (codes "oget") refl) (decimal_seen unit h.0) (text_seen key)
+op_seen (ops.ODel unit key) h = three_words _ _ _ (seen_tested (codes "odel") refl) (decimal_seen unit h.0) (text_seen key)
+op_seen (ops.OFloor unit key) h = three_words _ _ _ (seen_tested (codes "ofloor") refl) (decimal_seen unit h.0) (text_seen key)
+op_seen (ops.ORank unit key) h = three_words _ _ _ (seen_tested (codes "orank") refl) (decimal_seen unit h.0) (text_seen key)
+op_seen (ops.ORange unit from to most) h =
+    All-cons IsWord (codes "orange") (decimal unit ∷ text_word from ∷ text_word to ∷ decimal most ∷ []) (seen_tested (codes "orange") refl)
+    (four_words _ _ _ _ (decimal_seen unit h.0) (text_seen from) (text_seen to) (decimal_seen most (let few = h.4 in omega arith)))
 
-pub op_long : (o : Op) → IsOp o → length (spaced (op_words o)) ≤ 149
-op_long (ops.Put key value) h = simp length-append (omega (arith, text_long key h.0, text_long value h.1))
-op_long (ops.Get key) h = simp length-append (omega (arith, text_long key h))
-op_long (ops.Del key) h = simp length-append (omega (arith, text_long key h))
-op_long (ops.Enq unit item) h = simp length-append (omega (arith, decimal_short unit h.0, decimal_short item h.1))
-op_long (ops.Deq unit) h = simp length-append (omega (arith, decimal_short unit h))
-op_long (ops.Len unit) h = simp length-append (omega (arith, decimal_short unit h))
-op_long (ops.AddV unit vertex attr) h =
+-- a unit of the store has a number of two digits at most
+named_low : (ks : List UnitKind) (kind : UnitKind) (unit : ℕ) → is_of_kind (slice_get ks unit) kind ≡ true → unit < length ks
+named_low [] kind unit is = absurd (cc)
+named_low (k ∷ ks) kind zero is = omega arith
+named_low (k ∷ ks) kind (suc unit) is = let low = named_low ks kind unit is in omega arith
+
+unit_low : (s : Shape) (kind : UnitKind) (unit : ℕ) → length s.kinds ≤ 16 → unit_named s kind unit ≢ None → unit < 16
+unit_low s kind unit few there = by (is_of_kind (slice_get s.kinds unit) kind) refl
+  where
+    by : (b : Bool) → is_of_kind (slice_get s.kinds unit) kind ≡ b → unit < 16
+    by true is = let low = named_low s.kinds kind unit is in omega arith
+    by false is = absurd (there (ap (λ (t : Bool). named_if t unit) is))
+
+range_low : (s : Shape) (may : Bool) (unit : ℕ) → length s.kinds ≤ 16 → unit_aimed s (range_aim may unit) ≢ None → unit < 16
+range_low s true unit few there = unit_low s kinds.Ordered unit few there
+range_low s false unit few there = absurd (there refl)
+
+pub two_digits : (n : ℕ) → n < 100 → length (decimal n) ≤ 2
+two_digits n low = length-decimal-le 2 n (omega arith) (omega arith) (omega arith)
+
+pub op_long : (s : Shape) → length s.kinds ≤ 16 → (o : Op) → IsOp o → unit_of_op s o ≢ None → length (spaced (op_words o)) ≤ 158
+op_long s few (ops.Put key value) h there = simp length-append (omega (arith, text_long key h.0, text_long value h.1))
+op_long s few (ops.Get key) h there = simp length-append (omega (arith, text_long key h))
+op_long s few (ops.Del key) h there = simp length-append (omega (arith, text_long key h))
+op_long s few (ops.Enq unit item) h there = simp length-append (omega (arith, decimal_short unit h.0, decimal_short item h.1))
+op_long s few (ops.Deq unit) h there = simp length-append (omega (arith, decimal_short unit h))
+op_long s few (ops.Len unit) h there = simp length-append (omega (arith, decimal_short unit h))
+op_long s few (ops.AddV unit vertex attr) h there =
     simp length-append (omega (arith, decimal_short unit h.0, decimal_short vertex h.1, decimal_short attr h.2))
-op_long (ops.DelV unit vertex) h = simp length-append (omega (arith, decimal_short unit h.0, decimal_short vertex h.1))
-op_long (ops.AddE unit from to attr) h =
+op_long s few (ops.DelV unit vertex) h there = simp length-append (omega (arith, decimal_short unit h.0, decimal_short vertex h.1))
+op_long s few (ops.AddE unit from to attr) h there =
     simp length-append
     (omega (arith, decimal_short unit h.0, decimal_short from h.1, decimal_short to h.2, decimal_short attr h.3))
-op_long (ops.DelE unit from to) h =
+op_long s few (ops.DelE unit from to) h there =
     simp length-append (omega (arith, decimal_short unit h.0, decimal_short from h.1, decimal_short to h.2))
-op_long (ops.Vertex unit vertex) h = simp length-append (omega (arith, decimal_short unit h.0, decimal_short vertex h.1))
-op_long (ops.Degree unit vertex) h = simp length-append (omega (arith, decimal_short unit h.0, decimal_short vertex h.1))
+op_long s few (ops.Vertex unit vertex) h there = simp length-append (omega (arith, decimal_short unit h.0, decimal_short vertex h.1))
+op_long s few (ops.Degree unit vertex) h there = simp length-append (omega (arith, decimal_short unit h.0, decimal_short vertex h.1))
+op_long s few (ops.OPut unit key value) h there =
+    let low = unit_low s kinds.Ordered unit few there in
+    simp length-append (omega (arith, two_digits unit (omega arith), text_long key h.1, text_long value h.2))
+op_long s few (ops.OGet unit key) h there = simp length-append (omega (arith, decimal_short unit h.0, text_long key h.1))
+op_long s few (ops.ODel unit key) h there = simp length-append (omega (arith, decimal_short unit h.0, text_long key h.1))
+op_long s few (ops.OFloor unit key) h there = simp length-append (omega (arith, decimal_short unit h.0, text_long key h.1))
+op_long s few (ops.ORank unit key) h there = simp length-append (omega (arith, decimal_short unit h.0, text_long key h.1))
+op_long s few (ops.ORange unit from to most) h there =
+    let low = range_low s (can_range most) unit few there in
+    let less = h.4 in
+    simp length-append (omega (
+      arith,
+      two_digits unit (omega arith),
+      text_long from h.1,
+      text_long to h.2,
+      two_digits most (omega arith),
+    ))
 
 pub deed_seen : (d : Deed) → IsAsked d → All IsWord (deed_words d)
 deed_seen (Call op) h = op_seen op h
 deed_seen Tick h = All-cons IsWord (codes "tick") [] (seen_tested (codes "tick") refl) (All-nil IsWord)
 deed_seen Sync h = All-cons IsWord (codes "sync") [] (seen_tested (codes "sync") refl) (All-nil IsWord)
 
-deed_long : (d : Deed) → IsAsked d → length (spaced (deed_words d)) ≤ 149
-deed_long (Call op) h = op_long op h
-deed_long Tick h = lit≤ tt
-deed_long Sync h = lit≤ tt
+deed_long : (s : Shape) → length s.kinds ≤ 16 → (d : Deed) → IsAsked d → HasUnit s d → length (spaced (deed_words d)) ≤ 158
+deed_long s few (Call op) h there = op_long s few op h there
+deed_long s few Tick h there = lit≤ tt
+deed_long s few Sync h there = lit≤ tt
 
 some_deed_word : (d : Deed) (c : List ℕ) → spaced (c ∷ deed_words d) ≡ c ++ 32 ∷ spaced (deed_words d)
 some_deed_word (Call (ops.Put key value)) c = refl
@@ -150,11 +197,17 @@ some_deed_word (Call (ops.AddE unit from to attr)) c = refl
 some_deed_word (Call (ops.DelE unit from to)) c = refl
 some_deed_word (Call (ops.Vertex unit vertex)) c = refl
 some_deed_word (Call (ops.Degree unit vertex)) c = refl
+some_deed_word (Call (ops.OPut unit key value)) c = refl
+some_deed_word (Call (ops.OGet unit key)) c = refl
+some_deed_word (Call (ops.ODel unit key)) c = refl
+some_deed_word (Call (ops.OFloor unit key)) c = refl
+some_deed_word (Call (ops.ORank unit key)) c = refl
+some_deed_word (Call (ops.ORange unit from to most)) c = refl
 some_deed_word Tick c = refl
 some_deed_word Sync c = refl
 
 -- an operation has five words at most
-few_op_words : (o : Op) → length (op_words o) ≤ 5
+pub few_op_words : (o : Op) → length (op_words o) ≤ 5
 few_op_words (ops.Put key value) = lit≤ tt
 few_op_words (ops.Get key) = lit≤ tt
 few_op_words (ops.Del key) = lit≤ tt
@@ -167,6 +220,12 @@ few_op_words (ops.AddE unit from to attr) = lit≤ tt
 few_op_words (ops.DelE unit from to) = lit≤ tt
 few_op_words (ops.Vertex unit vertex) = lit≤ tt
 few_op_words (ops.Degree unit vertex) = lit≤ tt
+few_op_words (ops.OPut unit key value) = lit≤ tt
+few_op_words (ops.OGet unit key) = lit≤ tt
+few_op_words (ops.ODel unit key) = lit≤ tt
+few_op_words (ops.OFloor unit key) = lit≤ tt
+few_op_words (ops.ORank unit key) = lit≤ tt
+few_op_words (ops.ORange unit from to most) = lit≤ tt
 
 pub few_deed_words : (d : Deed) → length (deed_words d) ≤ 5
 few_deed_words (Call op) = few_op_words op
@@ -209,7 +268,7 @@ line_short h l is line = (
     ap length (line_parts l),
     length-append (decimal l.caller) (32 ∷ spaced (deed_words l.deed)),
     ap length (caller_digit h l is line),
-    deed_long l.deed line.asked,
+    deed_long h.layout is.layout.kinds.few l.deed line.asked line.unit,
   ),
 )
 

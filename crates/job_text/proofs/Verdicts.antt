@@ -1,21 +1,20 @@
 -- Which line of a text is refused first.
-use Rattle.std.proofs.Common.{◌≡◌, ℕ, zero, suc, ◌+◌, ◌*◌, ◌<◌, ◌≤◌, lit<, lit≤, inl, inr, List, [], ◌∷◌, ◌++◌, length, map, take, get_or, All, sym, ap, ◌∙◌, refl, subst, arith}
+use Rattle.std.proofs.Common.{◌≡◌, ℕ, ◌+◌, ◌*◌, ◌<◌, ◌≤◌, lit<, lit≤, inl, inr, List, [], ◌∷◌, ◌++◌, length, map, take, get_or, sym, ap, ◌∙◌, refl, subst, arith}
 use Rattle.std.proofs.lemmas.List.{append_assoc, append-nil, length-append, length-map, get_or_append_left}
 use Rattle.std.proofs.Math.ListN.{get_or-map}
 use Rattle.std.proofs.lemmas.Bool.{cases_eq}
 use Rattle.job_text.specs.declared.grammar.Grammar.{Grammar}
-use Rattle.job_text.specs.declared.header.Head.{Head}
 use Rattle.job_text.specs.declared.job.Job.{Job}
 use Rattle.job_text.specs.declared.job.JobFault.{JobFault}
 use Rattle.job_text.specs.declared.job.JobFault.TheVariants as faults
-use Rattle.job_text.specs.Lines.{spaced, text_of, parts_of, line_at, IsEnded, HasLine}
+use Rattle.job_text.specs.Lines.{spaced, parts_of, line_at, IsEnded, HasLine}
 use Rattle.job_text.specs.declared.limits.TheConstants.{MOST_LINES, LINE_BYTES}
-use Rattle.job_text.specs.Grammar.{Takes, TakesHead, IsHead, head_of}
+use Rattle.job_text.specs.Grammar.{Takes, head_of}
 use Rattle.job_text.specs.JobText.{head_words, job_lines, job_text, rank, BeginsStop, MayStand, IsFaultOf, IsFirstRefused}
 use Rattle.job_text.specs.Parts.{Lacks, IsSplit}
 use Rattle.job_text.specs.Refused.{MayExtend, BeginsWith, IsNoLine, HasNoHead, IsNoHead}
 use Rattle.job_text.proofs.Grammars.{takes_job, takes_head}
-use Rattle.job_text.proofs.Parted.{parts_split, parts_lacking, line_split, length_front, some_part, parts_front}
+use Rattle.job_text.proofs.Parted.{parts_split, parts_lacking, line_split, length_front, some_part}
 use Rattle.job_text.proofs.Front.{IsFront, job_short, job_long, few_job_lines, front_line, front_count, front_parts, front_ended, front_next, has_next, front_more, front_stands}
 
 -- ---- what holds of each fault that is tried before another

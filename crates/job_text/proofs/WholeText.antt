@@ -1,12 +1,12 @@
 -- What the reader of whole reports answers, from what it found.
-use Rattle.std.proofs.Common.{◌≡◌, ◌≢◌, ℕ, zero, suc, ◌+◌, List, [], ◌∷◌, ◌++◌, length, Result, Ok, Err, MatchResult, refl, sym, ap, ◌∙◌, subst, arith}
-use Rattle.std.proofs.lemmas.List.{append_assoc, append-nil, append_cancel_left, length-append}
+use Rattle.std.proofs.Common.{◌≡◌, ◌≢◌, ℕ, ◌+◌, List, [], ◌∷◌, ◌++◌, Result, Ok, Err, refl, sym, ap, ◌∙◌, subst, arith}
+use Rattle.std.proofs.lemmas.List.{append_assoc, append-nil, append_cancel_left}
 use Rattle.std.specs.Result.{IsErrAnd}
 use Rattle.job_text.specs.declared.report_refusal.ReportRefusal.{ReportRefusal}
 use Rattle.job_text.specs.declared.report_refusal.ReportRefusal.TheVariants.{Text, Memory}
 use Rattle.job_text.specs.Report.{Report}
 use Rattle.job_text.specs.Lines.{text_of}
-use Rattle.job_text.specs.TextParts.{Row, LeavesAt}
+use Rattle.job_text.specs.TextParts.{LeavesAt}
 use Rattle.job_text.specs.Readings.{lines_in, Unread, Reads}
 use Rattle.job_text.specs.ReportText.{report_lines, report_text}
 use Rattle.job_text.specs.ReportRanges.{IsReport, IsFirstWrong}

@@ -5,7 +5,7 @@ use Rattle.mont_base.specs.declared.operation.Entry.{Entry}
 use Rattle.mont_base.specs.declared.record.Held.{Held}
 use Rattle.mont_base.specs.Layout.{Shape, units_of}
 use Rattle.mont_base.specs.State.{State}
-use Rattle.mont_base.specs.History.{IsLegal, cut_at, state_after}
+use Rattle.mont_base.specs.History.{IsLegal, cut_at, state_after, runs_of}
 use Rattle.mont_base.specs.Seen.{IsEntryAt}
 use Rattle.job_text.specs.declared.job.Job.{Job}
 use Rattle.job_text.specs.declared.job.Stop.{Stop}
@@ -26,9 +26,11 @@ pub record HasClocks (clock : ℕ) (r : Report) : Type 0 where
   pub begun : clock ≤ r.image_clock
   pub last : r.image_clock ≤ LAST
 
--- there is something of each unit and each caller
+-- there is something of each unit and each caller, and nothing else
 pub record IsWhole (j : Job) (r : Report) : Type 0 where
+  pub base : length r.base ≡ units_of j.layout
   pub histories : length r.histories ≡ units_of j.layout
+  pub runs : length r.runs ≡ units_of j.layout
   pub outcomes : length r.outcomes ≡ j.callers
   pub contents : length r.contents ≡ units_of j.layout
 
@@ -44,6 +46,12 @@ abbrev pub LegalAt : Shape → ℕ → List State → List (List Entry) → ℕ 
 LegalAt s clock base histories unit =
     (state : State) (h : List Entry) → slice_get base unit ≡ Some state
     → slice_get histories unit ≡ Some h → IsLegal s unit state clock h
+
+-- the runs of a unit are those that its ranges have on the states behind the entries before them
+abbrev pub RunsAt : Report → List State → ℕ → Type 0
+RunsAt r base unit =
+    (state : State) (h : List Entry) → slice_get base unit ≡ Some state
+    → slice_get r.histories unit ≡ Some h → slice_get r.runs unit ≡ Some (runs_of state h)
 
 -- the contents of a unit are what its operations up to two epochs before the image's clock lead to
 abbrev pub CutAt : Report → List State → ℕ → Type 0
@@ -79,6 +87,7 @@ pub record IsFaithful (j : Job) (clock : ℕ) (base : List State) (records : Lis
   pub frame : HasFrame j clock r
   pub base_states : r.base ≡ base
   pub legal : (unit : ℕ) → LegalAt j.layout clock base r.histories unit
+  pub runs : (unit : ℕ) → RunsAt r base unit
   pub answers : (caller : ℕ) → AnsweredAt j records r caller
   pub named_once : (unit : ℕ) → AllNamedAt r unit
   pub cut : (unit : ℕ) → CutAt r base unit

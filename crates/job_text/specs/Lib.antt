@@ -9,6 +9,7 @@ pub mod Parts
 pub mod Refused
 pub mod Taken
 pub mod Report
+pub mod Runs
 pub mod Outcomes
 pub mod Causes
 pub mod AnsweredLines

@@ -12,6 +12,7 @@ report_of r =
       base_clock = r.base_clock;
       base = states_of r.base;
       histories = r.histories;
+      runs = r.runs;
       outcomes = r.outcomes;
       image_clock = r.image_clock;
       contents = states_of r.contents;

@@ -1,5 +1,5 @@
 -- How many keys stand behind a key, in the orders of maps, vertices and edges.
-use Rattle.std.specs.Prelude.{◌≡◌, ℕ, zero, suc, ◌+◌, ◌-◌, ◌*◌, ◌^◌, ◌<◌, ◌≤◌, List, [], ◌∷◌, length}
+use Rattle.std.specs.Prelude.{ℕ, zero, suc, ◌+◌, ◌-◌, ◌*◌, ◌^◌, ◌<◌, ◌≤◌, List, [], ◌∷◌, length}
 use Rattle.job_text.specs.TextParts.{AllFrom}
 
 -- how many texts there are of at most so many bytes

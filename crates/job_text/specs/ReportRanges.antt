@@ -2,6 +2,7 @@
 -- are legal is no part of it, nor that an operation of an entry has a unit.
 use Rattle.std.specs.Prelude.{◌≡◌, ℕ, ◌+◌, ◌<◌, ◌≤◌, Bool, true, false, List, [], ◌∷◌, ◌++◌, length, slice_get, Some}
 use Rattle.std.specs.FinMap as finite
+use Rattle.mont_base.specs.declared.constants.TheConstants.{MOST_PAIRS}
 use Rattle.mont_base.specs.declared.kinds.UnitKind.{UnitKind}
 use Rattle.mont_base.specs.declared.kinds.UnitKind.TheVariants as kinds
 use Rattle.mont_base.specs.declared.operation.Entry.{Entry}
@@ -9,14 +10,15 @@ use Rattle.mont_base.specs.declared.operation.Op.{Op}
 use Rattle.mont_base.specs.declared.operation.Op.TheVariants as ops
 use Rattle.mont_base.specs.declared.operation.Reply.{Reply}
 use Rattle.mont_base.specs.declared.operation.Reply.TheVariants as replies
-use Rattle.mont_base.specs.Layout.{Shape, IsLayout, units_of, kind_of}
-use Rattle.mont_base.specs.State.{State, MapOf, QueueOf, GraphOf, Key, Value, Ends}
+use Rattle.mont_base.specs.Layout.{IsLayout, units_of}
+use Rattle.mont_base.specs.State.{State, MapOf, QueueOf, GraphOf, Key, Value, Ends, Run}
 use Rattle.mont_base.specs.Texts.{IsText}
 use Rattle.job_text.specs.declared.limits.TheConstants.{MOST_CALLERS}
 use Rattle.job_text.specs.declared.outcome.Outcome.{Outcome}
 use Rattle.job_text.specs.declared.outcome.Outcome.TheVariants as outcomes
 use Rattle.job_text.specs.Operations.{IsNumber, IsOp}
 use Rattle.job_text.specs.Report.{Report}
+use Rattle.job_text.specs.Runs.{Spelled, spelled_all, HaveRuns}
 use Rattle.job_text.specs.ReportText.{report_lines, report_text}
 use Rattle.job_text.specs.Readings.{lines_in}
 use Rattle.job_text.specs.TextParts.{Row, AllFrom, Begins}
@@ -38,6 +40,7 @@ pub record AreCounted {X : Type 0} (Is : X → Type 0) (xs : List X) : Type 0 wh
 
 abbrev pub IsStateOf : UnitKind → State → Type 0
 IsStateOf kinds.Map (MapOf m) = AreCounted IsPair (finite.entries m)
+IsStateOf kinds.Ordered (MapOf m) = AreCounted IsPair (finite.entries m)
 IsStateOf kinds.Queue (QueueOf items) = AreCounted IsNumber items
 IsStateOf kinds.Graph (GraphOf g) =
     AreCounted IsVertex (finite.entries g.vertices) × AreCounted IsEdge (finite.entries g.edges)
@@ -51,14 +54,21 @@ abbrev pub AreContents : List UnitKind → List State → Type 0
 AreContents ks states = AllFrom (IsUnit ks) 0 states × (length states ≡ length ks)
 
 -- ---- histories
--- an operation on a key
+-- an operation on keys: one of a map or of an ordered unit
 abbrev pub is_of_key : Op → Bool
 is_of_key (ops.Put key value) = true
 is_of_key (ops.Get key) = true
 is_of_key (ops.Del key) = true
+is_of_key (ops.OPut unit key value) = true
+is_of_key (ops.OGet unit key) = true
+is_of_key (ops.ODel unit key) = true
+is_of_key (ops.OFloor unit key) = true
+is_of_key (ops.ORank unit key) = true
+is_of_key (ops.ORange unit from to most) = true
 is_of_key _ = false
 
--- a reply with a value has a text where the operation is one on a key, and a number elsewhere
+-- a reply with a value has a text where the operation is one on keys, and a number elsewhere; a
+-- range has at most 16 pairs
 abbrev pub IsReply : Bool → Reply → Type 0
 IsReply of_key replies.Nothing = Unit {0}
 IsReply true (replies.Was value) = ⊥
@@ -67,6 +77,13 @@ IsReply true (replies.WasText value) = IsText value
 IsReply false (replies.WasText value) = ⊥
 IsReply of_key (replies.Count number) = IsNumber number
 IsReply of_key replies.NoEnds = Unit {0}
+IsReply of_key (replies.Key key) = IsText key
+IsReply of_key (replies.Pairs number) = number ≤ MOST_PAIRS
+
+-- the run beside a reply
+abbrev pub IsRunOf : Reply → Run → Type 0
+IsRunOf (replies.Pairs number) run = AllFrom (λ place p. IsPair p) 0 run × (length run ≡ number)
+IsRunOf _ run = run ≡ []
 
 pub record IsEntry (callers : ℕ) (e : Entry) : Type 0 where
   pub caller : e.caller < callers
@@ -75,9 +92,12 @@ pub record IsEntry (callers : ℕ) (e : Entry) : Type 0 where
   pub reply : IsReply (is_of_key e.op) e.reply
   pub epoch : IsNumber e.epoch
 
-abbrev pub AreHistories : ℕ → ℕ → List (List Entry) → Type 0
+abbrev pub IsSpelled : ℕ → Spelled → Type 0
+IsSpelled callers p = IsEntry callers p.0 × IsRunOf p.0.reply p.1
+
+abbrev pub AreHistories : ℕ → ℕ → List (List Spelled) → Type 0
 AreHistories callers units hs =
-    AllFrom (λ unit h. AreCounted (IsEntry callers) h) 0 hs × (length hs ≡ units)
+    AllFrom (λ unit h. AreCounted (IsSpelled callers) h) 0 hs × (length hs ≡ units)
 
 -- ---- outcomes
 -- what it tells are numbers of 64 bits
@@ -124,7 +144,8 @@ pub record IsReport (r : Report) : Type 0 where
   pub few_callers : r.callers ≤ MOST_CALLERS
   pub base_clock : IsNumber r.base_clock
   pub base : AreContents r.layout.kinds r.base
-  pub histories : AreHistories r.callers (units_of r.layout) r.histories
+  pub histories : AreHistories r.callers (units_of r.layout) (spelled_all r.histories r.runs)
+  pub runs : HaveRuns r.histories r.runs
   pub outcomes : AllFrom (λ caller os. AreOutcomes (units_of r.layout) r.callers os) 0 r.outcomes
   pub callers : length r.outcomes ≡ r.callers
   pub image_clock : IsNumber r.image_clock

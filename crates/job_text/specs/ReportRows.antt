@@ -2,7 +2,6 @@
 use Rattle.std.specs.Prelude.{◌≡◌, ℕ, ◌+◌, ◌*◌, ◌^◌, ◌<◌, ◌≤◌, Bool, true, false, List, [], ◌∷◌, ◌++◌, length, codes, decimal, Option, Some, None, Result, MatchResult}
 use Rattle.mont_base.specs.declared.constants.TheConstants.{TEXT_BYTES}
 use Rattle.mont_base.specs.declared.kinds.UnitKind.{UnitKind}
-use Rattle.mont_base.specs.declared.operation.Op.{Op}
 use Rattle.mont_base.specs.declared.operation.Reply.{Reply}
 use Rattle.mont_base.specs.declared.operation.Reply.TheVariants as replies
 use Rattle.mont_base.specs.Layout.{Shape, IsLayout}
@@ -11,7 +10,6 @@ use Rattle.job_text.specs.declared.limits.TheConstants.{MOST_CALLERS}
 use Rattle.job_text.specs.declared.outcome.Outcome.{Outcome}
 use Rattle.job_text.specs.declared.outcome.Outcome.TheVariants as outcomes
 use Rattle.job_text.specs.declared.report_refusal.ReportRefusal.{ReportRefusal}
-use Rattle.job_text.specs.Spelling.{op_words, reply_words}
 use Rattle.job_text.specs.Operations.{IsNumber}
 use Rattle.job_text.specs.ReportText.{report_header_words, graph_words, contents_lines}
 use Rattle.job_text.specs.ReportRanges.{AreContents, InRange, is_cut}
@@ -98,10 +96,7 @@ is_of_clock (outcomes.Ticked epoch) = true
 is_of_clock (outcomes.Full need free clock) = true
 is_of_clock _ = false
 
--- ---- operations with their replies
-abbrev pub answer_words : Op → Reply → Row
-answer_words op reply = op_words op ++ codes "=" ∷ reply_words reply
-
+-- ---- replies
 -- a reply of one word
 abbrev pub is_short : Reply → Bool
 is_short replies.Nothing = true
@@ -125,5 +120,5 @@ RowsOf row xs = rows_from (λ place. line_of_row row) 0 xs
 abbrev pub IsStart : List UnitKind → ℕ × List State → Type 0
 IsStart ks p = IsNumber p.0 × AreContents ks p.1
 
-abbrev pub start_rows : List ℕ → ℕ × List State → List Row
-start_rows word p = (clock_words word p.0 ∷ []) ++ contents_lines p.1
+abbrev pub start_rows : List UnitKind → List ℕ → ℕ × List State → List Row
+start_rows ks word p = (clock_words word p.0 ∷ []) ++ contents_lines ks p.1

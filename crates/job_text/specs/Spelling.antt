@@ -5,6 +5,7 @@ use Rattle.mont_base.specs.declared.operation.Op.{Op}
 use Rattle.mont_base.specs.declared.operation.Op.TheVariants as ops
 use Rattle.mont_base.specs.declared.operation.Reply.{Reply}
 use Rattle.mont_base.specs.declared.operation.Reply.TheVariants as replies
+use Rattle.mont_base.specs.State.{Key, Value, Run}
 
 -- the digit of a number below 16
 abbrev pub hex_digit : ℕ → ℕ
@@ -44,11 +45,30 @@ op_words (ops.DelE unit from to) =
     codes "dele" ∷ decimal unit ∷ decimal from ∷ decimal to ∷ []
 op_words (ops.Vertex unit vertex) = codes "vertex" ∷ decimal unit ∷ decimal vertex ∷ []
 op_words (ops.Degree unit vertex) = codes "degree" ∷ decimal unit ∷ decimal vertex ∷ []
+op_words (ops.OPut unit key value) =
+    codes "oput" ∷ decimal unit ∷ text_word key ∷ text_word value ∷ []
+op_words (ops.OGet unit key) = codes "oget" ∷ decimal unit ∷ text_word key ∷ []
+op_words (ops.ODel unit key) = codes "odel" ∷ decimal unit ∷ text_word key ∷ []
+op_words (ops.OFloor unit key) = codes "ofloor" ∷ decimal unit ∷ text_word key ∷ []
+op_words (ops.ORank unit key) = codes "orank" ∷ decimal unit ∷ text_word key ∷ []
+op_words (ops.ORange unit from to most) =
+    codes "orange" ∷ decimal unit ∷ text_word from ∷ text_word to ∷ decimal most ∷ []
 
--- the operation tells which of both a value is
+-- The operation tells which of both a value is. Behind the number of a range's pairs stand the
+-- pairs themselves.
 abbrev pub reply_words : Reply → List (List ℕ)
 reply_words replies.Nothing = codes "none" ∷ []
 reply_words (replies.Was value) = codes "was" ∷ decimal value ∷ []
 reply_words (replies.WasText value) = codes "was" ∷ text_word value ∷ []
 reply_words (replies.Count number) = codes "count" ∷ decimal number ∷ []
 reply_words replies.NoEnds = codes "noends" ∷ []
+reply_words (replies.Key key) = codes "key" ∷ text_word key ∷ []
+reply_words (replies.Pairs number) = codes "pairs" ∷ decimal number ∷ []
+
+-- a key with its value
+abbrev pub pair_words : Key × Value → List (List ℕ)
+pair_words p = text_word p.0 ∷ text_word p.1 ∷ []
+
+-- the pairs of a run, one behind the other
+abbrev pub run_words : Run → List (List ℕ)
+run_words run = flat_map pair_words run

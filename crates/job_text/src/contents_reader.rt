@@ -1,11 +1,12 @@
 // The contents of a report's units.
-ghost use Rattle.std.specs.Prelude.{◌≡◌, ◌<◌, ◌≤◌, ◌^◌, codes, map, MatchResult};
+ghost use Rattle.std.specs.Prelude.{◌≡◌, ◌<◌, ◌≤◌, ◌^◌, map, Some, None, MatchResult};
 ghost use Rattle.std.specs.FinMap as finite;
 ghost use Rattle.mont_base.specs.State.{MapOf, QueueOf, GraphOf};
 ghost use Rattle.plain.specs.States.{state_of, states_of};
 ghost use Rattle.job_text.specs.Operations.{IsNumber};
 ghost use Rattle.job_text.specs.Readings.{Reads, Refuses};
-ghost use Rattle.job_text.specs.ReportText.{pair_words, item_words, vertex_words, edge_words, state_lines, contents_lines};
+ghost use Rattle.job_text.specs.ReportText.{pairs_name, item_words, vertex_words, edge_words, state_lines, contents_lines};
+ghost use Rattle.job_text.specs.Spelling.{pair_words};
 ghost use Rattle.job_text.specs.ReportRanges.{IsPair, IsVertex, IsEdge, IsStateOf, AreCounted, AreContents};
 ghost use Rattle.job_text.specs.ReportRows.{Tells, AllOf, AllRising, RowsOf, pair_behind, vertex_behind, edge_behind, all_pairs, all_vertices, all_edges};
 
@@ -24,8 +25,10 @@ pub fn next_units(
     layout: &Layout,
 ) -> Result<Contents, ReportRefusal>
     ensures { MatchResult result
-        (λ c. Reads (AreContents layout.now.kinds) contents_lines lines.old lines.new (states_of c))
-        (λ e. Refuses (AreContents layout.now.kinds) contents_lines lines.old e) }
+        (λ c. Reads (AreContents layout.now.kinds) (contents_lines layout.now.kinds)
+        lines.old lines.new (states_of c))
+        (λ e. Refuses (AreContents layout.now.kinds) (contents_lines layout.now.kinds)
+        lines.old e) }
 {
     let kinds = layout.kinds();
     let mut units = Sequence::new(alloc);
@@ -43,13 +46,18 @@ fn next_unit(
     kind: UnitKind,
 ) -> Result<UnitState, ReportRefusal>
     ensures { MatchResult result
-        (λ s. Reads (IsStateOf kind) (state_lines unit) lines.old lines.new (state_of s))
-        (λ e. Refuses (IsStateOf kind) (state_lines unit) lines.old e) }
+        (λ s. Reads (IsStateOf kind) (state_lines (Some kind) unit) lines.old lines.new
+        (state_of s))
+        (λ e. Refuses (IsStateOf kind) (state_lines (Some kind) unit) lines.old e) }
 {
     match kind {
         UnitKind::Map => {
-            let state = next_map(alloc, lines, unit)?;
+            let state = next_map(alloc, lines, kind, unit)?;
             Ok(UnitState::Map { state })
+        }
+        UnitKind::Ordered => {
+            let state = next_map(alloc, lines, kind, unit)?;
+            Ok(UnitState::Ordered { state })
         }
         UnitKind::Queue => {
             let state = next_queue(alloc, lines, unit)?;
@@ -62,12 +70,28 @@ fn next_unit(
     }
 }
 
-fn next_map(alloc: Global, lines: &mut Unread<'_>, unit: u64) -> Result<MapState, ReportRefusal>
-    ensures { Tells (λ m. AreCounted IsPair (finite.entries m)) (λ m. state_lines unit (MapOf m))
-        lines.old lines.new result }
+// The pairs of a map, or of an ordered unit.
+fn next_map(
+    alloc: Global,
+    lines: &mut Unread<'_>,
+    kind: UnitKind,
+    unit: u64,
+) -> Result<MapState, ReportRefusal>
+    ensures { Tells (λ m. AreCounted IsPair (finite.entries m))
+        (λ m. state_lines (Some kind) unit (MapOf m)) lines.old lines.new result }
 {
-    let count = next_count(lines, b"map", unit)?;
+    let count = next_count(lines, pairs_name(kind), unit)?;
     next_pairs(alloc, lines, count)
+}
+
+// The word before the pairs of a unit of a kind that keeps pairs.
+fn pairs_name(kind: UnitKind) -> &'static [u8]
+    ensures { result.now ≡ pairs_name (Some kind) }
+{
+    match kind {
+        UnitKind::Ordered => b"ordered",
+        _ => b"map",
+    }
 }
 
 // So many pairs, by rising key.
@@ -86,7 +110,7 @@ fn next_pairs(alloc: Global, lines: &mut Unread<'_>, count: u64) -> Result<MapSt
 }
 
 fn next_queue(alloc: Global, lines: &mut Unread<'_>, unit: u64) -> Result<QueueState, ReportRefusal>
-    ensures { Tells (AreCounted IsNumber) (λ items. state_lines unit (QueueOf items))
+    ensures { Tells (AreCounted IsNumber) (λ items. state_lines None unit (QueueOf items))
         lines.old lines.new result }
 {
     let count = next_count(lines, b"queue", unit)?;
@@ -112,7 +136,7 @@ fn next_items(
 
 fn next_graph(alloc: Global, lines: &mut Unread<'_>, unit: u64) -> Result<GraphState, ReportRefusal>
     ensures { Tells (λ g. AreCounted IsVertex (finite.entries g.vertices)
-        × AreCounted IsEdge (finite.entries g.edges)) (λ g. state_lines unit (GraphOf g))
+        × AreCounted IsEdge (finite.entries g.edges)) (λ g. state_lines None unit (GraphOf g))
         lines.old lines.new result }
 {
     let (vertices, edges) = next_graph_counts(lines, unit)?;

@@ -23,7 +23,7 @@ pub fn write_contents(
 {
     let mut text = String::new(alloc);
     write_contents_header(&mut text, &layout, clock)?;
-    write_units(&mut text, contents.units.as_slice())?;
+    write_units(&mut text, &layout.kinds(), contents.units.as_slice())?;
     text.push_str("end\n")?;
     Ok(text.into_bytes())
 }

@@ -1,52 +1,68 @@
 // The lines of a report that tell the contents of its units.
-ghost use Rattle.std.specs.Prelude.{◌≡◌, ◌++◌, map, OnOk};
+ghost use Rattle.std.specs.Prelude.{◌≡◌, ◌++◌, map, None, OnOk};
 ghost use Rattle.std.specs.String.{string_bytes};
 ghost use Rattle.std.specs.VecDeque.Iter.{deque_iter_rest};
 ghost use Rattle.mont_base.specs.State.{MapOf, QueueOf, GraphOf};
 ghost use Rattle.plain.specs.States.{state_of};
 ghost use Rattle.job_text.specs.Lines.{text_of};
-ghost use Rattle.job_text.specs.ReportText.{contents_lines, state_lines, pair_words, item_words, vertex_words, edge_words};
+ghost use Rattle.job_text.specs.Spelling.{pair_words};
+ghost use Rattle.job_text.specs.ReportText.{contents_lines, state_lines, item_words, vertex_words, edge_words};
 
 use crate::text_word::TextWord;
-use mont_base::Text;
+use mont_base::{Kinds, Text, UnitKind};
 use plain::{GraphState, MapState, QueueState, UnitState};
 use std::alloc::AllocError;
 use std::collections::{btree_map, vec_deque};
 
-/// The contents of all units.
-pub fn write_units(text: &mut String, units: &[UnitState]) -> Result<(), AllocError>
+/// The contents of all units of a store of these kinds.
+pub fn write_units(text: &mut String, kinds: &Kinds, units: &[UnitState]) -> Result<(), AllocError>
     ensures { OnOk result (string_bytes text.new
-        ≡ string_bytes text.old ++ text_of (contents_lines (map state_of units.now))) }
+        ≡ string_bytes text.old ++ text_of (contents_lines kinds.now (map state_of units.now))) }
 {
     for (unit, state) in units.iter().enumerate() {
-        write_unit(text, unit, state)?;
+        write_unit(text, kinds.get(unit as u64), unit, state)?;
     }
     Ok(())
 }
 
-fn write_unit(text: &mut String, unit: usize, state: &UnitState) -> Result<(), AllocError>
+fn write_unit(
+    text: &mut String,
+    kind: Option<UnitKind>,
+    unit: usize,
+    state: &UnitState,
+) -> Result<(), AllocError>
     ensures { OnOk result (string_bytes text.new
-        ≡ string_bytes text.old ++ text_of (state_lines unit (state_of state.now))) }
+        ≡ string_bytes text.old ++ text_of (state_lines kind unit (state_of state.now))) }
 {
     match state {
-        UnitState::Map { state } => write_map(text, unit, state),
+        UnitState::Map { state } | UnitState::Ordered { state } => {
+            write_map(text, kind, unit, state)
+        }
         UnitState::Queue { state } => write_queue(text, unit, state),
         UnitState::Graph { state } => write_graph(text, unit, state),
     }
 }
 
-fn write_map(text: &mut String, unit: usize, state: &MapState) -> Result<(), AllocError>
+fn write_map(
+    text: &mut String,
+    kind: Option<UnitKind>,
+    unit: usize,
+    state: &MapState,
+) -> Result<(), AllocError>
     ensures { OnOk result (string_bytes text.new
-        ≡ string_bytes text.old ++ text_of (state_lines unit (MapOf state.now))) }
+        ≡ string_bytes text.old ++ text_of (state_lines kind unit (MapOf state.now))) }
 {
     let length = state.len();
-    writeln!(text, "map {unit} {length}")?;
+    match kind {
+        Some(UnitKind::Ordered) => writeln!(text, "ordered {unit} {length}")?,
+        _ => writeln!(text, "map {unit} {length}")?,
+    }
     write_pairs(text, state.iter())
 }
 
 fn write_queue(text: &mut String, unit: usize, state: &QueueState) -> Result<(), AllocError>
     ensures { OnOk result (string_bytes text.new
-        ≡ string_bytes text.old ++ text_of (state_lines unit (QueueOf state.now))) }
+        ≡ string_bytes text.old ++ text_of (state_lines None unit (QueueOf state.now))) }
 {
     let length = state.len();
     writeln!(text, "queue {unit} {length}")?;
@@ -55,7 +71,7 @@ fn write_queue(text: &mut String, unit: usize, state: &QueueState) -> Result<(),
 
 fn write_graph(text: &mut String, unit: usize, state: &GraphState) -> Result<(), AllocError>
     ensures { OnOk result (string_bytes text.new
-        ≡ string_bytes text.old ++ text_of (state_lines unit (GraphOf state.now))) }
+        ≡ string_bytes text.old ++ text_of (state_lines None unit (GraphOf state.now))) }
 {
     let vertices = state.vertices_len();
     let edges = state.edges_len();

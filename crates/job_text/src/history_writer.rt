@@ -1,24 +1,39 @@
 // The lines of a report that tell the histories of its units and the outcomes of its callers.
-ghost use Rattle.std.specs.Prelude.{◌≡◌, ◌++◌, map, OnOk};
+ghost use Rattle.std.specs.Prelude.{◌≡◌, ◌++◌, [], map, get_or, OnOk};
 ghost use Rattle.std.specs.String.{string_bytes};
-ghost use Rattle.std.specs.List.{enumerate_from};
-ghost use Rattle.job_text.specs.Lines.{text_of, line_of};
-ghost use Rattle.job_text.specs.ReportText.{entry_words, history_lines, histories_lines, outcome_words, caller_lines, outcomes_lines};
+ghost use Rattle.job_text.specs.Lines.{text_of};
+ghost use Rattle.job_text.specs.Runs.{spelled, spelled_all};
+ghost use Rattle.job_text.specs.ReportText.{history_lines, histories_lines, outcome_words, caller_lines, outcomes_lines};
 
 use crate::outcome::Outcome;
-use crate::spelling::{OpWords, ReplyWords};
+use crate::report::Run;
+use crate::run_writer::write_entries;
 use mont_base::{Entry, Sequence};
 use std::alloc::AllocError;
 
-/// The histories of all units.
-pub fn write_histories(text: &mut String, histories: &[Sequence<Entry>]) -> Result<(), AllocError>
-    ensures { OnOk result (string_bytes text.new
-        ≡ string_bytes text.old ++ text_of (histories_lines histories.now)) }
+/// The histories of all units, and their runs.
+pub fn write_histories(
+    text: &mut String,
+    histories: &[Sequence<Entry>],
+    runs: &[Sequence<Run>],
+) -> Result<(), AllocError>
+    ensures { OnOk result (string_bytes text.new ≡ string_bytes text.old
+        ++ text_of (histories_lines (spelled_all histories.now runs.now))) }
 {
     for (unit, history) in histories.iter().enumerate() {
-        write_history(text, unit, history.as_slice())?;
+        write_history(text, unit, history.as_slice(), runs_of_unit(runs, unit))?;
     }
     Ok(())
+}
+
+// The runs of a unit, which are none where there is no such unit.
+fn runs_of_unit(runs: &[Sequence<Run>], unit: usize) -> &[Run]
+    ensures { result.now ≡ get_or runs.now unit [] }
+{
+    match runs.get(unit) {
+        Some(own) => own.as_slice(),
+        None => &[],
+    }
 }
 
 /// The outcomes of all callers.
@@ -32,38 +47,18 @@ pub fn write_outcomes(text: &mut String, outcomes: &[Sequence<Outcome>]) -> Resu
     Ok(())
 }
 
-fn write_history(text: &mut String, unit: usize, history: &[Entry]) -> Result<(), AllocError>
-    ensures { OnOk result (string_bytes text.new
-        ≡ string_bytes text.old ++ text_of (history_lines unit history.now)) }
+fn write_history(
+    text: &mut String,
+    unit: usize,
+    history: &[Entry],
+    runs: &[Run],
+) -> Result<(), AllocError>
+    ensures { OnOk result (string_bytes text.new ≡ string_bytes text.old
+        ++ text_of (history_lines unit (spelled history.now runs.now))) }
 {
     let length = history.len();
     writeln!(text, "unit {unit} {length}")?;
-    write_entries(text, history)
-}
-
-fn write_entries(text: &mut String, history: &[Entry]) -> Result<(), AllocError>
-    ensures { OnOk result (string_bytes text.new ≡ string_bytes text.old
-        ++ text_of (map (λ p. entry_words p.0 p.1) (enumerate_from 0 history.now))) }
-{
-    for (place, entry) in history.iter().enumerate() {
-        write_entry(text, place, entry)?;
-    }
-    Ok(())
-}
-
-fn write_entry(text: &mut String, place: usize, entry: &Entry) -> Result<(), AllocError>
-    ensures { OnOk result (string_bytes text.new
-        ≡ string_bytes text.old ++ line_of (entry_words place entry.now)) }
-{
-    let Entry {
-        caller,
-        call,
-        op,
-        reply,
-        epoch,
-    } = entry;
-    let (op, reply) = (OpWords(op), ReplyWords(reply));
-    writeln!(text, "{place} {caller} {call} {epoch} {op} = {reply}")
+    write_entries(text, history, runs)
 }
 
 fn write_caller(text: &mut String, caller: usize, outcomes: &[Outcome]) -> Result<(), AllocError>

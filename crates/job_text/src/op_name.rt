@@ -16,9 +16,15 @@ pub enum OpName {
     DelE,
     Vertex,
     Degree,
+    OPut,
+    OGet,
+    ODel,
+    OFloor,
+    ORank,
+    ORange,
 }
 
-const ALL: [OpName; 12] = [
+const ALL: [OpName; 18] = [
     OpName::Put,
     OpName::Get,
     OpName::Del,
@@ -31,11 +37,17 @@ const ALL: [OpName; 12] = [
     OpName::DelE,
     OpName::Vertex,
     OpName::Degree,
+    OpName::OPut,
+    OpName::OGet,
+    OpName::ODel,
+    OpName::OFloor,
+    OpName::ORank,
+    OpName::ORange,
 ];
 
 impl OpName {
     ghost use Rattle.job_text.specs.declared.op_name.OpName.{OpName};
-    ghost use Rattle.job_text.specs.Operations.{name_word};
+    ghost use Rattle.job_text.specs.Operations.{name_word, args_count};
 
     /// How it is spelled.
     pub fn word(self) -> &'static [u8]
@@ -54,6 +66,25 @@ impl OpName {
             OpName::DelE => b"dele",
             OpName::Vertex => b"vertex",
             OpName::Degree => b"degree",
+            OpName::OPut => b"oput",
+            OpName::OGet => b"oget",
+            OpName::ODel => b"odel",
+            OpName::OFloor => b"ofloor",
+            OpName::ORank => b"orank",
+            OpName::ORange => b"orange",
+        }
+    }
+
+    /// How many words stand behind it.
+    pub fn args_count(self) -> usize
+        ensures { result ≡ args_count self }
+    {
+        match self {
+            OpName::Get | OpName::Del | OpName::Deq | OpName::Len => 1,
+            OpName::Put | OpName::Enq | OpName::DelV | OpName::Vertex | OpName::Degree => 2,
+            OpName::OGet | OpName::ODel | OpName::OFloor | OpName::ORank => 2,
+            OpName::AddV | OpName::DelE | OpName::OPut => 3,
+            OpName::AddE | OpName::ORange => 4,
         }
     }
 

@@ -1,10 +1,13 @@
 // What a run of a job reports.
 use crate::outcome::Outcome;
-use mont_base::{Entry, Epoch, Layout, Sequence};
+use mont_base::{Entry, Epoch, Layout, Sequence, Text};
 use plain::Contents;
 
-/// A report of a run: what the store held when it began, what its callers did, and what a crash at
-/// the end leaves of it.
+/// The pairs that a range gave, by rising key.
+pub type Run = Sequence<(Text, Text)>;
+
+/// A report of a run of a job: what the store held when it began, what its callers did, and what a
+/// crash at the end leaves of it.
 #[derive(Debug, Drop)]
 pub struct Report {
     pub layout: Layout,
@@ -14,6 +17,8 @@ pub struct Report {
     pub base: Contents,
     /// The history of each unit.
     pub histories: Sequence<Sequence<Entry>>,
+    /// The runs of each unit, one for each reply of pairs in its history, in their order.
+    pub runs: Sequence<Sequence<Run>>,
     /// What came of each line, caller by caller.
     pub outcomes: Sequence<Sequence<Outcome>>,
     /// The clock of the image that the crash leaves.

@@ -45,7 +45,7 @@ fn next_report(alloc: Global, lines: &mut Unread<'_>) -> Result<Report, ReportRe
     let (layout, callers) = next_title(lines)?;
     let units = layout.units();
     let (base_clock, base) = next_contents(alloc, lines, b"base", &layout)?;
-    let histories = next_histories(alloc, lines, callers, units)?;
+    let (histories, runs) = next_histories(alloc, lines, callers, units)?;
     let outcomes = next_callers(alloc, lines, units, callers)?;
     let (image_clock, contents) = next_contents(alloc, lines, b"image", &layout)?;
     next_end(lines)?;
@@ -55,6 +55,7 @@ fn next_report(alloc: Global, lines: &mut Unread<'_>) -> Result<Report, ReportRe
         base_clock,
         base,
         histories,
+        runs,
         outcomes,
         image_clock,
         contents,
@@ -69,9 +70,10 @@ fn next_contents(
     layout: &Layout,
 ) -> Result<(Epoch, Contents), ReportRefusal>
     ensures { MatchResult result
-        (λ p. Reads (IsStart layout.now.kinds) (start_rows word.now) lines.old lines.new
-        (p.0, states_of p.1))
-        (λ e. Refuses (IsStart layout.now.kinds) (start_rows word.now) lines.old e) }
+        (λ p. Reads (IsStart layout.now.kinds) (start_rows layout.now.kinds word.now)
+        lines.old lines.new (p.0, states_of p.1))
+        (λ e. Refuses (IsStart layout.now.kinds) (start_rows layout.now.kinds word.now)
+        lines.old e) }
 {
     let clock = next_clock(lines, word)?;
     let contents = next_units(alloc, lines, layout)?;

@@ -10,7 +10,7 @@ use crate::contents_writer::write_units;
 use crate::header::write_report_header;
 use crate::history_writer::{write_histories, write_outcomes};
 use crate::report::Report;
-use mont_base::Epoch;
+use mont_base::{Epoch, Kinds};
 use plain::Contents;
 use std::alloc::{AllocError, Global};
 
@@ -20,28 +20,43 @@ pub fn write_report(alloc: Global, report: &Report) -> Result<Vec<u8>, AllocErro
 {
     let mut text = String::new(alloc);
     write_report_header(&mut text, &report.layout, report.callers)?;
-    write_base(&mut text, report.base_clock, &report.base)?;
-    write_histories(&mut text, report.histories.as_slice())?;
+    let kinds = report.layout.kinds();
+    write_base(&mut text, &kinds, report.base_clock, &report.base)?;
+    write_histories(
+        &mut text,
+        report.histories.as_slice(),
+        report.runs.as_slice(),
+    )?;
     write_outcomes(&mut text, report.outcomes.as_slice())?;
-    write_image(&mut text, report.image_clock, &report.contents)?;
+    write_image(&mut text, &kinds, report.image_clock, &report.contents)?;
     text.push_str("end\n")?;
     Ok(text.into_bytes())
 }
 
 // What the store held when the run began.
-fn write_base(text: &mut String, clock: Epoch, base: &Contents) -> Result<(), AllocError>
+fn write_base(
+    text: &mut String,
+    kinds: &Kinds,
+    clock: Epoch,
+    base: &Contents,
+) -> Result<(), AllocError>
     ensures { OnOk result (string_bytes text.new
-        ≡ string_bytes text.old ++ text_of (base_lines clock (states_of base.now))) }
+        ≡ string_bytes text.old ++ text_of (base_lines kinds.now clock (states_of base.now))) }
 {
     writeln!(text, "base {clock}")?;
-    write_units(text, base.units.as_slice())
+    write_units(text, kinds, base.units.as_slice())
 }
 
 // What the crash leaves.
-fn write_image(text: &mut String, clock: Epoch, contents: &Contents) -> Result<(), AllocError>
+fn write_image(
+    text: &mut String,
+    kinds: &Kinds,
+    clock: Epoch,
+    contents: &Contents,
+) -> Result<(), AllocError>
     ensures { OnOk result (string_bytes text.new
-        ≡ string_bytes text.old ++ text_of (image_lines clock (states_of contents.now))) }
+        ≡ string_bytes text.old ++ text_of (image_lines kinds.now clock (states_of contents.now))) }
 {
     writeln!(text, "image {clock}")?;
-    write_units(text, contents.units.as_slice())
+    write_units(text, kinds, contents.units.as_slice())
 }

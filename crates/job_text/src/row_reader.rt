@@ -5,7 +5,8 @@ ghost use Rattle.mont_base.specs.State.{Key, Value, Ends};
 ghost use Rattle.mont_base.specs.Texts.{IsText};
 ghost use Rattle.job_text.specs.Operations.{IsNumber};
 ghost use Rattle.job_text.specs.Ranks.{IsNext, texts_behind, numbers_behind, edges_behind};
-ghost use Rattle.job_text.specs.ReportText.{pair_words, item_words, vertex_words, edge_words};
+ghost use Rattle.job_text.specs.ReportText.{item_words, vertex_words, edge_words};
+ghost use Rattle.job_text.specs.Spelling.{pair_words};
 ghost use Rattle.job_text.specs.ReportRanges.{IsPair, IsVertex, IsEdge};
 ghost use Rattle.job_text.specs.ReportRows.{Tells, line_of_row, pair_behind, vertex_behind, edge_behind, all_pairs, all_vertices, all_edges, behind_last, MayFollow};
 

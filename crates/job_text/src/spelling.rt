@@ -36,11 +36,28 @@ impl fmt::Display for OpWords<'_> {
             Op::DelE { unit, from, to } => write!(f, "dele {unit} {from} {to}"),
             Op::Vertex { unit, vertex } => write!(f, "vertex {unit} {vertex}"),
             Op::Degree { unit, vertex } => write!(f, "degree {unit} {vertex}"),
+            Op::OPut { unit, key, value } => {
+                let (key, value) = (TextWord(*key), TextWord(*value));
+                write!(f, "oput {unit} {key} {value}")
+            }
+            Op::OGet { unit, key } => write!(f, "oget {unit} {}", TextWord(*key)),
+            Op::ODel { unit, key } => write!(f, "odel {unit} {}", TextWord(*key)),
+            Op::OFloor { unit, key } => write!(f, "ofloor {unit} {}", TextWord(*key)),
+            Op::ORank { unit, key } => write!(f, "orank {unit} {}", TextWord(*key)),
+            Op::ORange {
+                unit,
+                from,
+                to,
+                most,
+            } => {
+                let (from, to) = (TextWord(*from), TextWord(*to));
+                write!(f, "orange {unit} {from} {to} {most}")
+            }
         }
     }
 }
 
-/// A reply, as it is spelled.
+/// A reply, as it is spelled. The pairs of a range stand behind it.
 #[derive(Clone, Copy)]
 pub struct ReplyWords<'a>(pub &'a Reply);
 
@@ -58,6 +75,8 @@ impl fmt::Display for ReplyWords<'_> {
             Reply::WasText { value } => write!(f, "was {}", TextWord(*value)),
             Reply::Count { number } => write!(f, "count {number}"),
             Reply::NoEnds => write!(f, "noends"),
+            Reply::Key { key } => write!(f, "key {}", TextWord(*key)),
+            Reply::Pairs { number } => write!(f, "pairs {number}"),
         }
     }
 }

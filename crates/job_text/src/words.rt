@@ -7,7 +7,7 @@ use crate::split::split_once;
 use arrayvec::ArrayVec;
 
 /// No line of a job or of a report has more words.
-pub const MOST_WORDS: usize = 12;
+pub const MOST_WORDS: usize = 44;
 
 /// The words of a line, unless they are more than any line has.
 pub fn words(line: &[u8]) -> Option<ArrayVec<&[u8], MOST_WORDS>>

@@ -33,6 +33,7 @@ held_alone clock newest calls entries receipts cuts = record {
     marks = alone_marks;
   };
   entries = entries ∷ [];
+  within = [];
   steps = 0;
   loaded = 0;
   clean = [];

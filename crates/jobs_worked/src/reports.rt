@@ -13,7 +13,7 @@ use job_text::{Job, Outcome, Report, read_job};
 use mont_base::{FIRST_CLOCK, Gate, MemSource, Sequence, Steady};
 use mont_check::is_faithful;
 use mont_image::pick;
-use montage::{Ran, Store, run};
+use montage::{Ran, Store, run, serves_all};
 use plain::{Contents, recover};
 use std::alloc::{AllocError, Global};
 use std::marker::Brand;
@@ -95,6 +95,9 @@ fn run_on<R: Threads + Wait + Sync, N: HeapName + Send + Sync, G: Gate + Drop + 
     requires job { IsJob job.now }
     ensures { IfOk result (λ e. WasStopped job.now.layout e.stopped) }
 {
+    if !serves_all(&heap.layout()) {
+        return Err(Fail::new("a unit of a kind that no store serves"));
+    }
     let boxes = boxes_for(alloc, job)?;
     let (store, mut passes) = Store::<N, SortedIndex>::fresh(alloc, heap, seats, gates, boxes)?;
     let ran = run(rt, alloc, &store, job, &mut passes, &mut gate);
@@ -132,7 +135,7 @@ fn reported(alloc: Global, job: &Job, ended: Ended) -> Result<Report, Fail>
     let image = pick(alloc, &stopped.words, job.mask)?;
     let contents = recover(alloc, job.layout, image.words.as_slice())?;
     let clock = image.clock();
-    Ok(make_report(job, stopped, outcomes, clock, contents))
+    Ok(make_report(alloc, job, stopped, outcomes, clock, contents)?)
 }
 
 // Whether a report of a run on a store that was never used is faithful to its job.

@@ -1,13 +1,14 @@
 -- The units of a layout.
-use Rattle.std.proofs.Common.{◌≡◌, ℕ, zero, suc, ◌+◌, ◌-◌, ◌<◌, ◌≤◌, Bool, true, false, List, [], ◌∷◌, ◌++◌, map, length, take, drop, get_or, set, replicate, refl, sym, ap, ◌∙◌, arith, length-take}
+use Rattle.std.proofs.Common.{◌≡◌, ℕ, zero, suc, ◌+◌, ◌-◌, ◌<◌, ◌≤◌, Bool, true, false, List, [], ◌∷◌, ◌++◌, map, length, take, drop, get_or, set, replicate, refl, sym, ap, ◌∙◌, arith}
 use Rattle.std.specs.Prelude.{None, slice_get, if◌then◌else◌}
-use Rattle.std.proofs.lemmas.List.{map-append, take_more, take_more_set, drop-set-lt, drop-drop, length-map, take-append-drop}
+use Rattle.std.proofs.lemmas.List.{map-append, take_more, take_more_set, length-map}
 use Rattle.std.proofs.Math.ListN.{get_or-map}
 use Rattle.mont_base.specs.declared.constants.TheConstants.{MOST_UNITS}
 use Rattle.mont_base.specs.declared.kinds.UnitKind.{UnitKind}
 use Rattle.mont_base.specs.declared.kinds.UnitKind.TheVariants as kinds
 use Rattle.mont_base.specs.Kinds.{KindsStand}
 use Rattle.mont_base.specs.Layout.{letter_of, letters_of, same_kind, units_from}
+use Rattle.mont_base.proofs.Padded.{behind_more, whole}
 
 -- a list has something at each of its places
 pub absent : {A : Type 0} (xs : List A) (i : ℕ) → i < length xs → slice_get xs i ≡ None → ⊥
@@ -53,26 +54,14 @@ no_letter letters i inside none ks e =
     get_or_default (x ∷ xs) (suc i) d e h = get_or_default xs i d e (omega arith)
 
 -- one map fewer stands behind
-pub behind_more :
+pub maps_behind :
     (ks : List UnitKind) (i : ℕ) (kind : UnitKind) → i < MOST_UNITS → i < length ks → drop i ks ≡ replicate (MOST_UNITS - i) kinds.Map
     → drop (i + 1) (set ks i kind) ≡ replicate (MOST_UNITS - (i + 1)) kinds.Map
-behind_more ks i kind room inside e =
-    let less : MOST_UNITS - i ≡ suc (MOST_UNITS - (i + 1)) = omega arith in
-    drop-set-lt (i + 1) ks i kind (omega arith)
-    ∙ sym (drop-drop 1 i ks)
-    ∙ ap (drop 1) (e ∙ ap (λ (n : ℕ). replicate n kinds.Map) less)
+maps_behind = behind_more kinds.Map MOST_UNITS
 
 -- the kinds of the letters, and maps behind them
 pub filled :
     (ks : List UnitKind) (units : ℕ) → 1 ≤ units → units ≤ MOST_UNITS → length ks ≡ MOST_UNITS
     → drop units ks ≡ replicate (MOST_UNITS - units) kinds.Map → KindsStand units ks
 filled ks units some few long behind =
-    let count : length (take units ks) ≡ units = omega (arith, length-take units ks) in
-    record {
-      some = some;
-      few = few;
-      long = long;
-      behind =
-          sym (take-append-drop units ks)
-          ∙ ap (λ (xs : List UnitKind). take units ks ++ xs) (behind ∙ ap (λ (n : ℕ). replicate (MOST_UNITS - n) kinds.Map) (sym count));
-    }
+    record { some = some; few = few; long = long; behind = whole kinds.Map MOST_UNITS ks units few long behind }

@@ -1,9 +1,10 @@
 -- The answered operations of one unit, in their order.
 use Rattle.std.specs.Prelude.{◌≡◌, ℕ, ◌≤◌, List, [], ◌∷◌, All, AllPairs, filter, nat_le, Some}
+use Rattle.std.specs.List.{cons_option}
 use Rattle.mont_base.specs.declared.constants.TheConstants.{LAST}
 use Rattle.mont_base.specs.declared.operation.Entry.{Entry}
 use Rattle.mont_base.specs.Layout.{Shape}
-use Rattle.mont_base.specs.State.{State, step, unit_of_op}
+use Rattle.mont_base.specs.State.{State, Run, step, run_of, unit_of_op}
 
 -- the state that the operations of these entries lead to
 abbrev pub state_after : State → List Entry → State
@@ -14,6 +15,11 @@ state_after s (e ∷ es) = state_after (step s e.op).state es
 abbrev pub RepliesFollow : State → List Entry → Type 0
 RepliesFollow s [] = Unit {0}
 RepliesFollow s (e ∷ es) = (e.reply ≡ (step s e.op).reply) × RepliesFollow (step s e.op).state es
+
+-- the runs of the ranges among these entries, each on the state reached so far
+abbrev pub runs_of : State → List Entry → List Run
+runs_of s [] = []
+runs_of s (e ∷ es) = cons_option (run_of s e.op) (runs_of (step s e.op).state es)
 
 -- A legal history of a unit, from a state at a clock (a sequential history of the structure whose
 -- epochs never fall).

@@ -1,21 +1,37 @@
 -- How the words of a store are divided among its units, and which unit keeps what.
-use Rattle.std.specs.Prelude.{ℕ, ◌+◌, ◌*◌, ◌/◌, ◌%◌, ◌≤◌, Bool, true, false, List, [], ◌∷◌, length, map, codes, slice_index, slice_get, Option, Some, None, if◌then◌else◌}
-use Rattle.std.specs.List.{fold}
+use Rattle.std.specs.Prelude.{ℕ, ◌+◌, ◌*◌, ◌/◌, ◌%◌, ◌==◌, ◌≤◌, Bool, true, false, ◌||◌, List, [], ◌∷◌, length, map, codes, slice_index, slice_get, Option, Some, None, if◌then◌else◌}
+use Rattle.std.specs.List.{fold, find}
 use Rattle.mont_base.specs.declared.constants.TheConstants.{FIELDS, MOST_UNITS, LEAST_SLOTS, MOST_SLOTS}
 use Rattle.mont_base.specs.declared.kinds.UnitKind.{UnitKind}
 use Rattle.mont_base.specs.declared.kinds.UnitKind.TheVariants as kinds
+use Rattle.mont_base.specs.declared.kinds.Signs.{Signs}
+
+-- a letter of a text, and a number of an image
+abbrev pub signs : List ℕ → ℕ → Signs
+signs text code = record { letter = slice_index text 0; code = code }
+
+-- the table of the kinds
+abbrev pub signs_of : UnitKind → Signs
+signs_of kinds.Map = signs (codes "m") 1
+signs_of kinds.Queue = signs (codes "q") 2
+signs_of kinds.Graph = signs (codes "g") 3
+signs_of kinds.Ordered = signs (codes "o") 4
+
+-- its kinds by rising code
+abbrev pub kinds_all : List UnitKind
+kinds_all = kinds.Map ∷ kinds.Queue ∷ kinds.Graph ∷ kinds.Ordered ∷ []
 
 -- a kind is spelled by one letter
 abbrev pub letter_of : UnitKind → ℕ
-letter_of kinds.Map = slice_index (codes "m") 0
-letter_of kinds.Queue = slice_index (codes "q") 0
-letter_of kinds.Graph = slice_index (codes "g") 0
+letter_of kind = (signs_of kind).letter
 
 -- and stands in an image as a number
 abbrev pub code_of : UnitKind → ℕ
-code_of kinds.Map = 1
-code_of kinds.Queue = 2
-code_of kinds.Graph = 3
+code_of kind = (signs_of kind).code
+
+-- the kind that a number stands for, if it stands for one
+abbrev pub kind_of_code : ℕ → Option UnitKind
+kind_of_code code = find (λ kind. code_of kind == code) kinds_all
 
 abbrev pub letters_of : List UnitKind → List ℕ
 letters_of ks = map letter_of ks
@@ -58,11 +74,13 @@ unit_of_slot s slot = slot / s.slots
 abbrev pub word_of : ℕ → ℕ → ℕ
 word_of slot field = 1 + FIELDS * slot + field
 
+-- kinds are told apart by their codes
 abbrev pub same_kind : UnitKind → UnitKind → Bool
-same_kind kinds.Map kinds.Map = true
-same_kind kinds.Queue kinds.Queue = true
-same_kind kinds.Graph kinds.Graph = true
-same_kind _ _ = false
+same_kind a b = code_of a == code_of b
+
+-- units of these kinds hold pairs of keys and values
+abbrev pub keeps_pairs : UnitKind → Bool
+keeps_pairs kind = same_kind kind kinds.Map || same_kind kind kinds.Ordered
 
 -- the units of a kind, in their order, where the first of these kinds is unit n
 abbrev pub units_from : ℕ → UnitKind → List UnitKind → List ℕ

@@ -3,6 +3,7 @@ pub mod Devices
 pub mod Gates
 pub mod Layout
 pub mod Kinds
+pub mod PairLists
 pub mod Texts
 pub mod TextWords
 pub mod TextHash

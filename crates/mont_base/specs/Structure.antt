@@ -1,5 +1,5 @@
 -- The structure that the live objects of a unit make, or the first fault that they have.
-use Rattle.std.specs.Prelude.{◌≡◌, ℕ, Bool, true, false, ◌&&◌, ◌==◌, not, nat_le, List, [], ◌∷◌, ◌++◌, if◌then◌else◌, Option, Some, None}
+use Rattle.std.specs.Prelude.{◌≡◌, ℕ, Bool, true, false, ◌&&◌, ◌||◌, ◌==◌, not, nat_le, List, [], ◌∷◌, ◌++◌, if◌then◌else◌, Option, Some, None}
 use Rattle.std.specs.List.{list_any, filter_map}
 use Rattle.std.specs.Ordering.{nat_cmp, eq_by_cmp}
 use Rattle.std.specs.FinMap as finite
@@ -9,7 +9,7 @@ use Rattle.mont_base.specs.declared.record.ObjectFault.{ObjectFault}
 use Rattle.mont_base.specs.declared.record.ObjectFault.TheVariants as faults
 use Rattle.mont_base.specs.declared.kinds.UnitKind.{UnitKind}
 use Rattle.mont_base.specs.declared.kinds.UnitKind.TheVariants as kinds
-use Rattle.mont_base.specs.Layout.{Shape, unit_of_key, kind_of}
+use Rattle.mont_base.specs.Layout.{Shape, unit_of_key, kind_of, is_of_kind}
 use Rattle.mont_base.specs.State.{State, MapOf, QueueOf, GraphOf, Key, Value, Pairs, Ends, Graph, key_cmp, edge_cmp}
 use Rattle.mont_base.specs.Bodies.{pair_in, item_in, vertex_in, edge_in, is_vertex_body, is_edge_body}
 
@@ -51,14 +51,15 @@ abbrev pub fault_if : Bool → ObjectFault → Option ObjectFault
 fault_if true fault = Some fault
 fault_if false fault = None
 
--- ---- maps: words of a key or a value that are no text, a key of another unit, a key that stands
--- in a lower slot
-abbrev pub is_in_unit : Shape → ℕ → Key → Bool
-is_in_unit s unit key = is_unit (unit_of_key s key)
-  where
-    is_unit : Option ℕ → Bool
-    is_unit None = false
-    is_unit (Some u) = u == unit
+-- ---- maps and ordered units: words of a key or a value that are no text, a key of another unit, a
+-- key that stands in a lower slot
+abbrev pub is_unit : Option ℕ → ℕ → Bool
+is_unit None unit = false
+is_unit (Some u) unit = u == unit
+
+-- a map unit keeps the keys that belong to it, and an ordered unit all keys
+abbrev pub keeps_key : Shape → ℕ → Key → Bool
+keeps_key s unit key = is_unit (unit_of_key s key) unit || is_of_kind (kind_of s unit) kinds.Ordered
 
 abbrev pub has_key : Key → Object → Bool
 has_key key o = names (eq_by_cmp key_cmp key) (pair_at o)
@@ -66,7 +67,7 @@ has_key key o = names (eq_by_cmp key_cmp key) (pair_at o)
 abbrev pub pair_fault : Shape → ℕ → List Object → Option (Key × Value) → Option ObjectFault
 pair_fault s unit lower None = Some faults.Text
 pair_fault s unit lower (Some p) =
-    if not (is_in_unit s unit p.0) then Some faults.Shard else fault_if
+    if not (keeps_key s unit p.0) then Some faults.Shard else fault_if
     (list_any (has_key p.0) lower) faults.Key
 
 abbrev pub map_fault : Shape → ℕ → List Object → Object → Option ObjectFault
@@ -151,11 +152,13 @@ abbrev pub object_fault : Shape → ℕ → UnitKind → List Object → Option 
 object_fault s unit kinds.Map os = first_fault (map_fault s unit) [] os
 object_fault s unit kinds.Queue os = first_fault queue_fault [] os
 object_fault s unit kinds.Graph os = graph_fault os
+object_fault s unit kinds.Ordered os = first_fault (map_fault s unit) [] os
 
 abbrev pub structure_of : UnitKind → List Object → State
 structure_of kinds.Map os = MapOf (pairs_of os)
 structure_of kinds.Queue os = QueueOf (items_of os)
 structure_of kinds.Graph os = GraphOf (graph_of os)
+structure_of kinds.Ordered os = MapOf (pairs_of os)
 
 -- The structure of a unit's objects, which is defined exactly where they have no fault.
 pub record IsStructure (s : Shape) (unit : ℕ) (os : List Object) (state : State) : Type 0 where

@@ -1,4 +1,4 @@
--- Keys and values of maps, which are texts of bytes, and the words that hold one.
+-- Keys and values, which are texts of bytes, and the words that hold one.
 use Rattle.std.specs.Prelude.{ℕ, ◌<◌, ◌≤◌, ◌==◌, Bool, ◌&&◌, nat_le, List, [], ◌∷◌, ◌++◌, length, take, drop, All, Option, Some, None, if◌then◌else◌}
 use Rattle.std.specs.Int.{w64, to_le_bytes, from_le_bytes}
 use Rattle.std.specs.declared.cmp.Ordering.{Ordering}

@@ -25,8 +25,11 @@ pub const LEAST_SLOTS: u64 = 8;
 /// A unit has at most so many slots.
 pub const MOST_SLOTS: u64 = 4096;
 
-/// A key or a value of a map has at most so many bytes.
+/// A key or a value has at most so many bytes.
 pub const TEXT_BYTES: usize = 24;
+
+/// A range of keys is answered with at most so many pairs.
+pub const MOST_PAIRS: usize = 16;
 
 /// The first word of the body of a graph's vertex.
 pub const VERTEX_TAG: u64 = 1;
@@ -49,6 +52,8 @@ const _: () = prove!(LEAST_SLOTS == 8);
 const _: () = prove!(MOST_SLOTS == 4096);
 
 const _: () = prove!(TEXT_BYTES == 24);
+
+const _: () = prove!(MOST_PAIRS == 16);
 
 const _: () = prove!(VERTEX_TAG == 1);
 

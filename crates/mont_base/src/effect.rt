@@ -4,7 +4,7 @@ use crate::text::Text;
 /// A thing that a structure holds.
 #[derive(Clone, Copy, Debug, PartialEq, Eq)]
 pub enum Thing {
-    /// A key of a map with its value.
+    /// A key of a map or of an ordered unit, with its value.
     Pair { key: Text, value: Text },
     /// An item of a queue.
     Item { item: u64 },

@@ -8,23 +8,50 @@ use std::marker::Model;
 /// What kind of structure a unit is.
 #[derive(Clone, Copy, Debug, PartialEq, Eq)]
 pub enum UnitKind {
+    /// A map, which shares the keys with the other maps of the store.
     Map,
     Queue,
     Graph,
+    /// A map with all keys of its own, which is asked for ranges of them too.
+    Ordered,
 }
 
+/// What stands for a kind: a letter in texts, and a number in images.
+#[derive(Clone, Copy, Debug, PartialEq, Eq)]
+pub struct Signs {
+    pub letter: u8,
+    pub code: u64,
+}
+
+// The kinds by rising code.
+const KINDS: [UnitKind; 4] = [
+    UnitKind::Map,
+    UnitKind::Queue,
+    UnitKind::Graph,
+    UnitKind::Ordered,
+];
+
 impl UnitKind {
-    ghost use Rattle.mont_base.specs.Layout.{letter_of, code_of, same_kind};
+    ghost use Rattle.mont_base.specs.Layout.{signs_of, letter_of, code_of, same_kind};
+
+    /// What stands for the kind.
+    pub fn signs(self) -> Signs
+        ensures { result ≡ signs_of self }
+    {
+        let (letter, code) = match self {
+            UnitKind::Map => (b'm', 1),
+            UnitKind::Queue => (b'q', 2),
+            UnitKind::Graph => (b'g', 3),
+            UnitKind::Ordered => (b'o', 4),
+        };
+        Signs { letter, code }
+    }
 
     /// The letter that spells the kind in texts.
     pub fn letter(self) -> u8
         ensures { result ≡ letter_of self }
     {
-        match self {
-            UnitKind::Map => b'm',
-            UnitKind::Queue => b'q',
-            UnitKind::Graph => b'g',
-        }
+        self.signs().letter
     }
 
     /// The kind that a letter spells.
@@ -32,23 +59,14 @@ impl UnitKind {
         ensures { MatchOption result ((kind : UnitKind) → letter ≢ letter_of kind)
             (λ kind. letter ≡ letter_of kind) }
     {
-        match letter {
-            b'm' => Some(UnitKind::Map),
-            b'q' => Some(UnitKind::Queue),
-            b'g' => Some(UnitKind::Graph),
-            _ => None,
-        }
+        KINDS.iter().copied().find(|kind| kind.letter() == letter)
     }
 
     /// The number that stands for the kind in images.
     pub fn code(self) -> u64
         ensures { result ≡ code_of self }
     {
-        match self {
-            UnitKind::Map => 1,
-            UnitKind::Queue => 2,
-            UnitKind::Graph => 3,
-        }
+        self.signs().code
     }
 
     /// The kind that a number stands for.
@@ -56,17 +74,12 @@ impl UnitKind {
         ensures { MatchOption result ((kind : UnitKind) → code ≢ code_of kind)
             (λ kind. code ≡ code_of kind) }
     {
-        match code {
-            1 => Some(UnitKind::Map),
-            2 => Some(UnitKind::Queue),
-            3 => Some(UnitKind::Graph),
-            _ => None,
-        }
+        KINDS.iter().copied().find(|kind| kind.code() == code)
     }
 }
 
-/// Letters that spell no kinds of a store: none, more than sixteen, or another than `m`, `q` and
-/// `g`.
+/// Letters that spell no kinds of a store: none, more than sixteen, or another than `m`, `q`, `g`
+/// and `o`.
 #[derive(Clone, Copy, Debug, PartialEq, Eq)]
 pub struct BadKinds;
 

@@ -12,6 +12,7 @@ mod kinds;
 mod layout;
 mod memory;
 mod operation;
+mod pair_list;
 mod record;
 mod refusal;
 mod sequence;
@@ -23,15 +24,16 @@ mod tests;
 mod text;
 
 pub use constants::{
-    BODY, EDGE_TAG, FIELDS, FIRST_CLOCK, LABEL, LAST, LEAST_SLOTS, MOST_SLOTS, MOST_UNITS,
-    TEXT_BYTES, VERTEX_TAG,
+    BODY, EDGE_TAG, FIELDS, FIRST_CLOCK, LABEL, LAST, LEAST_SLOTS, MOST_PAIRS, MOST_SLOTS,
+    MOST_UNITS, TEXT_BYTES, VERTEX_TAG,
 };
 pub use effect::{Effect, Thing};
 pub use gate::{Cut, Fuel, Gate, Steady};
-pub use kinds::{BadKinds, Kinds, UnitKind};
+pub use kinds::{BadKinds, Kinds, Signs, UnitKind};
 pub use layout::{BadLayout, Epoch, Layout, Slot, Unit};
 pub use memory::Words;
-pub use operation::{Entry, Op, Receipt, Reply};
+pub use operation::{Aim, Entry, Op, Receipt, Reply};
+pub use pair_list::PairList;
 pub use record::{Change, Held, Kind, Label, Object, ObjectFault, SlotFault};
 pub use refusal::{CallRefusal, Which};
 pub use sequence::Sequence;

@@ -1,13 +1,15 @@
 // What callers ask of units, and what they are answered.
 ghost use Rattle.std.specs.Prelude.{◌≡◌};
 ghost use Rattle.mont_base.specs.Layout.{unit_of_key};
+ghost use Rattle.mont_base.specs.State.{can_range};
 
+use crate::constants::MOST_PAIRS;
 use crate::kinds::UnitKind;
 use crate::layout::{Epoch, Layout, Unit};
 use crate::text::Text;
 
-/// An operation on a structure. Those on a queue or a graph name its unit; a map operation is of
-/// the map unit that keeps its key.
+/// An operation on a structure. A map operation is of the map unit that keeps its key; every other
+/// one names its unit.
 #[derive(Clone, Copy, Debug, PartialEq, Eq)]
 pub enum Op {
     /// Sets the value of a key.
@@ -70,6 +72,51 @@ pub enum Op {
         unit: Unit,
         vertex: u64,
     },
+    /// Sets the value of a key of an ordered unit.
+    OPut {
+        unit: Unit,
+        key: Text,
+        value: Text,
+    },
+    /// Looks a key of an ordered unit up.
+    OGet {
+        unit: Unit,
+        key: Text,
+    },
+    /// Removes a key of an ordered unit.
+    ODel {
+        unit: Unit,
+        key: Text,
+    },
+    /// Looks up the greatest key that isn't above this one.
+    OFloor {
+        unit: Unit,
+        key: Text,
+    },
+    /// Counts the keys below this one.
+    ORank {
+        unit: Unit,
+        key: Text,
+    },
+    /// Counts the first pairs with a key from one to another, with both: at most so many, which
+    /// are 1 to 16.
+    ORange {
+        unit: Unit,
+        from: Text,
+        to: Text,
+        most: u64,
+    },
+}
+
+/// Where an operation belongs.
+#[derive(Clone, Copy, Debug, PartialEq, Eq)]
+pub enum Aim {
+    /// To the map unit that keeps this key.
+    Key { key: Text },
+    /// To the unit of this number, if it is of this kind.
+    Unit { kind: UnitKind, unit: Unit },
+    /// To no unit.
+    Nowhere,
 }
 
 /// The answer to an operation.
@@ -85,6 +132,10 @@ pub enum Reply {
     Count { number: u64 },
     /// An edge can't go where it was asked to.
     NoEnds,
+    /// The key that was asked for.
+    Key { key: Text },
+    /// So many pairs a range has. Which they are is told where they are handed over.
+    Pairs { number: u64 },
 }
 
 /// An answered operation, as its unit's history keeps it.
@@ -108,26 +159,55 @@ pub struct Receipt {
 }
 
 impl Op {
-    ghost use Rattle.mont_base.specs.State.{unit_of_op};
+    ghost use Rattle.mont_base.specs.State.{aim_of, unit_of_op};
 
-    /// The unit that the operation belongs to. There is none for a map operation where no unit is a
-    /// map, and for one that names a unit of another kind or a number of no unit.
-    pub fn unit(&self, layout: Layout) -> Option<Unit>
-        ensures { result ≡ unit_of_op layout self.now }
+    /// Where the operation belongs. A range of no pairs, or of more than 16, belongs nowhere.
+    pub fn aim(&self) -> Aim
+        ensures { result ≡ aim_of self.now }
     {
-        match self {
-            Op::Put { key, .. } | Op::Get { key } | Op::Del { key } => unit_of_key(&layout, key),
-            Op::Enq { unit, .. } | Op::Deq { unit } | Op::Len { unit } => {
-                layout.named(UnitKind::Queue, *unit)
-            }
+        let (kind, unit) = match *self {
+            Op::Put { key, .. } | Op::Get { key } | Op::Del { key } => return Aim::Key { key },
+            Op::Enq { unit, .. } | Op::Deq { unit } | Op::Len { unit } => (UnitKind::Queue, unit),
             Op::AddV { unit, .. }
             | Op::DelV { unit, .. }
             | Op::AddE { unit, .. }
             | Op::DelE { unit, .. }
             | Op::Vertex { unit, .. }
-            | Op::Degree { unit, .. } => layout.named(UnitKind::Graph, *unit),
+            | Op::Degree { unit, .. } => (UnitKind::Graph, unit),
+            Op::OPut { unit, .. }
+            | Op::OGet { unit, .. }
+            | Op::ODel { unit, .. }
+            | Op::OFloor { unit, .. }
+            | Op::ORank { unit, .. } => (UnitKind::Ordered, unit),
+            Op::ORange { unit, most, .. } => {
+                if !can_range(most) {
+                    return Aim::Nowhere;
+                }
+                (UnitKind::Ordered, unit)
+            }
+        };
+        Aim::Unit { kind, unit }
+    }
+
+    /// The unit that the operation belongs to. There is none for a map operation where no unit is a
+    /// map, for one that names a unit of another kind or a number of no unit, and for a range of no
+    /// pairs or of more than 16.
+    pub fn unit(&self, layout: Layout) -> Option<Unit>
+        ensures { result ≡ unit_of_op layout self.now }
+    {
+        match self.aim() {
+            Aim::Key { key } => unit_of_key(&layout, &key),
+            Aim::Unit { kind, unit } => layout.named(kind, unit),
+            Aim::Nowhere => None,
         }
     }
+}
+
+// Whether a range may be of so many pairs.
+fn can_range(most: u64) -> bool
+    ensures { result ≡ can_range most }
+{
+    (1..=MOST_PAIRS as u64).contains(&most)
 }
 
 // The map unit that keeps a key, if there is a map unit.

@@ -58,17 +58,19 @@ fn kinds_have_their_letters_and_codes(rt: HostRuntime) {
         (UnitKind::Map, b'm', 1),
         (UnitKind::Queue, b'q', 2),
         (UnitKind::Graph, b'g', 3),
+        (UnitKind::Ordered, b'o', 4),
     ];
     for (kind, letter, code) in table {
+        assert_eq!(rt; kind.signs(), Signs { letter, code });
         assert_eq!(rt; (kind.letter(), kind.code()), (letter, code));
         assert_eq!(rt; UnitKind::of_letter(letter), Some(kind));
         assert_eq!(rt; UnitKind::of_code(code), Some(kind));
     }
     assert_eq!(rt;
         (
-            UnitKind::of_letter(b'o'),
+            UnitKind::of_letter(b'p'),
             UnitKind::of_code(0),
-            UnitKind::of_code(4)
+            UnitKind::of_code(5)
         ),
         (None, None, None)
     );
@@ -131,6 +133,66 @@ fn operations_have_their_units(rt: HostRuntime) {
             assert_eq!(rt; op.unit(layout), graph.then_some(unit), "{op:?}");
         }
     }
+}
+
+#[test]
+fn ordered_units_have_operations_of_their_own(rt: HostRuntime) {
+    let layout = layout(&rt, b"mo", 8);
+    let key = text(&rt, b"7");
+    for (unit, found) in [(0, None), (1, Some(1)), (2, None)] {
+        let ops = [
+            Op::OPut {
+                unit,
+                key,
+                value: key,
+            },
+            Op::OGet { unit, key },
+            Op::ODel { unit, key },
+            Op::OFloor { unit, key },
+            Op::ORank { unit, key },
+        ];
+        for op in ops {
+            assert_eq!(rt; op.unit(layout), found, "{op:?}");
+        }
+        for (most, may) in [(0, false), (1, true), (16, true), (17, false)] {
+            let op = Op::ORange {
+                unit,
+                from: key,
+                to: key,
+                most,
+            };
+            let found = if may { found } else { None };
+            assert_eq!(rt; op.unit(layout), found, "{op:?}");
+        }
+    }
+    let far = Op::ORange {
+        unit: 1,
+        from: key,
+        to: key,
+        most: u64::MAX,
+    };
+    assert_eq!(rt;
+        (far.aim(), Op::Get { key }.aim()),
+        (Aim::Nowhere, Aim::Key { key })
+    );
+}
+
+#[test]
+fn pairs_are_kept_in_place(rt: HostRuntime) {
+    let mut pairs = PairList::empty();
+    assert_eq!(rt; (pairs.len(), Text::empty()), (0, text(&rt, b"")));
+    for at in 0..16 {
+        assert!(rt; pairs.len() == at);
+        pairs.push(Text::of_number(at), Text::of_number(2 * at));
+    }
+    let copy = pairs;
+    for (at, pair) in copy.as_slice().iter().enumerate() {
+        let at = at as u64;
+        assert_eq!(rt; *pair, (Text::of_number(at), Text::of_number(2 * at)));
+        assert!(rt; at < copy.len());
+        assert_eq!(rt; copy.pair(at), *pair);
+    }
+    assert_eq!(rt; (copy.len(), copy == PairList::empty()), (16, false));
 }
 
 // The bytes 1 to 25.
@@ -215,9 +277,9 @@ fn texts_stand_in_the_order_of_lists(rt: HostRuntime) {
 fn answers_are_small(rt: HostRuntime) {
     assert_eq!(rt;
         (size_of::<Text>(), size_of::<Reply>(), size_of::<Op>()),
-        (32, 40, 72)
+        (32, 40, 88)
     );
-    assert_eq!(rt; (size_of::<Entry>(), size_of::<Receipt>()), (136, 152));
+    assert_eq!(rt; (size_of::<Entry>(), size_of::<Receipt>()), (152, 168));
 }
 
 #[test]

@@ -1,6 +1,6 @@
-// Keys and values of maps: texts of at most 24 bytes, kept in place as their length and three
+// Keys and values: texts of at most 24 bytes, kept in place as their length and three
 // words.
-ghost use Rattle.std.specs.Prelude.{◌≡◌, ◌==◌, ◌<◌, ◌≤◌, ◌+◌, ◌%◌, IsTrue, Some, length, take, drop, slice_index, decimal, nat_eq};
+ghost use Rattle.std.specs.Prelude.{◌≡◌, ◌==◌, ◌<◌, ◌≤◌, ◌+◌, ◌%◌, IsTrue, Some, [], length, take, drop, slice_index, decimal, nat_eq};
 ghost use Rattle.std.specs.Result.{OkIff};
 ghost use Rattle.std.specs.Int.{w64, from_le_bytes, to_le_bytes};
 ghost use Rattle.std.specs.Hash as fed;
@@ -18,7 +18,7 @@ use std::marker::Model;
 #[derive(Clone, Copy, Debug, PartialEq, Eq)]
 pub struct TextTooLong;
 
-/// A text of at most 24 bytes, which is a key or a value of a map. It is copied without memory.
+/// A text of at most 24 bytes, which is a key or a value. It is copied without memory.
 ///
 /// Contracts see its bytes as a list. Its four words are its length and its bytes, eight to a word,
 /// the lowest byte of a word first; the bytes behind its end are 0. Texts stand in the order of
@@ -51,6 +51,13 @@ impl Model for Text {
 const DIGITS: usize = 20;
 
 impl Text {
+    /// The text of no bytes.
+    pub fn empty() -> Text
+        ensures { result ≡ [] }
+    {
+        of_short(&[])
+    }
+
     /// The text of these bytes; `TextTooLong` above 24.
     pub fn of_bytes(bytes: &[u8]) -> Result<Text, TextTooLong>
         ensures { OkIff result (length bytes.now ≤ TEXT_BYTES) bytes.now }

@@ -4,7 +4,7 @@ use Rattle.std.proofs.Math.Seq.{take-append_seam}
 use Rattle.std.proofs.lemmas.Bool.Decides.{Decides-eqb, Decides-and}
 use Rattle.std.proofs.lemmas.Slice.Eq.{slice_eq-Decides}
 use Rattle.mont_base.specs.declared.kinds.UnitKind.{UnitKind}
-use Rattle.mont_base.specs.declared.kinds.UnitKind.TheVariants.{Map, Queue, Graph}
+use Rattle.mont_base.specs.declared.kinds.UnitKind.TheVariants.{Map, Queue, Graph, Ordered}
 use Rattle.mont_base.specs.contracts.kinds.UnitKindPartialEq.TheImpl as kinds
 use Rattle.mont_base.specs.contracts.layout.LayoutPartialEq.TheImpl as layouts
 use Rattle.mont_base.specs.Kinds.{padded}
@@ -20,6 +20,13 @@ kind_Decides Queue Map = (λ e. absurd cc, λ e. absurd cc)
 kind_Decides Queue Graph = (λ e. absurd cc, λ e. absurd cc)
 kind_Decides Graph Map = (λ e. absurd cc, λ e. absurd cc)
 kind_Decides Graph Queue = (λ e. absurd cc, λ e. absurd cc)
+kind_Decides Ordered Ordered = (λ _. refl, λ _. refl)
+kind_Decides Map Ordered = (λ e. absurd cc, λ e. absurd cc)
+kind_Decides Queue Ordered = (λ e. absurd cc, λ e. absurd cc)
+kind_Decides Graph Ordered = (λ e. absurd cc, λ e. absurd cc)
+kind_Decides Ordered Map = (λ e. absurd cc, λ e. absurd cc)
+kind_Decides Ordered Queue = (λ e. absurd cc, λ e. absurd cc)
+kind_Decides Ordered Graph = (λ e. absurd cc, λ e. absurd cc)
 
 -- what fills the places behind the last unit tells nothing
 same_padded : (ks ls : List UnitKind) → padded ks ≡ padded ls → length ks ≡ length ls → ks ≡ ls

@@ -6,6 +6,7 @@ pub mod ShownLaws
 pub mod NamesLaws
 pub mod ProgressLaws
 pub mod WalkLaws
+pub mod RunLaws
 pub mod MomentLaws
 pub mod FullLaws
 pub mod CountLaws

@@ -6,6 +6,7 @@ pub mod Progress
 pub mod Walk
 pub mod Opening
 pub mod Causes
+pub mod Ranges
 pub mod Moments
 pub mod Ahead
 pub mod Points

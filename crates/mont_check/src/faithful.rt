@@ -6,6 +6,7 @@ ghost use Rattle.job_text.specs.PlainReport.{report_of};
 
 use crate::answered::are_answered;
 use crate::named::are_named_once;
+use crate::runs::are_run;
 use crate::walk::copied;
 use job_text::{Job, Report};
 use mont_base::{Entry, Epoch, Held, LAST, Layout, Sequence, Unit};
@@ -41,6 +42,9 @@ pub fn is_faithful(
     if !are_legal(&job.layout, clock, base, &report.histories)? {
         return Ok(false);
     }
+    if !are_run(base, report)? {
+        return Ok(false);
+    }
     if !are_answered(alloc, job, records, report)? {
         return Ok(false);
     }
@@ -73,7 +77,9 @@ fn is_whole(job: &Job, report: &Report) -> bool
     ensures { IsTrue result ↔ IsWhole job.now (report_of report.now) }
 {
     let units = job.layout.units();
-    report.histories.len() == units
+    report.base.units.len() == units
+        && report.histories.len() == units
+        && report.runs.len() == units
         && report.outcomes.len() == job.callers
         && report.contents.units.len() == units
 }

@@ -15,6 +15,7 @@ mod opening;
 mod points;
 mod progress;
 mod questions;
+mod runs;
 mod shown;
 mod walk;
 

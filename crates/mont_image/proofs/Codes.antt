@@ -6,9 +6,9 @@ use Rattle.std.specs.Int.{w64, from_le_bytes}
 use Rattle.std.specs.Simd.{first_chunks}
 use Rattle.std.proofs.lemmas.List.{map-append, get_or-map, length-map, take_all, take_at}
 use Rattle.mont_base.specs.declared.kinds.UnitKind.{UnitKind}
-use Rattle.mont_base.specs.declared.kinds.UnitKind.TheVariants as kinds
 use Rattle.mont_base.specs.Bodies.{both}
-use Rattle.mont_base.specs.Layout.{IsKinds, code_of, letter_of, letters_of}
+use Rattle.mont_base.specs.Layout.{IsKinds, code_of, kind_of_code, letter_of, letters_of}
+use Rattle.mont_base.proofs.KindTable.{kind_back, code_back, no_kind, same_letter}
 use Rattle.std.specs.Io.KnownBytes.{Consumes, IsAtEnd}
 use Rattle.mont_base.specs.declared.constants.TheConstants.{MOST_UNITS}
 use Rattle.mont_image.specs.declared.image_refusal.ImageRefusal.{ImageRefusal}
@@ -16,28 +16,9 @@ use Rattle.mont_image.specs.declared.image_refusal.ImageRefusal.TheVariants as f
 use Rattle.mont_image.specs.declared.image_text.TheConstants.{WORD, HEADER}
 use Rattle.mont_image.specs.ImageLayout.{RefusesCodes}
 use Rattle.mont_image.specs.ImageRefusal.{Refuses}
-use Rattle.mont_image.specs.ImageText.{kind_of_code, kinds_of_codes, bytes_of, words_in}
+use Rattle.mont_image.specs.ImageText.{kinds_of_codes, bytes_of, words_in}
 use Rattle.mont_image.proofs.WordBytes.{AreBytes, bytes_of-words_in, length-bytes_of, length-words_in, words_in-append}
 use Rattle.mont_image.proofs.Filling.{refuses_front, refuses_whole}
-
-kind_back : (k : UnitKind) → kind_of_code (code_of k) ≡ Some k
-kind_back kinds.Map = refl
-kind_back kinds.Queue = refl
-kind_back kinds.Graph = refl
-
-code_back : (c : ℕ) (k : UnitKind) → kind_of_code c ≡ Some k → c ≡ code_of k
-code_back zero k e = cc
-code_back (suc zero) k e = let same : kinds.Map ≡ k = cc in ap code_of same
-code_back (suc (suc zero)) k e = let same : kinds.Queue ≡ k = cc in ap code_of same
-code_back (suc (suc (suc zero))) k e = let same : kinds.Graph ≡ k = cc in ap code_of same
-code_back (suc (suc (suc (suc n)))) k e = cc
-
-no_kind : (c : ℕ) → ((k : UnitKind) → c ≢ code_of k) → kind_of_code c ≡ None
-no_kind zero none = refl
-no_kind (suc zero) none = absurd (none kinds.Map refl)
-no_kind (suc (suc zero)) none = absurd (none kinds.Queue refl)
-no_kind (suc (suc (suc zero))) none = absurd (none kinds.Graph refl)
-no_kind (suc (suc (suc (suc n)))) none = refl
 
 abbrev joined : Option UnitKind → Option (List UnitKind) → Option (List UnitKind)
 joined k ks = option_map (λ p. p.0 ∷ p.1) (both k ks)
@@ -84,17 +65,6 @@ alike_more codes letters more written code letter k so_far c l is_more is_writte
   is_more ∙ (λ i. so_far.1 i ++ c i ∷ []) ∙ sym (map-append code_of so_far.0 (k ∷ [])),
   is_written ∙ (λ i. so_far.2 i ++ l i ∷ []) ∙ sym (map-append letter_of so_far.0 (k ∷ [])),
 )
-
-same_letter : (j k : UnitKind) → letter_of j ≡ letter_of k → j ≡ k
-same_letter kinds.Map kinds.Map e = refl
-same_letter kinds.Map kinds.Queue e = absurd (omega arith)
-same_letter kinds.Map kinds.Graph e = absurd (omega arith)
-same_letter kinds.Queue kinds.Map e = absurd (omega arith)
-same_letter kinds.Queue kinds.Queue e = refl
-same_letter kinds.Queue kinds.Graph e = absurd (omega arith)
-same_letter kinds.Graph kinds.Map e = absurd (omega arith)
-same_letter kinds.Graph kinds.Queue e = absurd (omega arith)
-same_letter kinds.Graph kinds.Graph e = refl
 
 same_letters : (js ks : List UnitKind) → letters_of js ≡ letters_of ks → js ≡ ks
 same_letters [] [] e = refl

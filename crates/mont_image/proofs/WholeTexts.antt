@@ -80,6 +80,7 @@ code_few : (k : UnitKind) → code_of k < 2 ^ 64
 code_few kinds.Map = omega arith
 code_few kinds.Queue = omega arith
 code_few kinds.Graph = omega arith
+code_few kinds.Ordered = omega arith
 
 all_codes : (ks : List UnitKind) → AreWords (map code_of ks)
 all_codes [] k d inside = absurd (omega arith)

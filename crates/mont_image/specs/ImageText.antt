@@ -5,11 +5,10 @@ use Rattle.std.specs.List.{flat_map}
 use Rattle.std.specs.Simd.{first_chunks}
 use Rattle.mont_base.specs.declared.constants.TheConstants.{FIRST_CLOCK, LAST, LEAST_SLOTS, MOST_SLOTS, MOST_UNITS}
 use Rattle.mont_base.specs.declared.kinds.UnitKind.{UnitKind}
-use Rattle.mont_base.specs.declared.kinds.UnitKind.TheVariants as kinds
 use Rattle.mont_base.specs.Bodies.{both}
 use Rattle.mont_base.specs.Image.{clock_of}
 use Rattle.mont_base.specs.Kinds.{old_kinds}
-use Rattle.mont_base.specs.Layout.{Shape, IsLayout, shape, code_of}
+use Rattle.mont_base.specs.Layout.{Shape, IsLayout, shape, code_of, kind_of_code}
 use Rattle.mont_image.specs.declared.image_refusal.ImageRefusal.{ImageRefusal}
 use Rattle.mont_image.specs.declared.image_refusal.ImageRefusal.TheVariants as faults
 use Rattle.mont_image.specs.declared.image_text.TheConstants.{WORD, MAGIC, HEADER, MOST_OLD_MAPS}
@@ -138,14 +137,6 @@ abbrev pub header_in : List ℕ → Result Header ImageRefusal
 header_in (magic ∷ version ∷ units ∷ slots ∷ clock ∷ rest) =
     unless (magic == MAGIC) faults.Magic (header_told (version_of_number version) units slots clock)
 header_in few = Err (faults.Short (length few))
-
--- the kind that a code stands for
-abbrev pub kind_of_code : ℕ → Option UnitKind
-kind_of_code zero = None
-kind_of_code (suc zero) = Some kinds.Map
-kind_of_code (suc (suc zero)) = Some kinds.Queue
-kind_of_code (suc (suc (suc zero))) = Some kinds.Graph
-kind_of_code (suc (suc (suc (suc n)))) = None
 
 -- the kinds of codes, if each is that of one
 abbrev pub kinds_of_codes : List ℕ → Option (List UnitKind)

@@ -52,7 +52,7 @@ const GOOD: [Good; 8] = [
     (&[MAGIC, 1, 1, 8, 4], b"mqg", true, 8, 8, OLD_PUT),
     (&[MAGIC, 2, 1, 8, 4], b"mqg", false, 12, 8, LATE_PUT),
     (&[MAGIC, 1, 8, 8, 2], b"mmmmmmmmqg", true, 8, 79, OLD_PUT),
-    (&[MAGIC, 3, 1, 8, 2, 3], b"g", false, 12, 7, ANY),
+    (&[MAGIC, 3, 2, 8, 2, 3, 4], b"go", false, 12, 7, ANY),
     (SIXTEEN, b"mqgmqgmqgmqggggg", false, 12, 127, ANY),
 ];
 
@@ -103,9 +103,9 @@ const BAD: [Bad; 44] = [
         ImageRefusal::Short { words: 7 },
     ),
     (&[MAGIC, 3, 3, 8, 4, 0, 2, 3], 0, 0, ImageRefusal::Layout),
-    (&[MAGIC, 3, 3, 8, 4, 1, 2, 4], 288, 0, ImageRefusal::Layout),
-    (&[MAGIC, 3, 3, 8, 4, 1, 2, 4], 288, 1, ImageRefusal::Layout),
-    (&[MAGIC, 3, 3, 8, 4, 1, 5, 3], 288, 0, ImageRefusal::Layout),
+    (&[MAGIC, 3, 3, 8, 4, 1, 2, 5], 288, 0, ImageRefusal::Layout),
+    (&[MAGIC, 3, 3, 8, 4, 1, 2, 5], 288, 1, ImageRefusal::Layout),
+    (&[MAGIC, 3, 3, 8, 4, 1, 6, 3], 288, 0, ImageRefusal::Layout),
     (
         &[MAGIC, 3, 3, 8, 4, 1, 2, 3],
         0,

@@ -83,6 +83,8 @@ map_del_form m key (Some value) = alone _
 map_form : (m : Pairs) (op : Op) → HaveForm (map_step m op).effects
 map_form m (ops.Put key value) = set_form (finite.contains_key m key) _
 map_form m (ops.Del key) = map_del_form m key (finite.get m key)
+map_form m (ops.OPut unit key value) = set_form (finite.contains_key m key) _
+map_form m (ops.ODel unit key) = map_del_form m key (finite.get m key)
 map_form m _ = none
 
 deq_form : (items : List ℕ) → HaveForm (queue_deq items).effects

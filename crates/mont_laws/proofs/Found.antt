@@ -10,7 +10,7 @@ use Rattle.mont_base.specs.declared.record.ObjectFault.TheVariants as faults
 use Rattle.mont_base.specs.Layout.{Shape}
 use Rattle.mont_base.specs.State.{Key, Value, Ends, key_cmp}
 use Rattle.mont_base.specs.Bodies.{pair_in, item_in, vertex_in, edge_in, is_vertex_body}
-use Rattle.mont_base.specs.Structure.{is_in_unit, is_serial, pair_fault, map_fault, item_fault, queue_fault, has_key, has_serial, fault_if, names}
+use Rattle.mont_base.specs.Structure.{keeps_key, is_serial, pair_fault, map_fault, item_fault, queue_fault, has_key, has_serial, fault_if, names}
 use Rattle.mont_laws.specs.Structures.{if_fits, pair_for, item_for, Part, AtVertex, AtEdge, part_for, vertex_part, edge_part}
 use Rattle.mont_laws.proofs.Holders.{fitted}
 use Rattle.mont_laws.proofs.Listed.{Reads, is_named}
@@ -34,18 +34,18 @@ not_fit p a e = by (p a) e
 
 -- ---- maps
 module _ (s : Shape) (unit : ℕ) where
-  pair_there : (o : Object) (e : Key × Value) → pair_for s unit o.body ≡ Some e → (pair_in o.body ≡ Some e) × (is_in_unit s unit e.0 ≡ true)
-  pair_there o e h = fitted (λ (p : Key × Value). is_in_unit s unit p.0) (pair_in o.body) e h
+  pair_there : (o : Object) (e : Key × Value) → pair_for s unit o.body ≡ Some e → (pair_in o.body ≡ Some e) × (keeps_key s unit e.0 ≡ true)
+  pair_there o e h = fitted (λ (p : Key × Value). keeps_key s unit p.0) (pair_in o.body) e h
 
   key_among : (key : Key) (lower : List Object) (front : List (Key × Value)) → Reads body_of (pair_for s unit) lower front
       → list_any (has_key key) lower ≡ is_named (eq_by_cmp key_cmp) key front
   key_among key lower front h = any_read (pair_for s unit) (has_key key) (λ (d : Key × Value). eq_by_cmp key_cmp key d.0)
       (λ o e is. ap (names (eq_by_cmp key_cmp key)) (pair_there o e is).0) lower front h
 
-  pair_unread : (lower : List Object) (p : Option (Key × Value)) → if_fits (λ (p : Key × Value). is_in_unit s unit p.0) p ≡ None
+  pair_unread : (lower : List Object) (p : Option (Key × Value)) → if_fits (λ (p : Key × Value). keeps_key s unit p.0) p ≡ None
       → pair_fault s unit lower p ≡ None → ⊥
   pair_unread lower None e f = absurd (cc)
-  pair_unread lower (Some p) e f = let n = not_fit (λ (p : Key × Value). is_in_unit s unit p.0) p e in
+  pair_unread lower (Some p) e f = let n = not_fit (λ (p : Key × Value). keeps_key s unit p.0) p e in
       let g : ◌≡◌ {A = Option ObjectFault} (Some faults.Shard) None = sym (rw n refl) ∙ f in absurd (cc)
 
   pair_is : (lower : List Object) (front : List (Key × Value)) (o : Object) (e : Key × Value)

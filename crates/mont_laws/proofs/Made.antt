@@ -19,7 +19,7 @@ use Rattle.mont_base.specs.Layout.{Shape}
 use Rattle.mont_base.specs.State.{Key, Value, Ends, key_cmp, edge_cmp}
 use Rattle.mont_base.specs.Versions.{live_objects}
 use Rattle.mont_base.specs.Bodies.{pair_in, item_in}
-use Rattle.mont_base.specs.Structure.{pair_at, item_at, vertex_at, edge_at, pairs_of, row_of, items_of, graph_of, is_in_unit, is_serial, first_fault}
+use Rattle.mont_base.specs.Structure.{pair_at, item_at, vertex_at, edge_at, pairs_of, row_of, items_of, graph_of, keeps_key, is_serial, first_fault}
 use Rattle.mont_laws.specs.Records.{AreApart}
 use Rattle.mont_laws.specs.Shows.{live_things, Shows}
 use Rattle.mont_laws.specs.Structures.{pair_for, item_for, part_for, Part, AtVertex, AtEdge, attribute_of, HasPairs, HasRow}
@@ -108,7 +108,7 @@ module _ (s : Shape) (unit : ℕ) (rs : List Held) (es : List (Key × Value))
     (are : AreEntries (eq_by_cmp key_cmp) (pair_for s unit) rs es) where
   pairs_are : filter_map pair_at (live_objects rs) ≡ es
   pairs_are = read_map (pair_for s unit) pair_at (λ e. Some e)
-      (λ o e is. (fitted (λ (p : Key × Value). is_in_unit s unit p.0) (pair_in o.body) e is).0) (live_objects rs) es are.reads
+      (λ o e is. (fitted (λ (p : Key × Value). keeps_key s unit p.0) (pair_in o.body) e is).0) (live_objects rs) es are.reads
       ∙ all_some es
 
   pub made_pairs : AreApart rs → HasPairs s unit rs (pairs_of (live_objects rs))

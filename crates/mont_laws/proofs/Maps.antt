@@ -10,14 +10,15 @@ use Rattle.mont_base.specs.declared.operation.Op.{Op}
 use Rattle.mont_base.specs.declared.operation.Op.TheVariants as ops
 use Rattle.mont_base.specs.declared.effect.Thing.TheVariants.{Pair}
 use Rattle.mont_base.specs.declared.effect.Effect.TheVariants.{Inserts, Replaces, Removes}
-use Rattle.mont_base.specs.Layout.{Shape, unit_of_key}
+use Rattle.mont_base.specs.Layout.{Shape}
+use Rattle.mont_base.specs.Structure.{keeps_key}
 use Rattle.mont_base.specs.State.{Key, Value, Pairs, key_cmp, set_effects, map_step, map_del}
 use Rattle.mont_base.specs.Bodies.{pair_body}
 use Rattle.mont_laws.specs.Shows.{live_things, Shows}
 use Rattle.mont_laws.specs.Structures.{pair_for, HasPairs, HasThings}
 use Rattle.mont_laws.specs.Effects.{IsEffect, AreEffects, IsOpOf}
 use Rattle.mont_laws.proofs.Keys.{is_some_not, one_text, texts_exact, insert_update, remove_update}
-use Rattle.mont_laws.proofs.Bodies.{pair_back, pair_fits}
+use Rattle.mont_laws.proofs.Bodies.{own_key, ordered_key, IsKeptPair, kept_pair, pair_back, pair_fits}
 use Rattle.mont_laws.proofs.Shows.{shows_once, IsEdit, shows_edit}
 use Rattle.mont_laws.proofs.Edits.{inserted, replaced, removed, no_zip, one_zip}
 
@@ -37,21 +38,21 @@ module _ (s : Shape) (unit : ℕ) (rs : List Held) where
     unchanged ws are = subst (λ (zs : List Held). HasPairs s unit zs m)
         (sym (append-nil rs) ∙ ap (λ (zs : List Held). rs ++ zs) (sym (no_zip (IsEffect unit rs) ws are))) shown
 
-    put_edit : (k : Key) (v : Value) (w : Held) → IsOpOf s unit (ops.Put k v) → (t : Bool) → finite.contains_key m k ≡ t
+    put_edit : (k : Key) (v : Value) (w : Held) → IsKeptPair s unit k v → (t : Bool) → finite.contains_key m k ≡ t
         → (is : AreEffects unit rs (set_effects t (Pair k v)) (w ∷ [])) → IsEdit (pair_for s unit) rs (finite.get m) k (Some v) w
     put_edit k v w op true e are =
         let h = are.0.writes in
         let body : pair_for s unit w.body ≡ Some (k, v) = ap (pair_for s unit) h.2
-        ∙ pair_fits s unit k v (pair_body k v) op.of_unit (pair_back k v op.texts.0 op.texts.1) in
+        ∙ pair_fits s unit k v (pair_body k v) op.kept (pair_back k v op.key op.value) in
         replaced (pair_for s unit) rs (finite.get m) k w (Pair k v) h.1.named.0 v h.0 h.1
-        (pair_fits s unit k h.1.named.0 h.1.last.body op.of_unit h.1.named.1) body
+        (pair_fits s unit k h.1.named.0 h.1.last.body op.kept h.1.named.1) body
     put_edit k v w op false e are =
         let h = are.0.writes in
         let body : pair_for s unit w.body ≡ Some (k, v) = ap (pair_for s unit) h.2
-        ∙ pair_fits s unit k v (pair_body k v) op.of_unit (pair_back k v op.texts.0 op.texts.1) in
+        ∙ pair_fits s unit k v (pair_body k v) op.kept (pair_back k v op.key op.value) in
         inserted (pair_for s unit) rs (finite.get m) k w v h.0 h.1 body (is_some_not (finite.get m k) e)
 
-    put_lead : (k : Key) (v : Value) (ws : List Held) → IsOpOf s unit (ops.Put k v) → (t : Bool) → finite.contains_key m k ≡ t
+    put_lead : (k : Key) (v : Value) (ws : List Held) → IsKeptPair s unit k v → (t : Bool) → finite.contains_key m k ≡ t
         → AreEffects unit rs (set_effects t (Pair k v)) ws → HasPairs s unit (rs ++ ws) (finite.insert m k v)
     put_lead k v ws op t e are = by t e are
       where
@@ -67,20 +68,22 @@ module _ (s : Shape) (unit : ℕ) (rs : List Held) where
         by false e are = let b = one_zip (IsEffect unit rs) (Inserts (Pair k v)) ws are in
             one b.0 b.1 (put_edit k v b.0 op false e (b.2, tt))
 
-    del_lead : (k : Key) (ws : List Held) → unit_of_key s k ≡ Some unit → (o : Option Value)
+    del_lead : (k : Key) (ws : List Held) → keeps_key s unit k ≡ true → (o : Option Value)
         → AreEffects unit rs (map_del m k o).effects ws → HasThings s unit (rs ++ ws) (map_del m k o).state
-    del_lead k ws of_unit None are = unchanged ws are
-    del_lead k ws of_unit (Some v) are =
+    del_lead k ws kept None are = unchanged ws are
+    del_lead k ws kept (Some v) are =
         let b = one_zip (IsEffect unit rs) (Removes (Pair k v)) ws are in
         let h = b.2.writes in
         let edit = removed (pair_for s unit) rs (finite.get m) k b.0 (Pair k v) h.1.named.0 h.0 h.1
-        (pair_fits s unit k h.1.named.0 h.1.last.body of_unit h.1.named.1) in
+        (pair_fits s unit k h.1.named.0 h.1.last.body kept h.1.named.1) in
         subst (λ (zs : List Held). HasPairs s unit (rs ++ zs) (finite.remove m k)) (sym b.1)
         (edited k None (finite.remove m k) b.0 (remove_update nat_list_cmp_total texts_exact m k) edit)
 
     pub map_leads : (op : Op) (ws : List Held) → IsOpOf s unit op → AreEffects unit rs (map_step m op).effects ws
         → HasThings s unit (rs ++ ws) (map_step m op).state
-    map_leads (ops.Put k v) ws op are = put_lead k v ws op (finite.contains_key m k) refl are
-    map_leads (ops.Get k) ws op are = unchanged ws are
-    map_leads (ops.Del k) ws op are = del_lead k ws op.of_unit (finite.get m k) are
+    map_leads (ops.Put k v) ws op are = put_lead k v ws (kept_pair s unit k v (own_key s unit k op.of_unit) op.texts) (finite.contains_key m k) refl are
+    map_leads (ops.Del k) ws op are = del_lead k ws (own_key s unit k op.of_unit) (finite.get m k) are
+    map_leads (ops.OPut u k v) ws op are =
+        put_lead k v ws (kept_pair s unit k v (ordered_key s u unit k op.of_unit) op.texts) (finite.contains_key m k) refl are
+    map_leads (ops.ODel u k) ws op are = del_lead k ws (ordered_key s u unit k op.of_unit) (finite.get m k) are
     map_leads _ ws op are = unchanged ws are

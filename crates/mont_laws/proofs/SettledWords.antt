@@ -158,6 +158,7 @@ no_fault : (s : Shape) (unit : ℕ) (kind : UnitKind) → object_fault s unit ki
 no_fault s unit kinds.Map = refl
 no_fault s unit kinds.Queue = refl
 no_fault s unit kinds.Graph = refl
+no_fault s unit kinds.Ordered = refl
 
 no_entries : finite.entries (finite.empty {X = ℕ} {R = nat_cmp}) ≡ []
 no_entries = nil_from_length (finite.entries finite.empty) (sym (finite.len-entries finite.empty) ∙ finite.len-empty nat_cmp ℕ)
@@ -166,6 +167,7 @@ empty_structure : (kind : UnitKind) → empty_state kind ≡ structure_of kind [
 empty_structure kinds.Map = refl
 empty_structure kinds.Queue = ap QueueOf (sym (ap (map (λ (e : ℕ × ℕ). e.1)) no_entries))
 empty_structure kinds.Graph = refl
+empty_structure kinds.Ordered = refl
 
 module _ (s : Shape) (layout : IsLayout s) where
   size : length (empty_words s) ≡ words_of s

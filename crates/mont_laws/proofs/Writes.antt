@@ -16,7 +16,7 @@ use Rattle.mont_base.specs.declared.effect.Effect.TheVariants.{Inserts, Replaces
 use Rattle.mont_base.specs.Layout.{Shape}
 use Rattle.mont_base.specs.Versions.{newest_of}
 use Rattle.mont_base.specs.Bodies.{pair_in, pair_body, no_body}
-use Rattle.mont_base.specs.Structure.{is_in_unit}
+use Rattle.mont_base.specs.Structure.{keeps_key}
 use Rattle.mont_base.specs.State.{Key, Value, Pairs, set_effects, map_del, map_step}
 use Rattle.mont_laws.specs.Records.{live_of}
 use Rattle.mont_laws.specs.Shows.{live_things}
@@ -129,7 +129,7 @@ module _ (unit : ℕ) (rs : List Held) where
           live = h.1;
           named = (
             old,
-            (fitted (λ (p : Key × Value). is_in_unit s unit p.0) (pair_in h.0.body) (key, old) h.2).0,
+            (fitted (λ (p : Key × Value). keeps_key s unit p.0) (pair_in h.0.body) (key, old) h.2).0,
           );
         }
 
@@ -145,4 +145,6 @@ module _ (unit : ℕ) (rs : List Held) where
     pub map_can : (op : Op) → AllCanWrite (map_step m op).effects
     map_can (ops.Put key value) = put_can key value (finite.contains_key m key) refl
     map_can (ops.Del key) = del_can key (finite.get m key) refl
+    map_can (ops.OPut unit key value) = put_can key value (finite.contains_key m key) refl
+    map_can (ops.ODel unit key) = del_can key (finite.get m key) refl
     map_can _ = tt

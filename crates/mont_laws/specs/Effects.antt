@@ -107,6 +107,7 @@ AreEffectsInTurn unit records (e ∷ es) (w ∷ ws) =
 -- ---- operations
 abbrev pub CarriesTexts : Op → Type 0
 CarriesTexts (ops.Put key value) = IsText key × IsText value
+CarriesTexts (ops.OPut unit key value) = IsText key × IsText value
 CarriesTexts _ = Unit {0}
 
 -- an operation of a unit, whose key and value are texts

@@ -4,15 +4,14 @@ use Rattle.std.specs.List.{Contains}
 use Rattle.std.specs.Ordering.{nat_cmp}
 use Rattle.std.specs.FinMap as finite
 use Rattle.mont_base.specs.declared.kinds.UnitKind.{UnitKind}
-use Rattle.mont_base.specs.declared.kinds.UnitKind.TheVariants as kinds
 use Rattle.mont_base.specs.declared.operation.Entry.{Entry}
 use Rattle.mont_base.specs.declared.record.Held.{Held}
 use Rattle.mont_base.specs.Layout.{Shape, kind_of}
-use Rattle.mont_base.specs.State.{State, MapOf, QueueOf, GraphOf, Key, Value, Pairs, Ends, Graph, can_join, empty_state, size_of}
+use Rattle.mont_base.specs.State.{State, MapOf, QueueOf, GraphOf, Key, Value, Pairs, Ends, Graph, can_join, empty_state, is_kind_of, size_of}
 use Rattle.mont_base.specs.History.{state_after, cut_at}
 use Rattle.mont_base.specs.Versions.{live_objects}
 use Rattle.mont_base.specs.Bodies.{pair_in, item_in, vertex_in, edge_in, is_vertex_body}
-use Rattle.mont_base.specs.Structure.{is_in_unit, is_serial, IsStructure}
+use Rattle.mont_base.specs.Structure.{keeps_key, is_serial, IsStructure}
 use Rattle.mont_laws.specs.Records.{AreApart, AreSameRecords, IsObsolete, cut_records, without_slot}
 use Rattle.mont_laws.specs.Shows.{Shows, live_things}
 
@@ -20,9 +19,9 @@ abbrev pub if_fits : {A : Type 0} → (A → Bool) → Option A → Option A
 if_fits fits None = None
 if_fits fits (Some a) = if fits a then Some a else None
 
--- ---- maps: the key and the value of a body, where the key belongs to the unit
+-- ---- maps and ordered units: the key and the value of a body, where the unit keeps the key
 abbrev pub pair_for : Shape → ℕ → List ℕ → Option (Key × Value)
-pair_for s unit body = if_fits (λ (p : Key × Value). is_in_unit s unit p.0) (pair_in body)
+pair_for s unit body = if_fits (λ (p : Key × Value). keeps_key s unit p.0) (pair_in body)
 
 abbrev pub HasPairs : Shape → ℕ → List Held → Pairs → Type 0
 HasPairs s unit records pairs = Shows (live_things (pair_for s unit) records) (finite.get pairs)
@@ -72,11 +71,6 @@ pub record HasGraph (records : List Held) (g : Graph) : Type 0 where
   pub ends : HasEnds g
 
 -- ---- a unit's state
-abbrev pub kind_of_state : State → UnitKind
-kind_of_state (MapOf pairs) = kinds.Map
-kind_of_state (QueueOf items) = kinds.Queue
-kind_of_state (GraphOf graph) = kinds.Graph
-
 abbrev pub HasThings : Shape → ℕ → List Held → State → Type 0
 HasThings s unit records (MapOf pairs) = HasPairs s unit records pairs
 HasThings s unit records (QueueOf items) = HasItems records items
@@ -85,7 +79,7 @@ HasThings s unit records (GraphOf graph) = HasGraph records graph
 -- The state that the live records of a unit show, in whatever order they stand. There is one
 -- exactly where the live objects have no fault.
 pub record HasStructure (s : Shape) (unit : ℕ) (records : List Held) (state : State) : Type 0 where
-  pub of_unit : kind_of s unit ≡ Some (kind_of_state state)
+  pub of_unit : is_kind_of (kind_of s unit) state ≡ true
   pub things : HasThings s unit records state
 
 -- the records up to epoch x show the state to which the entries up to epoch x lead

@@ -1,6 +1,6 @@
 -- What a caller of a job has of a call, from what the store's call tells.
 use Rattle.std.proofs.Common.{◌≡◌, ℕ, ◌≤◌, List, [], ◌∷◌, ◌++◌, length, take, set, refl, sym, ap, ◌∙◌, subst, arith}
-use Rattle.std.specs.Prelude.{slice_get, slice_index, Some, Ok, Err, IfOk, IfErr}
+use Rattle.std.specs.Prelude.{slice_get, slice_index, Some, Ok, Err, IfOk, IfErr, OnErr}
 use Rattle.std.specs.declared.result.Result.{Result}
 use Rattle.std.proofs.lemmas.List.{append-nil, length-take}
 use Rattle.std.proofs.lemmas.Option.{same_Some}
@@ -15,7 +15,7 @@ use Rattle.core_steps.specs.Notes.{mark_of}
 use Rattle.core_steps.proofs.Rows.{row_here}
 use Rattle.heap_rule.specs.declared.views.UnitHeld.{UnitHeld}
 use Rattle.heap_rule.specs.Plays.{IsNotBeyond}
-use Rattle.heap_rule.specs.Views.{caller_answered, caller_heard, caller_cut, note_of_unit}
+use Rattle.heap_rule.specs.Views.{caller_answered, caller_heard, note_of_unit}
 use Rattle.heap_rule.proofs.SeenFronts.{fronts_same, fronts_answered, fronts_heard}
 use Rattle.heap.specs.HeapShown.{HeapShown, CallerShown}
 use Rattle.slots.specs.Books.{RegionShown}
@@ -25,7 +25,8 @@ use Rattle.caller.proofs.TakenNotes.{joined_has, or_left}
 use Rattle.job_worker.specs.Continuing.{GoesOn}
 use Rattle.job_worker.specs.Asking.{KeepsAnswers, HasContinued, WasFound, IsCutIn, HasLearntWhy}
 use Rattle.job_worker.proofs.Later.{keeps_same}
-use Rattle.montage.specs.StoreCalls.{HasLearntCause, ContinuesCaller, IsAnswered, IsRefused}
+use Rattle.montage.specs.Store.{IsWholePass}
+use Rattle.montage.specs.StoreCalls.{HasLearntCause, ContinuesCaller, IsAnswered, WasLeft, IsRefused}
 use Rattle.montage.proofs.NumbersAtEnd.{base_there}
 use Rattle.montage.proofs.UnitOps.{op_inside}
 
@@ -127,11 +128,10 @@ module _ (heap : HeapShown) (q r : CallerShown) (op : Op) (unit : ℕ) (named : 
   }
 
   -- the caller was cut
-  is_cut_in : (cut : ℕ) → cut ≡ unit → r ≡ record { table = q.table; held = caller_cut q.held unit }
-      → IsCutIn heap.opening q.held r.held op cut
+  is_cut_in : (cut : ℕ) → cut ≡ unit → WasLeft unit q r → IsCutIn heap.opening q.held r.held op cut
   is_cut_in cut here is =
       subst (λ (u : ℕ). IsCutIn heap.opening q.held r.held op u) (sym here)
-      (subst (λ (x : CallerShown). IsCutIn heap.opening q.held x.held op unit) (sym is) (record {
+      (subst (λ (x : CallerShown). IsCutIn heap.opening q.held x.held op unit) (sym is.caller) (record {
         goes_on = record {
           caller = refl;
           more = [];
@@ -144,7 +144,7 @@ module _ (heap : HeapShown) (q r : CallerShown) (op : Op) (unit : ℕ) (named : 
         of_unit = named;
         calls = refl;
         receipts = refl;
-        cuts = refl;
+        cuts = ap (λ (u : ℕ). q.held.part.cuts ++ u ∷ []) is.of_unit;
       }))
 
 pub has_learnt_why : (heap : HeapShown) (q r : CallerShown) (op : Op) (why : CallRefusal) → IsRefused heap q r op why
@@ -183,3 +183,32 @@ pub if_learnt_why : (heap : HeapShown) (q r : CallerShown) (op : Op) (answer : R
     → IfErr answer (λ why. HasLearntWhy heap.opening q.held r.held op why)
 if_learnt_why heap q r op (Ok receipt) k = tt
 if_learnt_why heap q r op (Err why) k = has_learnt_why heap q r op why k
+
+-- ---- a pass has all of its receipts still
+table_kept : (heap : HeapShown) (q r : CallerShown) (op : Op) (why : CallRefusal) → IsRefused heap q r op why → r.table ≡ q.table
+table_kept heap q r op (Halted unit by) k = k.learnt.1.table
+table_kept heap q r op (CountEnd which) k = k.learnt.0.table
+table_kept heap q r op Memory k = ap (λ (x : CallerShown). x.table) k.learnt
+table_kept heap q r op (Full need free clock) k = k.learnt.0.table
+table_kept heap q r op (Cut cut) k = ap (λ (x : CallerShown). x.table) k.learnt.1.caller
+
+receipts_kept : (heap : HeapShown) (q r : CallerShown) (op : Op) (why : CallRefusal) → IsRefused heap q r op why
+    → r.held.part.receipts ≡ q.held.part.receipts
+receipts_kept heap q r op (Halted unit by) k = k.learnt.1.receipts
+receipts_kept heap q r op (CountEnd which) k = k.learnt.0.receipts
+receipts_kept heap q r op Memory k = ap (λ (x : CallerShown). x.held.part.receipts) k.learnt
+receipts_kept heap q r op (Full need free clock) k = k.learnt.0.receipts
+receipts_kept heap q r op (Cut cut) k = ap (λ (x : CallerShown). x.held.part.receipts) k.learnt.1.caller
+
+pub stays_whole : (heap : HeapShown) (q r : CallerShown) (op : Op) (olds news : List Receipt) (answer : Result Receipt CallRefusal)
+    → IfOk answer (λ receipt. IsAnswered heap q r op receipt) → IfErr answer (λ why. IsRefused heap q r op why)
+    → IfOk answer (λ receipt. news ≡ olds ++ receipt ∷ []) → OnErr answer (news ≡ olds) → IsWholePass heap q olds
+    → IsWholePass heap r news
+stays_whole heap q r op olds news (Ok receipt) k refused more kept whole = record {
+  own = k.caller.table ∙ whole.own;
+  whole = more ∙ (ap (λ (rs : List Receipt). rs ++ receipt ∷ []) whole.whole ∙ sym k.caller.receipts);
+}
+stays_whole heap q r op olds news (Err why) answered k more kept whole = record {
+  own = table_kept heap q r op why k ∙ whole.own;
+  whole = kept ∙ (whole.whole ∙ sym (receipts_kept heap q r op why k));
+}

@@ -1,9 +1,9 @@
 -- What a caller has of a call, from what the call found and left of its unit.
-use Rattle.std.proofs.Common.{◌≡◌, ℕ, ◌+◌, List, [], ◌∷◌, ◌++◌, length, true, refl, sym, ap, ◌∙◌, subst, arith}
-use Rattle.std.specs.Prelude.{slice_index, slice_set, Some, Ok, Err, IfOk, IfErr}
+use Rattle.std.proofs.Common.{◌≡◌, ℕ, zero, suc, ◌+◌, ◌≤◌, List, [], ◌∷◌, ◌++◌, length, true, refl, sym, ap, ◌∙◌, subst, arith}
+use Rattle.std.specs.Prelude.{max, slice_get, slice_index, slice_set, Some, Ok, Err, IfOk, IfErr}
 use Rattle.std.specs.List.{AllZip}
 use Rattle.std.specs.declared.result.Result.{Result}
-use Rattle.std.proofs.lemmas.Option.{get_or_from_slice_get}
+use Rattle.std.proofs.lemmas.Option.{get_or_from_slice_get, same_Some}
 use Rattle.std.proofs.lemmas.Slice.Zip.{AllZip-long}
 use Rattle.mont_base.specs.declared.operation.Op.{Op}
 use Rattle.mont_base.specs.declared.operation.Receipt.{Receipt}
@@ -24,9 +24,12 @@ use Rattle.mont_laws.proofs.Shown.{one_state}
 use Rattle.job_text.specs.Causes.{effects_then}
 use Rattle.core_steps.specs.declared.parts.Mark.{Mark}
 use Rattle.core_steps.specs.CallerClauses.{view_of}
-use Rattle.core_steps.specs.Notes.{mark_of}
+use Rattle.core_steps.specs.Notes.{greater_fronts, mark_of}
 use Rattle.core_steps.specs.Opened.{opened_at}
 use Rattle.core_steps.specs.Sound.{base_state}
+use Rattle.heap_rule.specs.Plays.{IsNotBeyond}
+use Rattle.heap_rule.specs.SeenEntries.{AreFronts}
+use Rattle.heap_rule.proofs.SeenFronts.{fronts_heard}
 use Rattle.heap.specs.HeapShown.{HeapShown, CallerShown}
 use Rattle.slots.specs.Books.{RegionShown}
 use Rattle.op_guard.specs.Guarding.{HasNoted, IsFull}
@@ -38,7 +41,7 @@ use Rattle.structure_call.specs.Standing.{IsStanding, ShowsHistory}
 use Rattle.structure_call.proofs.Counted.{numbers_end}
 use Rattle.structure_call.proofs.SoundHistories.{sound_shows, shows_before}
 use Rattle.caller.specs.Telling.{has_mark}
-use Rattle.caller.proofs.TakenNotes.{joined_has, or_right}
+use Rattle.caller.proofs.TakenNotes.{joined_has, or_left, or_right}
 use Rattle.montage.specs.StoreCalls.{RepliesBehind, ContinuesCaller, IsAnswered, KeepsCaller, NeedsRoom, NeedsNumber, TellsWhy, IsRefused}
 use Rattle.montage.specs.UnitAt.{IsSeated}
 use Rattle.montage.proofs.NumbersAtEnd.{number_at_end}
@@ -105,7 +108,17 @@ module _ (heap : HeapShown) (before behind : RegionShown) (q r : CallerShown) (o
   }
 
 -- ---- a refusal
-module _ (new : RegionShown) (q r : CallerShown) (noted : HasNoted new q r) where
+-- no front is lower behind a note
+fronts_rise : (ns ms : List ℕ) (unit n m : ℕ) → slice_get ns unit ≡ Some n → slice_get (greater_fronts ns ms) unit ≡ Some m → n ≤ m
+fronts_rise [] ms unit n m e f = absurd (cc)
+fronts_rise (x ∷ xs) [] unit n m e f = let same = same_Some n m (sym e ∙ f) in omega arith
+fronts_rise (x ∷ xs) (y ∷ ys) zero n m e f =
+    let old = same_Some x n e in
+    let new = same_Some (max x y) m f in
+    omega arith
+fronts_rise (x ∷ xs) (y ∷ ys) (suc unit) n m e f = fronts_rise xs ys unit n m e f
+
+module _ (new : RegionShown) (q r : CallerShown) (seen : IsNotBeyond q.held new.seat.held) (noted : HasNoted new q r) where
   keeps_caller : KeepsCaller q r
   keeps_caller = record {
     table = ap (λ (x : CallerShown). x.table) noted;
@@ -114,6 +127,13 @@ module _ (new : RegionShown) (q r : CallerShown) (noted : HasNoted new q r) wher
     receipts = ap (λ (x : CallerShown). x.held.part.receipts) noted;
     synced = ap (λ (x : CallerShown). x.held.part.synced) noted;
     cuts = ap (λ (x : CallerShown). x.held.part.cuts) noted;
+    within = ap (λ (x : CallerShown). x.held.within) noted;
+    fronts = λ unit n m e f. fronts_rise q.held.part.fronts _ unit n m e
+        (ap (λ (x : CallerShown). slice_get x.held.part.fronts unit) (sym noted) ∙ f);
+    entries = subst (λ (x : CallerShown). AreFronts x.held.entries q.held.entries) (sym noted)
+        (fronts_heard q.held new.seat.held seen (length q.held.part.fronts));
+    marks = λ m has. subst (λ (x : CallerShown). has_mark x.held.part.marks m ≡ true) (sym noted)
+        (joined_has q.held.part.marks (mark_of new.seat.held.unit new.seat.held.part.frozen) m (or_left (has_mark q.held.part.marks m) _ has));
     newest = let now = ap (λ (x : CallerShown). x.held.part.newest) noted in omega (arith, now);
     durable = let now = ap (λ (x : CallerShown). x.held.part.durable) noted in omega (arith, now);
   }
@@ -192,15 +212,17 @@ module _ (heap : HeapShown) (before behind : RegionShown) (q r : CallerShown) (o
             ∙ sym (full.room states recovered)
 
     pub tells_why : (why : CallRefusal) → LeavesCall heap before behind q r op why → TellsWhy heap before.books.unit q r op why
-    tells_why (Halted unit by) k = (k.0, keeps_caller before q r k.2.noted, marked by k.1 k.2)
-    tells_why (CountEnd which) k = (keeps_caller before q r k.ends.1.noted, needs_number which k)
+    tells_why (Halted unit by) k = (k.0, keeps_caller before q r k.2.seen k.2.noted, marked by k.1 k.2)
+    tells_why (CountEnd which) k = (keeps_caller before q r k.ends.1.seen k.ends.1.noted, needs_number which k)
     tells_why Memory k = k.1
     tells_why (Full need free clock) k =
         let full = k.leaves.1 in
         let now = ap (λ (x : CallerShown). x.held.part.durable) full.noted in
         let loaded = full.reclaimed.clock_is in
-        (keeps_caller behind q r full.noted, needs_room need free clock k, omega (arith, now, loaded))
-    tells_why (Cut unit) k = (k.leaves.0, k.leaves.1.caller)
+        (keeps_caller behind q r full.seen full.noted, needs_room need free clock k, omega (arith, now, loaded))
+    tells_why (Cut unit) k =
+        let halted = k.leaves.1 in
+        (k.leaves.0, record { shown = behind.seat.held; of_unit = sym halted.agrees.0 ∙ halted.of_unit; caller = halted.caller })
 
 -- ---- what a call answers
 module _ (heap : HeapShown) (number : ℕ) (before behind : RegionShown) (q r : CallerShown) (op : Op)

@@ -6,6 +6,7 @@ use Rattle.std.proofs.lemmas.Bool.{false≢true}
 use Rattle.std.proofs.lemmas.List.{length-replicate}
 use Rattle.std.proofs.lemmas.List.Elements.{All-nil, All-push, All-head, All-tail, All-cons, All-weaker}
 use Rattle.mont_base.specs.declared.constants.TheConstants.{FIRST_CLOCK}
+use Rattle.mont_base.specs.declared.operation.Receipt.{Receipt}
 use Rattle.mont_base.specs.declared.record.Held.{Held}
 use Rattle.mont_base.specs.Image.{clock_of, empty_states, records_of, IsRecovered}
 use Rattle.mont_base.specs.State.{State}
@@ -33,7 +34,7 @@ use Rattle.structure_call.proofs.Counted.{fresh_are_counted}
 use Rattle.job_run.specs.Run.{IsFresh}
 use Rattle.montage.specs.FreshStore.{IsFirstSeat, AreFirstSeats, AreUnitsFrom, IsFreshHeap, IsNeverUsed}
 use Rattle.montage.specs.declared.unit_at.Structure.{Structure}
-use Rattle.montage.specs.Store.{AreAllCallers}
+use Rattle.montage.specs.Store.{AreAllCallers, IsWholePass}
 use Rattle.montage.specs.UnitAt.{region_of, IsSeated, StandsAt, FitsNumber}
 use Rattle.montage.proofs.UnitStands.{seated_by}
 use Rattle.store_stop.specs.Headline.{IsBaseOf}
@@ -90,7 +91,7 @@ dealt_are_first heap (suc n) =
     (record { own = refl; unanswered = record { calls = refl; receipts = refl } }, refl)
 
 -- and the passes that show them
-module _ {P : Type 0} (heap : HeapShown) (ticket : P → CallerShown) where
+module _ {P : Type 0} (heap : HeapShown) (ticket : P → CallerShown) (receipts : P → List Receipt) where
   shown_by : (Q : P → Type 0) → ((p : P) → IsFirstTicket heap (ticket p) → Q p) → (ps : List P)
       → All (IsFirstTicket heap) (map ticket ps) → All Q ps
   shown_by Q shows [] k = All-nil Q
@@ -98,11 +99,24 @@ module _ {P : Type 0} (heap : HeapShown) (ticket : P → CallerShown) where
       All-cons Q p ps (shows p (All-head (IsFirstTicket heap) (ticket p) (map ticket ps) k))
       (shown_by Q shows ps (All-tail (IsFirstTicket heap) (ticket p) (map ticket ps) k))
 
-  pub fresh_passes : (ps : List P) → All (IsFirstTicket heap) (map ticket ps)
-      → All (IsFresh (λ (p : P). (ticket p).table ≡ heap.table) (λ (p : P). (ticket p).held)) ps
-  fresh_passes =
-      shown_by (IsFresh (λ (p : P). (ticket p).table ≡ heap.table) (λ (p : P). (ticket p).held))
-      (λ p first. record { own = first.0.own; unanswered = first.0.unanswered })
+  abbrev IsFirstPass : P → Type 0
+  IsFirstPass = IsFresh (λ (p : P). IsWholePass heap (ticket p) (receipts p)) (λ (p : P). (ticket p).held)
+
+  -- a pass without receipts has all of a ticket that was answered nothing
+  pub fresh_passes : (ps : List P) → All (IsFirstTicket heap) (map ticket ps) → All (λ (p : P). receipts p ≡ []) ps → All IsFirstPass ps
+  fresh_passes [] first empty = All-nil IsFirstPass
+  fresh_passes (p ∷ ps) first empty =
+      let one = All-head (IsFirstTicket heap) (ticket p) (map ticket ps) first in
+      All-cons IsFirstPass p ps
+      (record {
+        own = record {
+          own = one.0.own;
+          whole = All-head (λ (q : P). receipts q ≡ []) p ps empty ∙ sym one.0.unanswered.receipts;
+        };
+        unanswered = one.0.unanswered;
+      })
+      (fresh_passes ps (All-tail (IsFirstTicket heap) (ticket p) (map ticket ps) first)
+      (All-tail (λ (q : P). receipts q ≡ []) p ps empty))
 
   pub uncut_passes : (ps : List P) → All (IsFirstTicket heap) (map ticket ps)
       → All (λ (p : P). (ticket p).held.part.cuts ≡ []) ps
@@ -150,11 +164,6 @@ module _ (heap : HeapShown) (units : List UnitShown) (advancer : AdvShown) (call
 
   pub tickets_are_first : All (IsFirstTicket heap) callers
   tickets_are_first = subst (All (IsFirstTicket heap)) (sym opens.each_caller) (dealt_are_first heap heap.opening.callers)
-
-  pub none_answered : All (λ (t : CallerShown). t.held.part.receipts ≡ []) callers
-  none_answered =
-      All-weaker (IsFirstTicket heap) (λ (t : CallerShown). t.held.part.receipts ≡ []) (λ t first. first.0.unanswered.receipts) callers
-      tickets_are_first
 
   pub as_many_callers : length callers ≡ heap.opening.callers
   as_many_callers = (opened_are_all heap.opening heap units advancer callers opens).caller_count

@@ -12,3 +12,4 @@ mod KeptBases
 mod UnitOps
 mod Passed
 mod StructuresOpened
+mod Served

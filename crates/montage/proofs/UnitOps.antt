@@ -2,12 +2,14 @@
 use Rattle.std.proofs.Common.{◌≡◌, ℕ, zero, suc, ◌+◌, ◌<◌, Bool, true, false, List, [], ◌∷◌, length, refl, ap, subst, arith}
 use Rattle.std.specs.Prelude.{Option, Some, None, slice_get, if◌then◌else◌}
 use Rattle.std.proofs.lemmas.Option.{same_Some, slice_get_within}
+use Rattle.mont_base.specs.declared.operation.Aim.{Aim}
+use Rattle.mont_base.specs.declared.operation.Aim.TheVariants as aims
 use Rattle.mont_base.specs.declared.operation.Op.{Op}
 use Rattle.mont_base.specs.declared.kinds.UnitKind.{UnitKind}
 use Rattle.mont_base.specs.declared.kinds.UnitKind.TheVariants as kinds
 use Rattle.mont_base.specs.declared.operation.Op.TheVariants as ops
 use Rattle.mont_base.specs.Layout.{Shape, units_of, kind_of, same_kind, units_from, map_units, key_number, is_of_kind, named_if, unit_of_key, unit_named}
-use Rattle.mont_base.specs.State.{Key, Value, unit_of_op}
+use Rattle.mont_base.specs.State.{Key, Value, aim_of, unit_aimed, unit_of_op}
 use Rattle.mont_base.specs.Texts.{IsText}
 use Rattle.mont_laws.specs.Effects.{IsOpOf}
 
@@ -87,16 +89,10 @@ key_within : (s : Shape) (key : Key) (unit : ℕ) → unit_of_key s key ≡ Some
 key_within s key unit e =
     let low = units_within 0 kinds.Map s.kinds (key_number (length (map_units s)) key) unit e in omega (arith, low)
 
+aimed_inside : (s : Shape) (unit : ℕ) (aim : Aim) → unit_aimed s aim ≡ Some unit → unit < units_of s
+aimed_inside s unit (aims.Key key) e = key_within s key unit e
+aimed_inside s unit (aims.Unit kind named) e = named_within s kind named unit (kind_of s named) refl e
+aimed_inside s unit aims.Nowhere e = absurd (cc)
+
 pub op_inside : (s : Shape) (unit : ℕ) (op : Op) → unit_of_op s op ≡ Some unit → unit < units_of s
-op_inside s unit (ops.Put key value) e = key_within s key unit e
-op_inside s unit (ops.Get key) e = key_within s key unit e
-op_inside s unit (ops.Del key) e = key_within s key unit e
-op_inside s unit (ops.Enq named item) e = named_within s kinds.Queue named unit (kind_of s named) refl e
-op_inside s unit (ops.Deq named) e = named_within s kinds.Queue named unit (kind_of s named) refl e
-op_inside s unit (ops.Len named) e = named_within s kinds.Queue named unit (kind_of s named) refl e
-op_inside s unit (ops.AddV named vertex attribute) e = named_within s kinds.Graph named unit (kind_of s named) refl e
-op_inside s unit (ops.DelV named vertex) e = named_within s kinds.Graph named unit (kind_of s named) refl e
-op_inside s unit (ops.AddE named from to attribute) e = named_within s kinds.Graph named unit (kind_of s named) refl e
-op_inside s unit (ops.DelE named from to) e = named_within s kinds.Graph named unit (kind_of s named) refl e
-op_inside s unit (ops.Vertex named vertex) e = named_within s kinds.Graph named unit (kind_of s named) refl e
-op_inside s unit (ops.Degree named vertex) e = named_within s kinds.Graph named unit (kind_of s named) refl e
+op_inside s unit op e = aimed_inside s unit (aim_of op) e

@@ -1,6 +1,9 @@
 -- A heap that was never used, with all its seats, and the structures of its units.
-use Rattle.std.specs.Prelude.{◌≡◌, ℕ, ◌<◌, ◌≤◌, suc, List, [], ◌∷◌, length, Box}
-use Rattle.mont_base.specs.Layout.{Shape, units_of}
+use Rattle.std.specs.Prelude.{◌≡◌, ℕ, ◌<◌, ◌≤◌, suc, Bool, not, List, [], ◌∷◌, length, Box}
+use Rattle.std.specs.List.{list_all}
+use Rattle.mont_base.specs.declared.kinds.UnitKind.{UnitKind}
+use Rattle.mont_base.specs.declared.kinds.UnitKind.TheVariants as kinds
+use Rattle.mont_base.specs.Layout.{Shape, same_kind, units_of}
 use Rattle.core_steps.specs.Places.{EachAt}
 use Rattle.heap_rule.specs.Views.{first_unit}
 use Rattle.heap.specs.FreshOpening.{fresh_opening}
@@ -8,6 +11,13 @@ use Rattle.heap.specs.HeapShown.{HeapShown, UnitShown, AdvShown, CallerShown}
 use Rattle.heap.specs.Opens.{Opens}
 use Rattle.montage.specs.declared.unit_at.Structure.{Structure}
 use Rattle.montage.specs.UnitAt.{StandsAt}
+
+-- the kinds of units that a store serves
+abbrev pub is_served : UnitKind → Bool
+is_served kind = not (same_kind kind kinds.Ordered)
+
+abbrev pub serves_all : Shape → Bool
+serves_all s = list_all is_served s.kinds
 
 -- it was opened as a fresh one, and no step was made since
 pub record IsFreshHeap

@@ -15,10 +15,13 @@ use Rattle.mont_base.specs.Seen.{ContinuesView}
 use Rattle.mont_base.specs.State.{State, step, unit_of_op}
 use Rattle.job_text.specs.AnsweredLines.{records_in}
 use Rattle.job_text.specs.Causes.{effects_then, IsAtEnd, LacksRoom}
+use Rattle.core_steps.specs.declared.parts.Mark.{Mark}
 use Rattle.core_steps.specs.Answering.{entry_of}
 use Rattle.core_steps.specs.CallerClauses.{view_of}
 use Rattle.core_steps.specs.Opened.{opened_at}
 use Rattle.core_steps.specs.Sound.{base_state}
+use Rattle.heap_rule.specs.declared.views.UnitHeld.{UnitHeld}
+use Rattle.heap_rule.specs.SeenEntries.{AreFronts}
 use Rattle.heap_rule.specs.Views.{caller_cut}
 use Rattle.heap.specs.HeapShown.{HeapShown, CallerShown}
 use Rattle.slots.specs.Books.{RegionShown}
@@ -73,7 +76,7 @@ pub record IsAnswered
 
 -- ---- refused: what the caller has of it
 -- No answer is lost, nothing that was seen is forgotten, and nothing more is known to be durable
--- than the caller has seen.
+-- than the caller has seen. Of each unit it has seen the entries that it had, and maybe more.
 pub record KeepsCaller (q r : CallerShown) : Type 0 where
   pub table : r.table ≡ q.table
   pub caller : r.held.caller ≡ q.held.caller
@@ -81,8 +84,15 @@ pub record KeepsCaller (q r : CallerShown) : Type 0 where
   pub receipts : r.held.part.receipts ≡ q.held.part.receipts
   pub synced : r.held.part.synced ≡ q.held.part.synced
   pub cuts : r.held.part.cuts ≡ q.held.part.cuts
+  pub within : r.held.within ≡ q.held.within
+  pub fronts :
+      (unit n m : ℕ) → slice_get q.held.part.fronts unit ≡ Some n
+      → slice_get r.held.part.fronts unit ≡ Some m → n ≤ m
+  pub entries : AreFronts r.held.entries q.held.entries
   pub newest : q.held.part.newest ≤ r.held.part.newest
   pub durable : q.held.part.durable ≤ r.held.part.durable
+  pub marks : (m : Mark) → has_mark q.held.part.marks m ≡ true
+      → has_mark r.held.part.marks m ≡ true
 
 -- A cause held of what the unit held when the store was opened and of its entries, all of which
 -- the caller has now seen.
@@ -107,6 +117,13 @@ NeedsNumber heap unit q r op which =
     HasLearntCause heap unit r
     (IsAtEnd (records_in (opened_records heap.opening) unit) q.held.part.calls which op)
 
+-- The caller was cut in the unit, which its seat shows so, and learnt nothing. Where the unit is
+-- left within an epoch, the caller keeps which.
+pub record WasLeft (unit : ℕ) (q r : CallerShown) : Type 0 where
+  pub shown : UnitHeld
+  pub of_unit : shown.unit ≡ unit
+  pub caller : r ≡ record { table = q.table; held = caller_cut q.held shown }
+
 -- what a refusal of an operation of the unit tells
 abbrev pub TellsWhy :
     HeapShown → ℕ → CallerShown → CallerShown → Op → CallRefusal → Type 0
@@ -119,7 +136,7 @@ TellsWhy heap unit q r op Memory = r ≡ q
 TellsWhy heap unit q r op (Full need free clock) =
     KeepsCaller q r × NeedsRoom heap unit r op need free clock × (clock ≤ r.held.part.durable)
 TellsWhy heap unit q r op (Cut cut) =
-    (cut ≡ unit) × (r ≡ record { table = q.table; held = caller_cut q.held unit })
+    (cut ≡ unit) × WasLeft unit q r
 
 -- and what the unit was before and behind it
 pub record IsRefused

@@ -2,6 +2,7 @@
 ghost use Rattle.std.specs.Prelude.{◌≡◌};
 ghost use Rattle.mont_laws.specs.Effects.{CarriesTexts, IsOpOf};
 ghost use Rattle.job_worker.specs.Asking.{HasUnit};
+ghost use Rattle.montage.specs.Store.{IsWholePass};
 
 use crate::store::Store;
 use advance::AdvanceRefusal;
@@ -15,7 +16,7 @@ use std::sync::Wait;
 impl<N: HeapName, I: Index, G: Gate> Asks<Pass<G>> for Store<N, I> {
     ghost opening = { λ s. s.opening };
 
-    ghost has = { λ s p. p.ticket.table ≡ s.table };
+    ghost has = { λ s p. IsWholePass s p.ticket p.receipts.items };
 
     ghost held = { λ p. p.ticket.held };
 
@@ -58,7 +59,7 @@ fn show_texts(op: &Op)
     ensures { CarriesTexts op.now }
 {
     match op {
-        Op::Put { key, value } => {
+        Op::Put { key, value } | Op::OPut { key, value, .. } => {
             let _key = key.len();
             let _value = value.len();
         }

@@ -1,5 +1,5 @@
 // Calls of graph units.
-ghost use Rattle.std.specs.Prelude.{◌≡◌, Some, IfOk, IfErr};
+ghost use Rattle.std.specs.Prelude.{◌≡◌, Some, IfOk, IfErr, [], ◌∷◌, ◌++◌, OnErr};
 ghost use Rattle.mont_base.specs.declared.kinds.UnitKind.TheVariants as kinds;
 ghost use Rattle.mont_base.specs.declared.operation.Op.TheVariants as ops;
 ghost use Rattle.mont_base.specs.Layout.{kind_of};
@@ -29,6 +29,9 @@ impl<N: HeapName, I: Index> Store<N, I> {
         ensures gate { IsAskedOften G.cuts G.endless pass.old.gate pass.new.gate (was_cut result) }
         ensures answered { IfOk result (λ receipt. IsAnswered N.heap pass.old.ticket
             pass.new.ticket (ops.AddV unit vertex attr) receipt) }
+        ensures receipts { IfOk result (λ receipt. pass.new.receipts.items
+            ≡ pass.old.receipts.items ++ receipt ∷ []) }
+        ensures kept { OnErr result (pass.new.receipts.items ≡ pass.old.receipts.items) }
         ensures refused { IfErr result (λ why. IsRefused N.heap pass.old.ticket
             pass.new.ticket (ops.AddV unit vertex attr) why) }
     {
@@ -50,6 +53,9 @@ impl<N: HeapName, I: Index> Store<N, I> {
         ensures gate { IsAskedOften G.cuts G.endless pass.old.gate pass.new.gate (was_cut result) }
         ensures answered { IfOk result (λ receipt. IsAnswered N.heap pass.old.ticket
             pass.new.ticket (ops.DelV unit vertex) receipt) }
+        ensures receipts { IfOk result (λ receipt. pass.new.receipts.items
+            ≡ pass.old.receipts.items ++ receipt ∷ []) }
+        ensures kept { OnErr result (pass.new.receipts.items ≡ pass.old.receipts.items) }
         ensures refused { IfErr result (λ why. IsRefused N.heap pass.old.ticket
             pass.new.ticket (ops.DelV unit vertex) why) }
     {
@@ -71,6 +77,9 @@ impl<N: HeapName, I: Index> Store<N, I> {
         ensures gate { IsAskedOften G.cuts G.endless pass.old.gate pass.new.gate (was_cut result) }
         ensures answered { IfOk result (λ receipt. IsAnswered N.heap pass.old.ticket
             pass.new.ticket (ops.Vertex unit vertex) receipt) }
+        ensures receipts { IfOk result (λ receipt. pass.new.receipts.items
+            ≡ pass.old.receipts.items ++ receipt ∷ []) }
+        ensures kept { OnErr result (pass.new.receipts.items ≡ pass.old.receipts.items) }
         ensures refused { IfErr result (λ why. IsRefused N.heap pass.old.ticket
             pass.new.ticket (ops.Vertex unit vertex) why) }
     {
@@ -92,6 +101,9 @@ impl<N: HeapName, I: Index> Store<N, I> {
         ensures gate { IsAskedOften G.cuts G.endless pass.old.gate pass.new.gate (was_cut result) }
         ensures answered { IfOk result (λ receipt. IsAnswered N.heap pass.old.ticket
             pass.new.ticket (ops.Degree unit vertex) receipt) }
+        ensures receipts { IfOk result (λ receipt. pass.new.receipts.items
+            ≡ pass.old.receipts.items ++ receipt ∷ []) }
+        ensures kept { OnErr result (pass.new.receipts.items ≡ pass.old.receipts.items) }
         ensures refused { IfErr result (λ why. IsRefused N.heap pass.old.ticket
             pass.new.ticket (ops.Degree unit vertex) why) }
     {
@@ -115,6 +127,9 @@ impl<N: HeapName, I: Index> Store<N, I> {
         ensures gate { IsAskedOften G.cuts G.endless pass.old.gate pass.new.gate (was_cut result) }
         ensures answered { IfOk result (λ receipt. IsAnswered N.heap pass.old.ticket
             pass.new.ticket (ops.AddE unit from to attr) receipt) }
+        ensures receipts { IfOk result (λ receipt. pass.new.receipts.items
+            ≡ pass.old.receipts.items ++ receipt ∷ []) }
+        ensures kept { OnErr result (pass.new.receipts.items ≡ pass.old.receipts.items) }
         ensures refused { IfErr result (λ why. IsRefused N.heap pass.old.ticket
             pass.new.ticket (ops.AddE unit from to attr) why) }
     {
@@ -142,6 +157,9 @@ impl<N: HeapName, I: Index> Store<N, I> {
         ensures gate { IsAskedOften G.cuts G.endless pass.old.gate pass.new.gate (was_cut result) }
         ensures answered { IfOk result (λ receipt. IsAnswered N.heap pass.old.ticket
             pass.new.ticket (ops.DelE unit from to) receipt) }
+        ensures receipts { IfOk result (λ receipt. pass.new.receipts.items
+            ≡ pass.old.receipts.items ++ receipt ∷ []) }
+        ensures kept { OnErr result (pass.new.receipts.items ≡ pass.old.receipts.items) }
         ensures refused { IfErr result (λ why. IsRefused N.heap pass.old.ticket
             pass.new.ticket (ops.DelE unit from to) why) }
     {

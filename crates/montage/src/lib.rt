@@ -21,3 +21,4 @@ pub use job_run::Ran;
 pub use open_refusal::OpenRefusal;
 pub use running::run;
 pub use store::Store;
+pub use store_opening::serves_all;

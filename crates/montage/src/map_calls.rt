@@ -1,5 +1,5 @@
 // Calls of map units. The key tells which unit is called.
-ghost use Rattle.std.specs.Prelude.{◌≡◌, ◌<◌, length, Some, IfOk, IfErr};
+ghost use Rattle.std.specs.Prelude.{◌≡◌, ◌<◌, length, Some, IfOk, IfErr, [], ◌∷◌, ◌++◌, OnErr};
 ghost use Rattle.mont_base.specs.declared.operation.Op.TheVariants as ops;
 ghost use Rattle.mont_base.specs.Layout.{map_units, unit_of_key};
 ghost use Rattle.mont_base.specs.Texts.{IsText};
@@ -28,6 +28,9 @@ impl<N: HeapName, I: Index> Store<N, I> {
         ensures gate { IsAskedOften G.cuts G.endless pass.old.gate pass.new.gate (was_cut result) }
         ensures answered { IfOk result (λ receipt. IsAnswered N.heap pass.old.ticket
             pass.new.ticket (ops.Put key value) receipt) }
+        ensures receipts { IfOk result (λ receipt. pass.new.receipts.items
+            ≡ pass.old.receipts.items ++ receipt ∷ []) }
+        ensures kept { OnErr result (pass.new.receipts.items ≡ pass.old.receipts.items) }
         ensures refused { IfErr result (λ why. IsRefused N.heap pass.old.ticket
             pass.new.ticket (ops.Put key value) why) }
     {
@@ -49,6 +52,9 @@ impl<N: HeapName, I: Index> Store<N, I> {
         ensures gate { IsAskedOften G.cuts G.endless pass.old.gate pass.new.gate (was_cut result) }
         ensures answered { IfOk result (λ receipt. IsAnswered N.heap pass.old.ticket
             pass.new.ticket (ops.Get key) receipt) }
+        ensures receipts { IfOk result (λ receipt. pass.new.receipts.items
+            ≡ pass.old.receipts.items ++ receipt ∷ []) }
+        ensures kept { OnErr result (pass.new.receipts.items ≡ pass.old.receipts.items) }
         ensures refused { IfErr result (λ why. IsRefused N.heap pass.old.ticket
             pass.new.ticket (ops.Get key) why) }
     {
@@ -69,6 +75,9 @@ impl<N: HeapName, I: Index> Store<N, I> {
         ensures gate { IsAskedOften G.cuts G.endless pass.old.gate pass.new.gate (was_cut result) }
         ensures answered { IfOk result (λ receipt. IsAnswered N.heap pass.old.ticket
             pass.new.ticket (ops.Del key) receipt) }
+        ensures receipts { IfOk result (λ receipt. pass.new.receipts.items
+            ≡ pass.old.receipts.items ++ receipt ∷ []) }
+        ensures kept { OnErr result (pass.new.receipts.items ≡ pass.old.receipts.items) }
         ensures refused { IfErr result (λ why. IsRefused N.heap pass.old.ticket
             pass.new.ticket (ops.Del key) why) }
     {

@@ -1,5 +1,5 @@
 // Calls of queue units.
-ghost use Rattle.std.specs.Prelude.{◌≡◌, Some, IfOk, IfErr};
+ghost use Rattle.std.specs.Prelude.{◌≡◌, Some, IfOk, IfErr, [], ◌∷◌, ◌++◌, OnErr};
 ghost use Rattle.mont_base.specs.declared.kinds.UnitKind.TheVariants as kinds;
 ghost use Rattle.mont_base.specs.declared.operation.Op.TheVariants as ops;
 ghost use Rattle.mont_base.specs.Layout.{kind_of};
@@ -28,6 +28,9 @@ impl<N: HeapName, I: Index> Store<N, I> {
         ensures gate { IsAskedOften G.cuts G.endless pass.old.gate pass.new.gate (was_cut result) }
         ensures answered { IfOk result (λ receipt. IsAnswered N.heap pass.old.ticket
             pass.new.ticket (ops.Enq unit item) receipt) }
+        ensures receipts { IfOk result (λ receipt. pass.new.receipts.items
+            ≡ pass.old.receipts.items ++ receipt ∷ []) }
+        ensures kept { OnErr result (pass.new.receipts.items ≡ pass.old.receipts.items) }
         ensures refused { IfErr result (λ why. IsRefused N.heap pass.old.ticket
             pass.new.ticket (ops.Enq unit item) why) }
     {
@@ -48,6 +51,9 @@ impl<N: HeapName, I: Index> Store<N, I> {
         ensures gate { IsAskedOften G.cuts G.endless pass.old.gate pass.new.gate (was_cut result) }
         ensures answered { IfOk result (λ receipt. IsAnswered N.heap pass.old.ticket
             pass.new.ticket (ops.Deq unit) receipt) }
+        ensures receipts { IfOk result (λ receipt. pass.new.receipts.items
+            ≡ pass.old.receipts.items ++ receipt ∷ []) }
+        ensures kept { OnErr result (pass.new.receipts.items ≡ pass.old.receipts.items) }
         ensures refused { IfErr result (λ why. IsRefused N.heap pass.old.ticket
             pass.new.ticket (ops.Deq unit) why) }
     {
@@ -68,6 +74,9 @@ impl<N: HeapName, I: Index> Store<N, I> {
         ensures gate { IsAskedOften G.cuts G.endless pass.old.gate pass.new.gate (was_cut result) }
         ensures answered { IfOk result (λ receipt. IsAnswered N.heap pass.old.ticket
             pass.new.ticket (ops.Len unit) receipt) }
+        ensures receipts { IfOk result (λ receipt. pass.new.receipts.items
+            ≡ pass.old.receipts.items ++ receipt ∷ []) }
+        ensures kept { OnErr result (pass.new.receipts.items ≡ pass.old.receipts.items) }
         ensures refused { IfErr result (λ why. IsRefused N.heap pass.old.ticket
             pass.new.ticket (ops.Len unit) why) }
     {

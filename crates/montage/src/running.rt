@@ -1,11 +1,12 @@
 // A job is run on a store.
 ghost use Rattle.std.specs.Prelude.{◌≡◌, Bool, List, Option, Some, All, map, IfOk, OnErr};
 ghost use Rattle.heap.specs.GateAsked.{IsAskedOften};
+ghost use Rattle.heap_pass.specs.Kept.{IsWhole};
 ghost use Rattle.job_text.specs.declared.job.Line.{Line as LineModel};
 ghost use Rattle.job_text.specs.declared.outcome.Outcome.{Outcome as OutcomeModel};
 ghost use Rattle.job_worker.specs.Ending.{MayBeAsked};
 ghost use Rattle.job_run.specs.Run.{IsFresh, AreWorked};
-ghost use Rattle.montage.specs.Store.{AreAllCallers};
+ghost use Rattle.montage.specs.Store.{AreAllCallers, IsWholePass};
 
 use crate::store::Store;
 use heap_pass::{HeapName, Pass};
@@ -30,20 +31,21 @@ pub fn run<R: Threads + Wait + Sync, N: HeapName + Send, I: Index + Send, G: Gat
     passes: &mut Vec<Pass<G>>,
     gate: &mut G,
 ) -> Result<Ran, AllocError>
-    requires passes { All (IsFresh (λ p. p.ticket.table ≡ N.heap.table) (λ p. p.ticket.held))
-        passes.old.items }
+    requires passes { All (IsFresh (λ p. IsWholePass N.heap p.ticket p.receipts.items)
+        (λ p. p.ticket.held)) passes.old.items }
     requires lines { All (λ (l : LineModel). MayBeAsked N.heap.opening.layout l.deed)
         job.now.lines }
     ensures callers { AreAllCallers N.heap (map (λ p. p.ticket) passes.old.items)
         → AreAllCallers N.heap (map (λ p. p.ticket) passes.new.items) }
+    ensures whole { All (λ p. IsWhole p.ticket p.receipts.items) passes.new.items }
     ensures worked { IfOk result (λ ran. AreWorked N.heap.opening
-        (λ p. p.ticket.table ≡ N.heap.table) (λ p. p.ticket.held) (λ p. G.cuts p.gate)
-        (λ p. G.endless p.gate) job.now passes.old.items passes.new.items
+        (λ p. IsWholePass N.heap p.ticket p.receipts.items) (λ p. p.ticket.held)
+        (λ p. G.cuts p.gate) (λ p. G.endless p.gate) job.now passes.old.items passes.new.items
         (map Some ran.outcomes)) }
     ensures stands { OnErr result ((done : List (Option (List OutcomeModel)))
-        × AreWorked N.heap.opening (λ p. p.ticket.table ≡ N.heap.table) (λ p. p.ticket.held)
-        (λ p. G.cuts p.gate) (λ p. G.endless p.gate) job.now passes.old.items passes.new.items
-        done) }
+        × AreWorked N.heap.opening (λ p. IsWholePass N.heap p.ticket p.receipts.items)
+        (λ p. p.ticket.held) (λ p. G.cuts p.gate) (λ p. G.endless p.gate) job.now
+        passes.old.items passes.new.items done) }
     ensures gate { (cut : Bool) × IsAskedOften G.cuts G.endless gate.old gate.new cut }
 {
     let _heap = store.heap();

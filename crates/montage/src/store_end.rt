@@ -1,7 +1,8 @@
 // The end of a store.
-ghost use Rattle.std.specs.Prelude.{◌≡◌, ◌+◌, ◌≤◌, [], map, vec_capacity, IfOk};
+ghost use Rattle.std.specs.Prelude.{◌≡◌, ◌+◌, ◌≤◌, [], All, map, vec_capacity, IfOk};
 ghost use Rattle.mont_base.specs.declared.constants.TheConstants.{MOST_UNITS};
 ghost use Rattle.mont_base.specs.Layout.{units_of};
+ghost use Rattle.heap_pass.specs.Kept.{IsWhole};
 ghost use Rattle.plain.specs.States.{states_of};
 ghost use Rattle.store_stop.specs.Headline.{IsBaseOf, IsStopped};
 ghost use Rattle.montage.specs.Store.{AreAllCallers};
@@ -19,7 +20,7 @@ use store_stop::{Stopped, stop_store};
 
 impl<N: HeapName, I: Index> Store<N, I> {
     /// Stops the store, which gives its words, what it opened with, and the history of each unit.
-    /// The passes are those of all callers, by their numbers.
+    /// The passes are those of all callers, by their numbers, and none has forgotten a receipt.
     ///
     /// Whatever the callers did until then, and wherever they were cut: every image that a crash
     /// permits of these words holds one cut of these histories, with all that a caller knew to be
@@ -30,6 +31,7 @@ impl<N: HeapName, I: Index> Store<N, I> {
         passes: Vec<Pass<G>>,
     ) -> Result<Stopped, AllocError>
         requires passes { AreAllCallers N.heap (map (λ p. p.ticket) passes.items) }
+        requires whole { All (λ p. IsWhole p.ticket p.receipts.items) passes.items }
         ensures base { IfOk result (λ stopped. IsBaseOf N.heap.opening stopped.base_clock
             (states_of stopped.base)) }
         ensures stopped { IfOk result (λ stopped. IsStopped N.heap.opening.layout
@@ -48,6 +50,7 @@ impl<N: HeapName, I: Index> Store<N, I> {
         passes: Vec<Pass<G>>,
     ) -> Result<Stopped, AllocError>
         requires passes { AreAllCallers N.heap (map (λ p. p.ticket) passes.items) }
+        requires whole { All (λ p. IsWhole p.ticket p.receipts.items) passes.items }
         requires few { units_of N.heap.opening.layout ≤ MOST_UNITS }
         requires room { units_of N.heap.opening.layout ≤ vec_capacity seats }
         requires none { seats.items ≡ [] }

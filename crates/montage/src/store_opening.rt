@@ -1,13 +1,13 @@
 // How a store is opened for the first time.
-ghost use Rattle.std.specs.Prelude.{◌≡◌, ◌≢◌, ◌+◌, ◌<◌, [], ◌∷◌, All, length, map, vec_len, IfOk, IfErr, OnOk};
+ghost use Rattle.std.specs.Prelude.{◌≡◌, ◌≢◌, true, ◌+◌, ◌<◌, [], ◌∷◌, All, length, map, vec_len, IfOk, IfErr, OnOk};
 ghost use Rattle.std.specs.FinMap as finite;
 ghost use Rattle.std.specs.Option.{option_map};
 ghost use Rattle.std.specs.Vec.Iter.{into_iter_items};
 ghost use Rattle.heap.specs.HeapShown.{CallerShown};
 ghost use Rattle.job_run.specs.Run.{IsFresh};
-ghost use Rattle.montage.specs.FreshStore.{IsFreshHeap, IsNeverUsed, IsFirstSeat, AreFirstSeats, AreUnitsFrom};
+ghost use Rattle.montage.specs.FreshStore.{IsFreshHeap, IsNeverUsed, IsFirstSeat, AreFirstSeats, AreUnitsFrom, serves_all};
 ghost use Rattle.montage.specs.MapBoxes.{HaveEmptyBoxes, LacksBox, GivesBox, RefusesBox};
-ghost use Rattle.montage.specs.Store.{AreAllCallers};
+ghost use Rattle.montage.specs.Store.{AreAllCallers, IsWholePass};
 ghost use Rattle.montage.specs.UnitAt.{StandsAt};
 ghost use Rattle.montage.specs.declared.open_refusal.OpenRefusal.TheVariants as refusals;
 
@@ -31,7 +31,8 @@ use std::vec::IntoIter;
 impl<N: HeapName, I: Index> Store<N, I> {
     /// Opens a store that was never used, with its heap and all seats of it, and gives the pass of
     /// each caller. Each map unit is given the next of the boxes, in their order, which is to be
-    /// empty; boxes behind the last map unit are dropped. After a refusal the heap is gone.
+    /// empty; boxes behind the last map unit are dropped. After a refusal the heap is gone. A layout
+    /// with an ordered unit is none that a store serves yet (`serves_all`).
     pub fn fresh<G: Gate + Drop>(
         alloc: Global,
         heap: Heap,
@@ -43,11 +44,12 @@ impl<N: HeapName, I: Index> Store<N, I> {
         requires opens { IsFreshHeap N.heap seats.units.items seats.advancer
             seats.callers.items }
         requires gates { vec_len gates ≡ N.heap.opening.callers }
+        requires kinds { serves_all N.heap.opening.layout ≡ true }
         ensures tickets { IfOk result (λ r. map (λ p. p.ticket) r.1.items
             ≡ seats.callers.items) }
         ensures callers { IfOk result (λ r. AreAllCallers N.heap (map (λ p. p.ticket) r.1.items)) }
-        ensures fresh { IfOk result (λ r. All (IsFresh (λ p. p.ticket.table ≡ N.heap.table)
-            (λ p. p.ticket.held)) r.1.items) }
+        ensures fresh { IfOk result (λ r. All (IsFresh
+            (λ p. IsWholePass N.heap p.ticket p.receipts.items) (λ p. p.ticket.held)) r.1.items) }
         ensures uncut { IfOk result (λ r. All (λ p. p.ticket.held.part.cuts ≡ []) r.1.items) }
         ensures gates { IfOk result (λ r. map (λ p. p.gate) r.1.items ≡ gates.items) }
         ensures boxes { OnOk result (HaveEmptyBoxes N.heap.opening.layout
@@ -92,6 +94,17 @@ impl<N: HeapName, I: Index> Store<N, I> {
     }
 }
 
+/// Whether a store serves units of all these kinds: it does but for ordered units.
+pub fn serves_all(layout: &Layout) -> bool
+    ensures { result ≡ serves_all layout.now }
+{
+    let kinds = layout.kinds();
+    kinds
+        .as_slice()
+        .iter()
+        .all(|kind| *kind != UnitKind::Ordered)
+}
+
 // The passes of callers that weren't answered yet, each with its gate.
 fn first_passes<G: Gate + Drop>(
     alloc: Global,
@@ -99,8 +112,8 @@ fn first_passes<G: Gate + Drop>(
     gates: Vec<G>,
 ) -> Result<Vec<Pass<G>>, AllocError>
     requires as_many { vec_len gates ≡ vec_len callers }
-    requires unanswered { All (λ (t : CallerShown). t.held.part.receipts ≡ []) callers.items }
     ensures tickets { IfOk result (λ ps. map (λ p. p.ticket) ps.items ≡ callers.items) }
+    ensures empty { IfOk result (λ ps. All (λ p. p.receipts.items ≡ []) ps.items) }
     ensures gates { IfOk result (λ ps. map (λ p. p.gate) ps.items ≡ gates.items) }
 {
     let mut gates = gates.into_iter();
@@ -133,6 +146,7 @@ fn open_structures<N: HeapName, I: Index>(
     requires layout { layout ≡ N.heap.opening.layout }
     requires unused { IsNeverUsed N.heap }
     requires seats { AreFirstSeats N.heap seats.items }
+    requires kinds { serves_all layout ≡ true }
     ensures units { IfOk result (λ units. AreUnitsFrom N.heap 0 units.items) }
     ensures boxes { OnOk result (HaveEmptyBoxes layout
         (map (λ b. finite.len (I.places b)) indexes.items)) }
@@ -178,6 +192,7 @@ fn open_structure<N: HeapName, I: Index>(
     requires layout { layout ≡ N.heap.opening.layout }
     requires unused { IsNeverUsed N.heap }
     requires seat { IsFirstSeat N.heap unit seat }
+    requires kinds { serves_all layout ≡ true }
     ensures stands { IfOk result (λ s. StandsAt N.heap unit s) }
     ensures boxes { OnOk result (GivesBox layout unit
         (map (λ b. finite.len (I.places b)) (into_iter_items boxes.old))
@@ -200,6 +215,7 @@ fn open_structure<N: HeapName, I: Index>(
         UnitKind::Graph => Ok(Structure::Graph {
             unit: PGraph::fresh(alloc, region)?,
         }),
+        UnitKind::Ordered => unreachable!(),
     }
 }
 

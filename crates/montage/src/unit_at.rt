@@ -1,10 +1,11 @@
 // What stands behind the lock of a unit: its structure.
-ghost use Rattle.std.specs.Prelude.{◌≡◌, [], ◌∷◌, ◌++◌, true, IfOk, IfErr};
+ghost use Rattle.std.specs.Prelude.{◌≡◌, [], ◌∷◌, ◌++◌, true, IfOk, IfErr, OnErr};
 ghost use Rattle.mont_laws.specs.Effects.{IsOpOf};
 ghost use Rattle.heap.specs.GateAsked.{IsAskedOften};
 ghost use Rattle.structure_call.specs.Calling.{HasAnsweredCall, LeavesCall, was_cut, was_checked};
 ghost use Rattle.structure_call.specs.Checking.{MayBeCalled};
 ghost use Rattle.structure_call.specs.Standing.{IsStanding};
+ghost use Rattle.montage.specs.FreshStore.{serves_all};
 ghost use Rattle.montage.specs.UnitAt.{region_of, FitsNumber, FitsNumber-prop};
 ghost use Rattle.montage.specs.StoreCalls.{IsAnswered, IsRefused};
 
@@ -39,9 +40,13 @@ impl<I: Index> Structure<I> {
         requires stands { IsStanding heap.now (region_of self.old) }
         requires pass { pass.old.ticket.table ≡ heap.now.table }
         requires op { IsOpOf heap.now.opening.layout (region_of self.old).books.unit op.now }
+        requires kinds { serves_all heap.now.opening.layout ≡ true }
         ensures gate { IsAskedOften G.cuts G.endless pass.old.gate pass.new.gate (was_cut result) }
         ensures answered { IfOk result (λ receipt. HasAnsweredCall heap.now (region_of self.old)
             (region_of self.new) pass.old.ticket pass.new.ticket op.now receipt) }
+        ensures receipts { IfOk result (λ receipt. pass.new.receipts.items
+            ≡ pass.old.receipts.items ++ receipt ∷ []) }
+        ensures kept { OnErr result (pass.new.receipts.items ≡ pass.old.receipts.items) }
         ensures refused { IfErr result (λ why. LeavesCall heap.now (region_of self.old)
             (region_of self.new) pass.old.ticket pass.new.ticket op.now why) }
         ensures checked { was_checked result ≡ true
@@ -107,9 +112,13 @@ impl<const UNIT: u64, N: HeapName, I: Index> UnitAt<UNIT, N, I> {
         requires heap { heap.now ≡ N.heap }
         requires pass { pass.old.ticket.table ≡ heap.now.table }
         requires op { IsOpOf heap.now.opening.layout UNIT op.now }
+        requires kinds { serves_all heap.now.opening.layout ≡ true }
         ensures gate { IsAskedOften G.cuts G.endless pass.old.gate pass.new.gate (was_cut result) }
         ensures answered { IfOk result (λ receipt. IsAnswered heap.now pass.old.ticket
             pass.new.ticket op.now receipt) }
+        ensures receipts { IfOk result (λ receipt. pass.new.receipts.items
+            ≡ pass.old.receipts.items ++ receipt ∷ []) }
+        ensures kept { OnErr result (pass.new.receipts.items ≡ pass.old.receipts.items) }
         ensures refused { IfErr result (λ why. IsRefused heap.now pass.old.ticket
             pass.new.ticket op.now why) }
     {

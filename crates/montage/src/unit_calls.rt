@@ -1,8 +1,9 @@
 // Calls of units: each locks the operation's unit, and no other.
-ghost use Rattle.std.specs.Prelude.{◌≡◌, ◌<◌, IfOk, IfErr};
+ghost use Rattle.std.specs.Prelude.{◌≡◌, ◌<◌, IfOk, IfErr, [], ◌∷◌, ◌++◌, OnErr, true};
 ghost use Rattle.mont_laws.specs.Effects.{IsOpOf};
 ghost use Rattle.heap.specs.GateAsked.{IsAskedOften};
 ghost use Rattle.structure_call.specs.Calling.{was_cut};
+ghost use Rattle.montage.specs.FreshStore.{serves_all};
 ghost use Rattle.montage.specs.StoreCalls.{IsAnswered, IsRefused};
 
 use crate::store::Store;
@@ -27,6 +28,9 @@ impl<N: HeapName, I: Index> Store<N, I> {
         ensures gate { IsAskedOften G.cuts G.endless pass.old.gate pass.new.gate (was_cut result) }
         ensures answered { IfOk result (λ receipt. IsAnswered N.heap pass.old.ticket
             pass.new.ticket op.now receipt) }
+        ensures receipts { IfOk result (λ receipt. pass.new.receipts.items
+            ≡ pass.old.receipts.items ++ receipt ∷ []) }
+        ensures kept { OnErr result (pass.new.receipts.items ≡ pass.old.receipts.items) }
         ensures refused { IfErr result (λ why. IsRefused N.heap pass.old.ticket
             pass.new.ticket op.now why) }
     {
@@ -76,10 +80,14 @@ fn call_at<const UNIT: u64, R: Wait, N: HeapName, I: Index, G: Gate>(
     requires heap { heap.now ≡ N.heap }
     requires pass { pass.old.ticket.table ≡ N.heap.table }
     requires unit { unit ≡ UNIT }
+    requires kinds { serves_all N.heap.opening.layout ≡ true }
     requires op { IsOpOf N.heap.opening.layout unit op.now }
     ensures gate { IsAskedOften G.cuts G.endless pass.old.gate pass.new.gate (was_cut result) }
     ensures answered { IfOk result (λ receipt. IsAnswered N.heap pass.old.ticket
         pass.new.ticket op.now receipt) }
+    ensures receipts { IfOk result (λ receipt. pass.new.receipts.items
+        ≡ pass.old.receipts.items ++ receipt ∷ []) }
+    ensures kept { OnErr result (pass.new.receipts.items ≡ pass.old.receipts.items) }
     ensures refused { IfErr result (λ why. IsRefused N.heap pass.old.ticket
         pass.new.ticket op.now why) }
 {

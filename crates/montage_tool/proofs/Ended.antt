@@ -37,7 +37,7 @@ use Rattle.montage_tool.specs.Gates.{AreGates}
 use Rattle.montage_tool.specs.Run.{opening_of, HasEnded, IsPickOf, IsRun}
 use Rattle.montage_tool.proofs.CarriedOut.{carried_out}
 use Rattle.montage_tool.proofs.Opened.{no_records, first_clock, nothing_there}
-use Rattle.montage_tool.proofs.Passes.{all_fresh, still_all, each_has_run}
+use Rattle.montage_tool.proofs.Passes.{each_has_run}
 
 -- ---- lines
 some_if_not_none : {A : Type 0} (x : Option A) → x ≢ None → IsSome x
@@ -56,13 +56,12 @@ all_asked j is s same =
     (λ i l e. asked j.layout l.deed (all_gives (IsLine (head_of j)) j.lines i l is.lines e).unit))
 
 -- ---- behind the threads
-module _ {P : Type 0} (j : Job) (heap : HeapShown) (opening : heap.opening ≡ opening_of j) (ticket : P → CallerShown) (gate : P → Fuel)
-    (olds news : List P) (dealt : map ticket olds ≡ dealt_callers heap.table heap.opening heap.opening.callers)
+module _ {P : Type 0} (j : Job) (heap : HeapShown) (opening : heap.opening ≡ opening_of j) (has : P → Type 0) (ticket : P → CallerShown)
+    (gate : P → Fuel) (olds news : List P) (dealt : map ticket olds ≡ dealt_callers heap.table heap.opening heap.opening.callers)
     (gates : AreGates j.stops j.callers (map gate olds)) where
   abbrev Worked : List (Option (List Outcome)) → Type 0
   Worked done =
-      AreWorked heap.opening (λ (p : P). (ticket p).table ≡ heap.table) (λ (p : P). (ticket p).held) (λ (p : P). (gate p).cuts)
-      (λ (p : P). is_endless (gate p)) j olds news done
+      AreWorked heap.opening has (λ (p : P). (ticket p).held) (λ (p : P). (gate p).cuts) (λ (p : P). is_endless (gate p)) j olds news done
 
   many_olds : length olds ≡ j.callers
   many_olds = sym (length-map olds gate) ∙ gates.many
@@ -77,7 +76,7 @@ module _ {P : Type 0} (j : Job) (heap : HeapShown) (opening : heap.opening ≡ o
     answered = sym (length-map outcomes Some) ∙ worked.callers ∙ many_olds;
     each = λ caller left of_caller e f.
         subst (λ (o : Opening). HasRun j o caller left.held of_caller) opening
-        (each_has_run heap ticket gate olds dealt j news outcomes worked gates caller left of_caller e f);
+        (each_has_run heap has ticket gate olds dealt j news outcomes worked gates caller left of_caller e f);
     stopped = subst (λ (o : Opening). IsStopped o.layout t.base_clock t.base (map ticket news) t) opening stopped;
   }
 
@@ -118,7 +117,7 @@ module _ (j : Job) (is : IsJob j) (outcomes : List (List Outcome)) (t : Stopped)
 
     -- ---- the report
     module _ (image_clock : ℕ) (clock : image_clock ≡ clock_of image) (contents : List State)
-        (rebuilt : IsRecovered j.layout image contents) (r : Report) (made : r ≡ report_made j t outcomes image_clock contents)
+        (rebuilt : IsRecovered j.layout image contents) (r : Report) (made : r ≡ report_made j t r.runs outcomes image_clock contents)
         (faithful : (o : Opening) (callers : List CallerShown) (picked : List ℕ)
         → WasRun j o callers outcomes t picked image_clock contents
         → IsFaithful j t.base_clock (states_of t.base) (opened_records o) r) where
@@ -160,34 +159,32 @@ module _ (j : Job) (is : IsJob j) (outcomes : List (List Outcome)) (t : Stopped)
         unstopped = λ none. carried_out j _ _ _ r is_faithful none;
       }
 
+    -- the report that was made, unless memory ran out
+    pub made_run : {X E : Type 0} (image_clock : ℕ) → image_clock ≡ clock_of image → (contents : List State)
+        → IsRecovered j.layout image contents → (report : X → Report) (result : Result X E)
+        → IfOk result (λ (x : X). report x ≡ report_made j t (report x).runs outcomes image_clock contents)
+        → IfOk result (λ (x : X). (o : Opening) (callers : List CallerShown) (picked : List ℕ)
+        → WasRun j o callers outcomes t picked image_clock contents
+        → IsFaithful j t.base_clock (states_of t.base) (opened_records o) (report x))
+        → IfOk result (λ (x : X). IsRun j (report x))
+    made_run image_clock clock contents rebuilt report (Ok x) made faithful =
+        is_run image_clock clock contents rebuilt (report x) made faithful
+    made_run image_clock clock contents rebuilt report (Err e) made faithful = tt
+
 -- ---- the store, before the run and behind it
 module _ {P : Type 0} (j : Job) (heap : HeapShown) (units : List UnitShown) (advancer : AdvShown) (callers : List CallerShown)
-    (opens : Opens (opening_of j) heap units advancer callers) (ticket : P → CallerShown) (gate : P → Fuel) (olds : List P)
-    (tickets : map ticket olds ≡ callers) where
+    (opens : Opens (opening_of j) heap units advancer callers) (has : P → Type 0) (ticket : P → CallerShown) (gate : P → Fuel)
+    (olds : List P) (tickets : map ticket olds ≡ callers) where
   pub dealt_first : map ticket olds ≡ dealt_callers heap.table heap.opening heap.opening.callers
   dealt_first = tickets ∙ opens.each_caller ∙ ap (λ (o : Opening). dealt_callers heap.table o o.callers) (sym opens.opening)
-
-  pub all_new : All (IsFresh (λ (p : P). (ticket p).table ≡ heap.table) (λ (p : P). (ticket p).held)) olds
-  all_new = all_fresh heap ticket gate olds dealt_first
 
   module _ (news : List P) where
     abbrev Leaves : List (Option (List Outcome)) → Type 0
     Leaves done =
-        AreWorked heap.opening (λ (p : P). (ticket p).table ≡ heap.table) (λ (p : P). (ticket p).held) (λ (p : P). (gate p).cuts)
-        (λ (p : P). is_endless (gate p)) j olds news done
+        AreWorked heap.opening has (λ (p : P). (ticket p).held) (λ (p : P). (gate p).cuts) (λ (p : P). is_endless (gate p)) j olds
+        news done
 
     module _ {F : Type 0} (ran : Result Ran F) (worked : IfOk ran (λ (r : Ran). Leaves (map Some r.outcomes))) where
-      -- whether memory was refused or not, all passes are still there
-      pub all_behind : OnErr ran ((done : List (Option (List Outcome))) × Leaves done) → AreAllCallers heap (map ticket olds)
-          → AreAllCallers heap (map ticket news)
-      all_behind = by_answer ran worked
-        where
-          by_answer : (r : Result Ran F) → IfOk r (λ (x : Ran). Leaves (map Some x.outcomes))
-              → OnErr r ((done : List (Option (List Outcome))) × Leaves done) → AreAllCallers heap (map ticket olds)
-              → AreAllCallers heap (map ticket news)
-          by_answer (Ok r) w stands all = still_all heap ticket gate olds dealt_first j news (map Some r.outcomes) w all
-          by_answer (Err e) w stands all = still_all heap ticket gate olds dealt_first j news stands.0 stands.1 all
-
       pub ended_of : {X E : Type 0} (gates : List Fuel) (lent : map gate olds ≡ gates) → AreGates j.stops j.callers gates
           → (outcomes : X → List (List Outcome)) (store : X → Stopped) (stopped : Result Stopped F)
           → IfOk stopped (λ (t : Stopped). IsBaseOf heap.opening t.base_clock (states_of t.base))
@@ -196,7 +193,7 @@ module _ {P : Type 0} (j : Job) (heap : HeapShown) (units : List UnitShown) (adv
           → IfOk result (λ (x : X). (ran ≡ Ok (record { outcomes = outcomes x })) × (stopped ≡ Ok (store x)))
           → IfOk result (λ (x : X). HasEnded j (outcomes x) (store x))
       ended_of gates lent are outcomes store stopped base stops (Ok x) is =
-          has_ended j heap opens.opening ticket gate olds news dealt_first (subst (AreGates j.stops j.callers) (sym lent) are)
+          has_ended j heap opens.opening has ticket gate olds news dealt_first (subst (AreGates j.stops j.callers) (sym lent) are)
           (outcomes x) (store x)
           (subst (λ (r : Result Ran F). IfOk r (λ (y : Ran). Leaves (map Some y.outcomes))) is.0 worked)
           (subst (λ (r : Result Stopped F). IfOk r (λ (t : Stopped). IsBaseOf heap.opening t.base_clock (states_of t.base))) is.1 base)

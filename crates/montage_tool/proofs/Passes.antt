@@ -42,11 +42,8 @@ module _ (t : TableId) (o : Opening) where
       each_push IsFirst (dealt_callers t o n) (first_ticket t o n) (each_dealt n) (ap (first_ticket t o) (sym (many_dealt n)))
 
 -- ---- passes
-module _ {P : Type 0} (heap : HeapShown) (ticket : P → CallerShown) (gate : P → Fuel) (olds : List P)
+module _ {P : Type 0} (heap : HeapShown) (has : P → Type 0) (ticket : P → CallerShown) (gate : P → Fuel) (olds : List P)
     (dealt : map ticket olds ≡ dealt_callers heap.table heap.opening heap.opening.callers) where
-  abbrev has : P → Type 0
-  has p = (ticket p).table ≡ heap.table
-
   abbrev held : P → CallerHeld
   held p = (ticket p).held
 
@@ -54,43 +51,6 @@ module _ {P : Type 0} (heap : HeapShown) (ticket : P → CallerShown) (gate : P 
   first_at k p e =
       each_dealt heap.table heap.opening heap.opening.callers k (ticket p)
       (ap (λ (l : List CallerShown). slice_get l k) (sym dealt) ∙ row_in_map ticket olds k p e)
-
-  pub all_fresh : All (IsFresh has held) olds
-  all_fresh = all_at (IsFresh has held) olds (λ k p e. record {
-    own = ap (λ (x : CallerShown). x.table) (first_at k p e);
-    unanswered = record {
-      calls = ap (λ (x : CallerShown). x.held.part.calls) (first_at k p e);
-      receipts = ap (λ (x : CallerShown). x.held.part.receipts) (first_at k p e);
-    };
-  })
-
-  module _ (job : Job) (news : List P) (done : List (Option (List Outcome)))
-      (worked : AreWorked heap.opening has held (λ (p : P). (gate p).cuts) (λ (p : P). is_endless (gate p)) job olds news done)
-      (all : AreAllCallers heap (map ticket olds)) where
-    old_at : (k : ℕ) (p : P) → slice_get news k ≡ Some p → (q : P) × (slice_get olds k ≡ Some q)
-    old_at k p e =
-        let below = slice_get_within news k p e in
-        let long = worked.passes in
-        item_at olds k (omega (arith, below, long))
-
-    done_at : (k : ℕ) (p : P) → slice_get news k ≡ Some p → (d : Option (List Outcome)) × (slice_get done k ≡ Some d)
-    done_at k p e =
-        let below = slice_get_within news k p e in
-        let long = worked.passes in
-        let many = worked.callers in
-        item_at done k (omega (arith, below, long, many))
-
-    pub still_all : AreAllCallers heap (map ticket news)
-    still_all = record {
-      many = length-map news ticket ∙ worked.passes ∙ sym (length-map olds ticket) ∙ all.many;
-      each = λ k s e.
-          let at = row_of_map ticket news k s e in
-          let old = old_at k at.0 at.1 in
-          let d = done_at k at.0 at.1 in
-          let was = worked.each k old.0 at.0 d.0 old.1 at.1 d.1 in
-          let seat = all.each k (ticket old.0) (row_in_map ticket olds k old.0 old.1) in
-          subst (IsSeatOfCaller heap k) at.2 (was.own, was.goes_on.caller ∙ seat.1);
-    }
 
   -- ---- what each caller was left with
   module _ (job : Job) (news : List P) (outcomes : List (List Outcome))

@@ -1,9 +1,10 @@
 // A run of a job: from its lines to its report.
-ghost use Rattle.std.specs.Prelude.{◌≡◌, map, Ok, IfOk, IfErr, OnOk};
+ghost use Rattle.std.specs.Prelude.{◌≡◌, true, map, Ok, IfOk, IfErr, OnOk};
 ghost use Rattle.std.specs.FinMap as finite;
 ghost use Rattle.heap.specs.Opens.{Opens};
 ghost use Rattle.job_text.specs.Grammar.{IsJob};
 ghost use Rattle.job_text.specs.PlainReport.{report_of};
+ghost use Rattle.montage.specs.FreshStore.{serves_all};
 ghost use Rattle.montage.specs.MapBoxes.{HaveEmptyBoxes, LacksBox};
 ghost use Rattle.montage_tool.specs.Gates.{AreGates};
 ghost use Rattle.montage_tool.specs.Run.{opening_of, HasEnded, IsPickOf, IsRun};
@@ -33,7 +34,8 @@ pub(crate) fn run_job<R: Threads + Wait + Sync, I: Index + Send>(
     job: &Job,
     indexes: Vec<I>,
 ) -> Result<Report, OpenRefusal>
-    requires { IsJob job.now }
+    requires job { IsJob job.now }
+    requires kinds { serves_all job.now.layout ≡ true }
     ensures run { IfOk result (λ report. IsRun job.now (report_of report)) }
     ensures boxes { OnOk result (HaveEmptyBoxes job.now.layout
         (map (λ b. finite.len (I.places b)) indexes.items)) }
@@ -68,6 +70,7 @@ fn run_on<R: Threads + Wait + Sync, N: HeapName + Send + Sync, I: Index + Send>(
         seats.callers.items }
     requires gates { AreGates job.now.stops job.now.callers gates.items }
     requires job { IsJob job.now }
+    requires kinds { serves_all job.now.layout ≡ true }
     ensures ended { IfOk result (λ e. HasEnded job.now e.outcomes e.stopped) }
     ensures boxes { OnOk result (HaveEmptyBoxes job.now.layout
         (map (λ b. finite.len (I.places b)) indexes.items)) }
@@ -106,7 +109,7 @@ fn report_on(alloc: Global, job: &Job, ended: Ended) -> Result<Report, AllocErro
     let image = picked(alloc, job, &outcomes, &stopped)?;
     let contents = recover(alloc, job.layout, image.words.as_slice())?;
     let clock = image.clock();
-    Ok(make_report(job, stopped, outcomes, clock, contents))
+    make_report(alloc, job, stopped, outcomes, clock, contents)
 }
 
 // The image that the job's mask picks.

@@ -27,8 +27,8 @@ of_why heap unit q r op (CountEnd which) k = of_answers q r k.0
 of_why heap unit q r op Memory k = of_ticket q r q k refl refl
 of_why heap unit q r op (Full need free clock) k = of_answers q r k.0
 of_why heap unit q r op (Cut cut) k = record {
-  table = ap (λ (x : CallerShown). x.table) k.1;
-  caller = ap (λ (x : CallerShown). x.held.caller) k.1;
+  table = ap (λ (x : CallerShown). x.table) k.1.caller;
+  caller = ap (λ (x : CallerShown). x.held.caller) k.1.caller;
 }
 
 pub same_caller : (heap : HeapShown) (q r : CallerShown) (op : Op) (x : Result Receipt CallRefusal)

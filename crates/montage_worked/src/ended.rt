@@ -9,7 +9,7 @@ use mont_base::{Gate, Receipt, Sequence};
 use montage::Store;
 use std::alloc::Global;
 use std::test::Fail;
-use store_stop::Stopped;
+use store_stop::{Stopped, are_whole};
 
 // What the store left, and what each of its callers was answered.
 #[derive(Drop)]
@@ -27,6 +27,9 @@ pub(crate) fn end<N: HeapName, I: Index, G: Gate + Drop>(
     requires { vec_len callers ≡ N.heap.opening.callers }
 {
     let (passes, receipts) = passes_of(alloc, callers)?;
+    if !are_whole(passes.as_slice()) {
+        return Err(Fail::new("a pass that forgot a receipt"));
+    }
     let stopped = store.stop(alloc, passes)?;
     Ok(Ended { stopped, receipts })
 }

@@ -9,7 +9,7 @@ use heap::{Heap, Seats};
 use heap_pass::{HeapName, Pass};
 use index_kit::{Index, SortedIndex};
 use mont_base::{Gate, Kinds, Layout};
-use montage::Store;
+use montage::{Store, serves_all};
 use std::alloc::Global;
 use std::test::Fail;
 
@@ -50,6 +50,9 @@ pub(crate) fn open<N: HeapName, I: Index, G: Gate + Drop>(
         seats.callers.items }
     ensures { IfOk result (λ r. vec_len r.1 ≡ N.heap.opening.callers) }
 {
+    if !serves_all(&heap.layout()) {
+        return Err(Fail::new("a unit of a kind that no store serves"));
+    }
     let room = Vec::with_capacity(alloc, gates.len())?;
     let (store, passes) = Store::<N, I>::fresh(alloc, heap, seats, gates, indexes)?;
     Ok((store, callers_of(passes, room)))

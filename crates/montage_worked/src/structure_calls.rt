@@ -34,6 +34,12 @@ pub(crate) fn carry_out<R: Wait, N: HeapName, I: Index, G: Gate>(
         | Op::DelE { unit, .. }
         | Op::Vertex { unit, .. }
         | Op::Degree { unit, .. } => call_graph(rt, store, pass, *unit, op),
+        Op::OPut { .. }
+        | Op::OGet { .. }
+        | Op::ODel { .. }
+        | Op::OFloor { .. }
+        | Op::ORank { .. }
+        | Op::ORange { .. } => Err(NoSuchCall),
     }
 }
 

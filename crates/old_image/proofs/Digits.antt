@@ -1,5 +1,5 @@
 -- A number and its digits are kept by the same map unit, where maps stand in front of all other units.
-use Rattle.std.proofs.Common.{◌≡◌, ℕ, zero, suc, ◌+◌, ◌*◌, ◌/◌, ◌%◌, ◌^◌, ◌<◌, ◌≤◌, ◌==◌, List, [], ◌∷◌, ◌++◌, length, replicate, decimal, refl, sym, ap, ◌∙◌, arith}
+use Rattle.std.proofs.Common.{◌≡◌, ℕ, zero, suc, ◌+◌, ◌*◌, ◌/◌, ◌%◌, ◌^◌, ◌<◌, ◌≤◌, ◌==◌, Bool, true, false, ◌||◌, List, [], ◌∷◌, ◌++◌, length, replicate, decimal, refl, sym, ap, ◌∙◌, arith}
 use Rattle.std.specs.Prelude.{Some, slice_get}
 use Rattle.std.specs.List.{range_with_len}
 use Rattle.std.proofs.Math.Nat.{mod-add-mod, mod-lt}
@@ -8,8 +8,8 @@ use Rattle.std.proofs.lemmas.Fmt.{decimal_by_steps}
 use Rattle.std.proofs.lemmas.List.FromFn.{length-range_with_len}
 use Rattle.std.proofs.lemmas.List.Sums.{fold-append}
 use Rattle.mont_base.specs.declared.kinds.UnitKind.TheVariants as kinds
-use Rattle.mont_base.specs.Layout.{Shape, key_number, map_units, next_digit, units_from, unit_of_key}
-use Rattle.mont_base.specs.Structure.{is_in_unit}
+use Rattle.mont_base.specs.Layout.{Shape, is_of_kind, key_number, kind_of, map_units, next_digit, units_from, unit_of_key}
+use Rattle.mont_base.specs.Structure.{is_unit, keeps_key}
 use Rattle.mont_image.specs.StoredImage.{IsOldKinds, maps_in}
 
 -- ---- the digits of a number, modulo m
@@ -65,5 +65,11 @@ module _ (s : Shape) (old : IsOldKinds s.kinds) where
       ∙ ap (slice_get (range_with_len 0 (maps_in s.kinds))) (number_of_digits (maps_in s.kinds) n small)
       ∙ at_place 0 (maps_in s.kinds) (n % maps_in s.kinds) (mod-lt n (omega arith)) ∙ ap Some place
 
-  pub in_unit_by_digits : (unit n : ℕ) → n < 2 ^ 64 → is_in_unit s unit (decimal n) ≡ (n % maps_in s.kinds == unit)
-  in_unit_by_digits unit n small = rw (unit_of_digits n small) refl
+  pub kept_by_digits : (unit n : ℕ) → is_of_kind (kind_of s unit) kinds.Ordered ≡ false → n < 2 ^ 64
+      → keeps_key s unit (decimal n) ≡ (n % maps_in s.kinds == unit)
+  kept_by_digits unit n plain small =
+      (λ i. is_unit (unit_of_digits n small i) unit || plain i) ∙ or_false (n % maps_in s.kinds == unit)
+    where
+      or_false : (b : Bool) → (b || false) ≡ b
+      or_false true = refl
+      or_false false = refl

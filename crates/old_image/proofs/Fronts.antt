@@ -13,7 +13,7 @@ use Rattle.mont_base.specs.declared.record.Object.{Object}
 use Rattle.mont_base.specs.declared.record.ObjectFault.{ObjectFault}
 use Rattle.mont_base.specs.declared.record.ObjectFault.TheVariants as faults
 use Rattle.mont_base.specs.Bodies.{pair_body, pair_in}
-use Rattle.mont_base.specs.Layout.{Shape}
+use Rattle.mont_base.specs.Layout.{Shape, is_of_kind, kind_of}
 use Rattle.mont_base.specs.State.{Key, Value, MapOf, key_cmp}
 use Rattle.mont_base.specs.Structure.{at_slot, fault_if, first_fault, has_key, map_fault, names, or_else, pair_at, pair_fault, structure_of}
 use Rattle.mont_base.specs.Texts.{IsText}
@@ -22,7 +22,7 @@ use Rattle.mont_laws.proofs.Bodies.{pair_back}
 use Rattle.mont_laws.proofs.Keys.{one_text}
 use Rattle.old_image.specs.OldStructure.{digits_at, digits_of, has_number, number_pair_at, number_pair_fault, old_map_fault, old_structure_of, renewed_object}
 use Rattle.old_image.specs.Renewal.{HoldsNumbers}
-use Rattle.old_image.proofs.Digits.{in_unit_by_digits}
+use Rattle.old_image.proofs.Digits.{kept_by_digits}
 
 -- ---- one object
 text_of_number : (n : ℕ) → n < 2 ^ 64 → IsText (decimal n)
@@ -61,12 +61,12 @@ same_among k small [] all = refl
 same_among k small (o ∷ os) all =
     (λ i. same_key k small o (All-head HoldsNumbers o os all) i || same_among k small os (All-tail HoldsNumbers o os all) i)
 
-module _ (s : Shape) (unit : ℕ) (old : IsOldKinds s.kinds) where
+module _ (s : Shape) (unit : ℕ) (old : IsOldKinds s.kinds) (plain : is_of_kind (kind_of s unit) kinds.Ordered ≡ false) where
   same_fault : (lower : List Object) (o : Object) → All HoldsNumbers lower → HoldsNumbers o
       → map_fault s unit (map (renewed_object kinds.Map) lower) (renewed_object kinds.Map o) ≡ old_map_fault s unit lower o
   same_fault lower o all has =
       ap (pair_fault s unit (map (renewed_object kinds.Map) lower)) (pair_now o has)
-      ∙ (λ i. if not (in_unit_by_digits s old unit has.key has.small_key i) then Some faults.Shard
+      ∙ (λ i. if not (kept_by_digits s old unit has.key plain has.small_key i) then Some faults.Shard
       else fault_if (same_among has.key has.small_key lower all i) faults.Key)
       ∙ ap (number_pair_fault s unit lower) (sym has.are)
 

@@ -37,6 +37,7 @@ unfolding byte_words
 body_now kinds.Map body is = refl
 body_now kinds.Queue body is = is
 body_now kinds.Graph body is = is
+body_now kinds.Ordered body is = is
 
 -- ---- live among the live
 all_pass : {A : Type 0} (p : A → Bool) (xs : List A) → ((a : A) → Contains xs a → p a ≡ true) → filter p xs ≡ xs

@@ -6,7 +6,7 @@ use Rattle.mont_base.specs.declared.kinds.UnitKind.TheVariants as kinds
 use Rattle.mont_base.specs.declared.record.Object.{Object}
 use Rattle.mont_base.specs.declared.record.ObjectFault.{ObjectFault}
 use Rattle.mont_base.specs.declared.record.ObjectFault.TheVariants as faults
-use Rattle.mont_base.specs.Layout.{Shape, kind_of}
+use Rattle.mont_base.specs.Layout.{Shape, is_of_kind, kind_of}
 use Rattle.mont_base.specs.Structure.{first_fault, map_fault, object_fault, structure_of}
 use Rattle.mont_image.specs.StoredImage.{IsOldKinds}
 use Rattle.plain.specs.Built.{IsFirstFault, MakesStructure}
@@ -32,7 +32,7 @@ module _ (s : Shape) (unit : ℕ) (os : List Object) (kind : UnitKind) (of_unit 
 module _ (s : Shape) (unit : ℕ) (old : IsOldKinds s.kinds) (of_unit : kind_of s unit ≡ Some kinds.Map)
     (os pairs : List Object) (spare : Option ℕ) (f : AreFrontPairs os pairs spare) where
   fault_is : first_fault (old_map_fault s unit) [] f.front ≡ object_fault s unit kinds.Map pairs
-  fault_is = sym (front_fault s unit old f.front f.numbers) ∙ ap (first_fault (map_fault s unit) []) (sym f.pairs_are)
+  fault_is = sym (front_fault s unit old (ap (λ (o : Option UnitKind). is_of_kind o kinds.Ordered) of_unit) f.front f.numbers) ∙ ap (first_fault (map_fault s unit) []) (sym f.pairs_are)
 
   sound_front : MakesStructure s unit pairs → first_fault (old_map_fault s unit) [] f.front ≡ None
   sound_front m = fault_is ∙ sound_is s unit pairs kinds.Map of_unit m
@@ -80,7 +80,7 @@ pub renewed_map : (s : Shape) (unit : ℕ) (os now : List Object) → kind_of s 
 renewed_map s unit os now of_unit is kind of_kind =
     is ∙ ap (λ (k : UnitKind). map (renewed_object k) os) (one_kind (kind_of s unit) kinds.Map kind of_unit of_kind)
 
--- ---- queues and graphs
+-- ---- queues, graphs and ordered units
 queue_same : (os : List Object) → map (renewed_object kinds.Queue) os ≡ os
 queue_same [] = refl
 queue_same (o ∷ os) = ap (λ (rest : List Object). o ∷ rest) (queue_same os)
@@ -89,31 +89,40 @@ graph_same : (os : List Object) → map (renewed_object kinds.Graph) os ≡ os
 graph_same [] = refl
 graph_same (o ∷ os) = ap (λ (rest : List Object). o ∷ rest) (graph_same os)
 
+ordered_same : (os : List Object) → map (renewed_object kinds.Ordered) os ≡ os
+ordered_same [] = refl
+ordered_same (o ∷ os) = ap (λ (rest : List Object). o ∷ rest) (ordered_same os)
+
 -- their bodies stay
 abbrev pub IsPlain : UnitKind → Type 0
 IsPlain kinds.Map = ⊥
 IsPlain kinds.Queue = Unit {0}
 IsPlain kinds.Graph = Unit {0}
+IsPlain kinds.Ordered = Unit {0}
 
-pub plain_is : (kind : UnitKind) → (kind ≡ kinds.Queue) ⊎ (kind ≡ kinds.Graph) → IsPlain kind
+pub plain_is : (kind : UnitKind) → (kind ≡ kinds.Queue) ⊎ (kind ≡ kinds.Graph) ⊎ (kind ≡ kinds.Ordered) → IsPlain kind
 plain_is kind (inl is) = subst IsPlain (sym is) tt
-plain_is kind (inr is) = subst IsPlain (sym is) tt
+plain_is kind (inr (inl is)) = subst IsPlain (sym is) tt
+plain_is kind (inr (inr is)) = subst IsPlain (sym is) tt
 
 same_plain : (kind : UnitKind) → IsPlain kind → (os : List Object) → map (renewed_object kind) os ≡ os
 same_plain kinds.Map h os = absurd h
 same_plain kinds.Queue h os = queue_same os
 same_plain kinds.Graph h os = graph_same os
+same_plain kinds.Ordered h os = ordered_same os
 
 fault_plain : (s : Shape) (unit : ℕ) (kind : UnitKind) → IsPlain kind → (os : List Object)
     → old_object_fault s unit kind os ≡ object_fault s unit kind os
 fault_plain s unit kinds.Map h os = absurd h
 fault_plain s unit kinds.Queue h os = refl
 fault_plain s unit kinds.Graph h os = refl
+fault_plain s unit kinds.Ordered h os = refl
 
 structure_plain : (kind : UnitKind) → IsPlain kind → (os : List Object) → structure_of kind os ≡ old_structure_of kind os
 structure_plain kinds.Map h os = absurd h
 structure_plain kinds.Queue h os = refl
 structure_plain kinds.Graph h os = refl
+structure_plain kinds.Ordered h os = refl
 
 module _ (s : Shape) (unit : ℕ) (os : List Object) (kind : UnitKind) (plain : IsPlain kind) (of_unit : kind_of s unit ≡ Some kind) where
   pub kept_plain : MakesStructure s unit os → RenewsUnit s unit os

@@ -52,11 +52,13 @@ abbrev pub old_object_fault : Shape → ℕ → UnitKind → List Object → Opt
 old_object_fault s unit kinds.Map os = first_fault (old_map_fault s unit) [] os
 old_object_fault s unit kinds.Queue os = object_fault s unit kinds.Queue os
 old_object_fault s unit kinds.Graph os = object_fault s unit kinds.Graph os
+old_object_fault s unit kinds.Ordered os = object_fault s unit kinds.Ordered os
 
 abbrev pub old_structure_of : UnitKind → List Object → State
 old_structure_of kinds.Map os = MapOf (old_pairs_of os)
 old_structure_of kinds.Queue os = structure_of kinds.Queue os
 old_structure_of kinds.Graph os = structure_of kinds.Graph os
+old_structure_of kinds.Ordered os = structure_of kinds.Ordered os
 
 -- The structure of a unit's objects, which is defined exactly where they have no fault.
 pub record IsOldStructure (s : Shape) (unit : ℕ) (os : List Object) (state : State) : Type 0 where
@@ -88,6 +90,7 @@ renewed_body kinds.Map body =
     pair_body (decimal (slice_index body 0)) (decimal (slice_index body 1))
 renewed_body kinds.Queue body = body
 renewed_body kinds.Graph body = body
+renewed_body kinds.Ordered body = body
 
 abbrev pub renewed_object : UnitKind → Object → Object
 renewed_object kind o = record o { body = renewed_body kind o.body }

@@ -38,7 +38,7 @@ pub(crate) fn renewed_objects(
     let objects = live_objects(alloc, &records)?;
     match layout.kind(unit) {
         UnitKind::Map => renewed_pairs(alloc, layout, unit, &objects),
-        UnitKind::Queue | UnitKind::Graph => {
+        UnitKind::Queue | UnitKind::Graph | UnitKind::Ordered => {
             check_objects(alloc, layout, unit, &objects)?;
             Ok(objects)
         }

@@ -1,5 +1,7 @@
 -- A unit that registers once it has taken a note of the caller.
-use Rattle.std.proofs.Common.{◌≡◌, ℕ, ◌≤◌, length, max, refl, ap, sym, ◌∙◌, subst, arith, false}
+use Rattle.std.proofs.Common.{◌≡◌, ℕ, ◌+◌, ◌<◌, ◌≤◌, length, max, refl, ap, sym, ◌∙◌, subst, arith, false}
+use Rattle.std.specs.Prelude.{Err, IfErr}
+use Rattle.std.specs.declared.result.Result.{Result}
 use Rattle.mont_base.specs.Layout.{units_of}
 use Rattle.mont_laws.specs.Records.{live_of}
 use Rattle.core_steps.specs.Notes.{last_epoch}
@@ -11,12 +13,13 @@ use Rattle.heap_rule.specs.Plays.{IsClock}
 use Rattle.heap_rule.specs.declared.views.Learnt.{Learnt}
 use Rattle.heap_rule.specs.declared.views.UnitTurn.{UnitTurn}
 use Rattle.heap_rule.specs.Views.{home_turn, learnt_more}
-use Rattle.announce.specs.Registering.{Comes, IsRegistered, IsOut}
-use Rattle.slots.specs.Books.{RegionShown}
+use Rattle.announce.specs.declared.register_refusal.RegisterRefusal.{RegisterRefusal}
+use Rattle.announce.specs.Registering.{Comes, HasMoved, IsRegistered, IsRegisteredAt, IsOut, LeavesOut}
+use Rattle.slots.specs.Books.{RegionShown, IsAtRest}
 use Rattle.slots.specs.Putting.{MayWrite}
 use Rattle.op_guard.specs.declared.guard.Guard.{Guard}
 use Rattle.op_guard.specs.Regions.{IsRunning, IsReady, KeepsUnit, region_shown}
-use Rattle.op_guard.specs.Guarding.{HasBegun}
+use Rattle.op_guard.specs.Guarding.{HasBegun, HasClosedFirst, HasLearntOf, HasMadeRoom, HasStayedOut}
 
 -- the region with another seat
 abbrev pub region_with : RegionShown → UnitShown → RegionShown
@@ -66,21 +69,16 @@ runs_out heap r seat runs out =
 pub home_out : (r : RegionShown) (seat : UnitShown) → r.seat.held.turn ≡ home_turn → IsOut r.seat seat → seat.held.turn.out ≡ false
 home_out r seat home out = ap (λ (s : UnitShown). s.held.turn.out) out.only ∙ ap (λ (t : UnitTurn). t.out) home
 
--- an operation is under way
-pub has_begun : (heap : HeapShown) (old r : RegionShown) (q : CallerShown) (need epoch : ℕ) (seat : UnitShown)
-    → IsReady heap r → KeepsUnit old r → r.seat.held.learnt ≡ learnt_more old.seat.held.learnt q.held.part
-    → need ≤ length r.books.free → (need ≤ length old.books.free → r ≡ region_shown old q)
-    → IsRegistered r.seat seat epoch → IsClock r.seat.held.learnt r.seat.held.part epoch
+-- an operation is under way, once the unit is within the epoch
+begun_within : (heap : HeapShown) (old r : RegionShown) (q : CallerShown) (need epoch steps : ℕ) (seat : UnitShown)
+    → IsReady heap r → KeepsUnit old r → need ≤ length r.books.free → Comes r.seat seat (Within epoch) steps epoch
+    → IsClock r.seat.held.learnt r.seat.held.part epoch → q.held.part.newest ≤ epoch → q.held.part.durable ≤ epoch
+    → (need ≤ length old.books.free → r.books ≡ old.books)
+    → (length old.books.free < need → HasClosedFirst old (region_with r seat) q epoch)
     → HasBegun heap old (region_with r seat) q need (guard_at r.books.unit q.held.caller epoch need)
-has_begun heap old r q need epoch seat ready keeps knows room same registered clock =
-    let steps = seat.held.steps in
-    let comes = registered.within in
+begun_within heap old r q need epoch steps seat ready keeps room comes clock newest durable same closed =
     let runs = runs_at heap r (Within epoch) steps epoch seat ready.runs comes in
     let low = clock.low in
-    let newest : max old.seat.held.learnt.newest q.held.part.newest ≤ epoch =
-    subst (λ (l : Learnt). l.newest ≤ epoch) knows clock.not_before in
-    let durable : max old.seat.held.learnt.durable q.held.part.durable ≤ epoch =
-    subst (λ (l : Learnt). l.durable ≤ epoch) knows clock.not_behind in
     let before : old.seat.held.part.durable ≤ r.seat.held.part.durable = keeps.durable in
     let known : r.seat.held.part.durable ≤ epoch = clock.after_durable in
     let entries : last_epoch r.seat.held.part.history ≤ epoch = clock.after_entries in
@@ -101,8 +99,9 @@ has_begun heap old r q need epoch seat ready keeps knows room same registered cl
         room = omega arith;
       };
       reached = record {
-        not_before = omega arith;
-        not_behind = omega arith;
+        first = low;
+        not_before = newest;
+        not_behind = durable;
         after_entries = subst (λ h. last_epoch h ≤ epoch) keeps.history entries;
         after_durable = omega arith;
       };
@@ -114,8 +113,59 @@ has_begun heap old r q need epoch seat ready keeps knows room same registered cl
         serial = keeps.serial;
         durable = subst (λ (s : UnitShown). old.seat.held.part.durable ≤ s.held.part.durable) (sym comes) before;
       };
-      enough = λ few. ap (λ (s : RegionShown). s.books) (same few);
+      enough = same;
+      reclaimed = closed;
     }
+
+-- behind room that was made
+pub has_begun : (heap : HeapShown) (old r : RegionShown) (q : CallerShown) (need epoch : ℕ) (seat : UnitShown)
+    → IsReady heap r → KeepsUnit old r → r.seat.held.learnt ≡ learnt_more old.seat.held.learnt q.held.part
+    → need ≤ length r.books.free → HasMadeRoom old r q need
+    → IsRegistered r.seat seat epoch → IsClock r.seat.held.learnt r.seat.held.part epoch
+    → HasBegun heap old (region_with r seat) q need (guard_at r.books.unit q.held.caller epoch need)
+has_begun heap old r q need epoch seat ready keeps knows room made registered clock =
+    let newest : max old.seat.held.learnt.newest q.held.part.newest ≤ epoch =
+    subst (λ (l : Learnt). l.newest ≤ epoch) knows clock.not_before in
+    let durable : max old.seat.held.learnt.durable q.held.part.durable ≤ epoch =
+    subst (λ (l : Learnt). l.durable ≤ epoch) knows clock.not_behind in
+    begun_within heap old r q need epoch seat.held.steps seat ready keeps room registered.within clock (omega arith) (omega arith)
+    (λ few. ap (λ (s : RegionShown). s.books) (made.enough few))
+    (λ few. let k = made.reclaimed few in
+    record { emptied = r; clock = k.0; reclaimed = k.1; registered = registered; books = refl })
+
+-- at an epoch that was asked for
+pub has_begun_at : (heap : HeapShown) (old : RegionShown) (q : CallerShown) (need epoch : ℕ) (seat : UnitShown)
+    → IsReady heap old → HasLearntOf old q → need ≤ length old.books.free → IsRegisteredAt old.seat seat epoch
+    → HasBegun heap old (region_with old seat) q need (guard_at old.books.unit q.held.caller epoch need)
+has_begun_at heap old q need epoch seat ready learnt room registered =
+    let clock = registered.clock in
+    let newest = clock.not_before in
+    let durable = clock.not_behind in
+    let seen = learnt.newest in
+    let known = learnt.durable in
+    begun_within heap old old q need epoch (old.seat.held.steps + 2) seat ready
+    (record { of_unit = refl; history = refl; live = λ identity. refl; identity = refl; serial = refl; durable = omega arith })
+    room registered.within clock (omega arith) (omega arith) (λ enough. refl) (λ few. absurd (omega arith))
+
+-- what a refusal leaves of the seat
+pub left_out : {T : Type 0} (old new : UnitShown) (epoch : ℕ) (answer : Result T RegisterRefusal) (why : RegisterRefusal)
+    → answer ≡ Err why → IfErr answer (λ refusal. LeavesOut old new epoch refusal) → LeavesOut old new epoch why
+left_out {T} old new epoch answer why is k =
+    subst (λ (x : Result T RegisterRefusal). IfErr x (λ refusal. LeavesOut old new epoch refusal)) is k
+
+-- and where the clock showed another one
+pub has_stayed_out : (heap : HeapShown) (old : RegionShown) (epoch clock : ℕ) (seat : UnitShown) → IsReady heap old
+    → HasMoved old.seat seat epoch clock → HasStayedOut heap old (region_with old seat) epoch clock
+has_stayed_out heap old epoch clock seat ready moved = record {
+  ready = record {
+    runs = runs_at heap old old.seat.held.part.stage (old.seat.held.steps + 3) clock seat ready.runs moved.as_before;
+    rests = subst (λ (s : UnitShown). IsAtRest s.held.part) (sym moved.as_before)
+        (record { stage = ready.rests.stage; written = ready.rests.written; writing = ready.rests.writing });
+    home = ap (λ (s : UnitShown). s.held.turn) moved.as_before ∙ ready.home;
+  };
+  books = refl;
+  moved = moved;
+}
 
 -- the same of what has these values
 pub begun_as : (heap : HeapShown) (old r now : RegionShown) (q : CallerShown) (need epoch unit by : ℕ) (seat : UnitShown)

@@ -3,13 +3,13 @@ use Rattle.std.proofs.Common.{◌≡◌, ℕ, List, [], ◌∷◌, refl, ap, ◌
 use Rattle.mont_base.specs.declared.record.Change.{Change}
 use Rattle.mont_base.specs.declared.record.Held.{Held}
 use Rattle.mont_laws.specs.declared.retiring.Retired.{Retired}
-use Rattle.heap.specs.HeapShown.{HeapShown, UnitShown}
+use Rattle.heap.specs.HeapShown.{HeapShown, UnitShown, CallerShown}
 use Rattle.heap_rule.specs.declared.views.UnitHeld.{UnitHeld}
 use Rattle.heap_rule.specs.Views.{unit_closed, unit_persisted, unit_loaded_durable}
 use Rattle.slots.specs.Books.{RegionShown, StaysOpen, Agrees}
 use Rattle.slots.specs.Putting.{IsUnfinishedAt, FirstIsUnfinished, WasCutPutting}
 use Rattle.slots.specs.Reclaiming.{IsClosing, WasCutReclaiming, unit_emptied}
-use Rattle.op_guard.specs.Regions.{IsRunning}
+use Rattle.op_guard.specs.Regions.{IsRunning, WasHalted}
 
 -- a region that stays open may still make steps
 pub stays_running : (heap : HeapShown) (old new : RegionShown) → IsRunning heap old → StaysOpen heap old new → Agrees new
@@ -50,3 +50,30 @@ turn_putting old new change epoch k = by old.books.free k.unfinished
     by : (free : List ℕ) → FirstIsUnfinished old new.seat change epoch free → new.seat.held.turn ≡ old.seat.held.turn
     by [] f = absurd f
     by (slot ∷ rest) f = turn_unfinished old.seat new.seat _ f
+
+-- ---- what is told of a unit that was halted is told from what it was before
+pub halted_since : (heap : HeapShown) (old mid new : RegionShown) (q r : CallerShown) → mid.books.unit ≡ old.books.unit
+    → mid.seat.held.part.history ≡ old.seat.held.part.history → WasHalted heap mid new q r → WasHalted heap old new q r
+halted_since heap old mid new q r unit history k = record {
+  of_heap = k.of_heap;
+  agrees = k.agrees;
+  of_unit = k.of_unit ∙ unit;
+  by = k.by;
+  clean = k.clean;
+  home = k.home;
+  history = k.history ∙ history;
+  caller = k.caller;
+}
+
+-- a put that was cut leaves the stage as it was
+stage_unfinished : (old new : UnitShown) (w : Held) → IsUnfinishedAt old new w → new.held.part.stage ≡ old.held.part.stage
+stage_unfinished old new w (inl same) = ap (λ (s : UnitShown). s.held.part.stage) same
+stage_unfinished old new w (inr k) = ap (λ (x : UnitHeld). x.part.stage) k.1.shows
+
+pub stage_putting : (old new : RegionShown) (change : Change) (epoch : ℕ) → WasCutPutting old new change epoch
+    → new.seat.held.part.stage ≡ old.seat.held.part.stage
+stage_putting old new change epoch k = by old.books.free k.unfinished
+  where
+    by : (free : List ℕ) → FirstIsUnfinished old new.seat change epoch free → new.seat.held.part.stage ≡ old.seat.held.part.stage
+    by [] f = absurd f
+    by (slot ∷ rest) f = stage_unfinished old.seat new.seat _ f

@@ -21,8 +21,8 @@ use Rattle.heap_rule.specs.Plays.{IsDurable, IsNotBeyond, HasSeenAll}
 use Rattle.heap_rule.specs.Views.{is_among, are_clean, unit_closed, unit_persisted, unit_loaded_durable}
 use Rattle.slots.specs.Books.{BooksShown, RegionShown, Agrees, IsAtRest, StaysOpen}
 use Rattle.slots.specs.Reclaiming.{HasClosed, KeepsLive, IsSound, is_due, due_at, unit_emptied}
-use Rattle.op_guard.specs.Regions.{IsRunning, IsReady, KeepsUnit, WasHalted, region_shown}
-use Rattle.op_guard.specs.Guarding.{HasRoomAt, HasNoted, IsReclaimedBy, IsFull}
+use Rattle.op_guard.specs.Regions.{IsRunning, IsReady, KeepsUnit, region_shown}
+use Rattle.op_guard.specs.Guarding.{HasRoomAt, HasNoted, HasMadeRoom, IsReclaimedBy, IsFull}
 use Rattle.op_guard.proofs.Halts.{stays_running}
 
 -- ---- the queue
@@ -163,17 +163,20 @@ keeps_shown old new q k = record {
   durable = k.durable;
 }
 
-pub halted_shown : (heap : HeapShown) (old new : RegionShown) (q r : CallerShown) → WasHalted heap (region_shown old q) new q r
-    → WasHalted heap old new q r
-halted_shown heap old new q r k = record {
-  of_heap = k.of_heap;
-  agrees = k.agrees;
-  of_unit = k.of_unit;
-  by = k.by;
-  clean = k.clean;
-  home = k.home;
-  history = k.history;
-  caller = k.caller;
+-- ---- room that was made
+-- by a note alone
+pub made_enough : (old new : RegionShown) (q : CallerShown) (need : ℕ) → new ≡ region_shown old q → need ≤ length new.books.free
+    → HasMadeRoom old new q need
+made_enough old new q need is room =
+    let same : length new.books.free ≡ length old.books.free = ap (λ (r : RegionShown). length r.books.free) is in
+    record { enough = λ _. is; reclaimed = λ few. absurd (omega arith) }
+
+-- by closing too
+pub made_emptied : (heap : HeapShown) (old new : RegionShown) (q : CallerShown) (need clock : ℕ)
+    → HasEmptied heap (region_shown old q) new clock → length old.books.free < need → HasMadeRoom old new q need
+made_emptied heap old new q need clock k few = record {
+  enough = λ room. absurd (omega arith);
+  reclaimed = λ _. (clock, reclaimed_emptied heap (region_shown old q) new clock k);
 }
 
 -- too few are free, and the caller took a note

@@ -1,6 +1,7 @@
 -- What the beginning of an operation, a change and a return leave.
 use Rattle.std.specs.Prelude.{◌≡◌, ℕ, ◌+◌, ◌<◌, ◌≤◌, Bool, true, false, List, [], length, max, slice_get, slice_index, Some, Err}
 use Rattle.std.specs.declared.result.Result.{Result}
+use Rattle.mont_base.specs.declared.constants.TheConstants.{FIRST_CLOCK}
 use Rattle.mont_base.specs.Image.{clock_of, IsRecovered}
 use Rattle.mont_base.specs.Room.{room_of}
 use Rattle.mont_base.specs.State.{State}
@@ -10,23 +11,52 @@ use Rattle.core_steps.specs.Opened.{opened_at}
 use Rattle.core_steps.specs.Sound.{base_state}
 use Rattle.heap.specs.HeapShown.{HeapShown, CallerShown}
 use Rattle.heap_rule.specs.Plays.{IsDurable, IsNotBeyond}
-use Rattle.heap_rule.specs.Views.{caller_heard, note_of_unit}
+use Rattle.heap_rule.specs.Views.{caller_heard, note_of_unit, unit_withdrew}
+use Rattle.announce.specs.Registering.{HasMoved, IsRegistered}
 use Rattle.slots.specs.Books.{RegionShown}
 use Rattle.slots.specs.Putting.{HasPut}
 use Rattle.slots.specs.Reclaiming.{HasClosed, IsSound, due_at}
 use Rattle.op_guard.specs.declared.guard.Guard.{Guard}
 use Rattle.op_guard.specs.declared.guard.GuardRefusal.{GuardRefusal}
 use Rattle.op_guard.specs.declared.guard.GuardRefusal.TheVariants.{Full, Cut}
+use Rattle.op_guard.specs.declared.guard.AtRefusal.{AtRefusal}
+use Rattle.op_guard.specs.declared.guard.AtRefusal.TheVariants.{Moved}
+use Rattle.op_guard.specs.declared.guard.AtRefusal.TheVariants as at_refusals
 use Rattle.op_guard.specs.Regions.{IsReady, IsUnderWay, KeepsUnit, WasHalted, region_shown}
 
 -- ---- begun
 -- an epoch that is not below anything that the caller has seen, nor below the unit's last, nor
 -- below the durable clock that the unit knows
 pub record IsReachedBy (q : CallerShown) (r : RegionShown) (epoch : ℕ) : Type 0 where
+  pub first : FIRST_CLOCK ≤ epoch
   pub not_before : q.held.part.newest ≤ epoch
   pub not_behind : q.held.part.durable ≤ epoch
   pub after_entries : last_epoch r.seat.held.part.history ≤ epoch
   pub after_durable : r.seat.held.part.durable ≤ epoch
+
+-- The durable clock was loaded in this call, and all that it lets be closed is closed. Of the unit
+-- nothing else changed.
+pub record IsReclaimedBy (old new : RegionShown) (clock : ℕ) : Type 0 where
+  pub closed : HasClosed old new clock (due_at clock old.books.retired)
+  pub clock_is : new.seat.held.part.durable ≡ clock
+  pub found : IsDurable (max old.seat.held.part.durable old.seat.held.learnt.durable) clock
+  pub loads : old.seat.held.steps < new.seat.held.steps
+  pub none_due : due_at clock new.books.retired ≡ []
+
+-- Room was made for so many slots: the unit's seat took a note of the caller, and where too few
+-- were free, all was closed then that the durable clock lets be closed.
+pub record HasMadeRoom (old new : RegionShown) (q : CallerShown) (need : ℕ) : Type 0 where
+  pub enough : need ≤ length old.books.free → new ≡ region_shown old q
+  pub reclaimed : length old.books.free < need
+      → (clock : ℕ) × IsReclaimedBy (region_shown old q) new clock
+
+-- the unit registered once that was closed
+pub record HasClosedFirst (old new : RegionShown) (q : CallerShown) (epoch : ℕ) : Type 0 where
+  pub emptied : RegionShown
+  pub clock : ℕ
+  pub reclaimed : IsReclaimedBy (region_shown old q) emptied clock
+  pub registered : IsRegistered emptied.seat new.seat epoch
+  pub books : new.books ≡ emptied.books
 
 pub record HasBegun
     (heap : HeapShown) (old new : RegionShown) (q : CallerShown) (need : ℕ) (g : Guard)
@@ -43,6 +73,30 @@ pub record HasBegun
   pub keeps : KeepsUnit old new
   -- slots are closed only where too few are free
   pub enough : need ≤ length old.books.free → new.books ≡ old.books
+  pub reclaimed : length old.books.free < need → HasClosedFirst old new q g.epoch
+
+-- ---- begun at an epoch that was asked for
+-- the unit's seat knows the newest epoch and the durable clock that the caller knows
+pub record HasLearntOf (r : RegionShown) (q : CallerShown) : Type 0 where
+  pub newest : q.held.part.newest ≤ r.seat.held.learnt.newest
+  pub durable : q.held.part.durable ≤ r.seat.held.learnt.durable
+
+-- The clock showed another epoch, and no operation is under way. Nothing else of the unit changed
+-- than how many steps it made, and which word it loaded last.
+pub record HasStayedOut (heap : HeapShown) (old new : RegionShown) (epoch clock : ℕ) : Type 0 where
+  pub ready : IsReady heap new
+  pub books : new.books ≡ old.books
+  pub moved : HasMoved old.seat new.seat epoch clock
+
+abbrev pub LeavesUnbegun :
+    HeapShown → RegionShown → RegionShown → CallerShown → CallerShown → ℕ → AtRefusal → Type 0
+LeavesUnbegun heap old new q r epoch (Moved clock) =
+    HasStayedOut heap old new epoch clock × (r ≡ q)
+LeavesUnbegun heap old new q r epoch at_refusals.Cut = WasHalted heap old new q r
+
+abbrev pub was_cut_at : {T : Type 0} → Result T AtRefusal → Bool
+was_cut_at (Err at_refusals.Cut) = true
+was_cut_at _ = false
 
 -- ---- full
 -- As many slots are free as the history leaves room for at the durable clock.
@@ -53,15 +107,6 @@ HasRoomAt heap r clock =
     ≡ room_of heap.opening.layout.slots
     (base_state (opened_at (clock_of heap.opening.words) states) r.books.unit)
     r.seat.held.part.history clock
-
--- The durable clock was loaded in this call, and all that it lets be closed is closed. Of the unit
--- nothing else changed.
-pub record IsReclaimedBy (old new : RegionShown) (clock : ℕ) : Type 0 where
-  pub closed : HasClosed old new clock (due_at clock old.books.retired)
-  pub clock_is : new.seat.held.part.durable ≡ clock
-  pub found : IsDurable (max old.seat.held.part.durable old.seat.held.learnt.durable) clock
-  pub loads : old.seat.held.steps < new.seat.held.steps
-  pub none_due : due_at clock new.books.retired ≡ []
 
 -- the caller took a note of the unit, and nothing else of it changed
 abbrev pub HasNoted : RegionShown → CallerShown → CallerShown → Type 0
@@ -110,9 +155,9 @@ pub record HasChanged
   pub counted : after ≡ record before { written = before.written + 1 }
   pub under_way : IsUnderWay heap after new
 
--- ---- the unit went back
+-- ---- the unit went back, and is as it was before it registered
 pub record WentBack (heap : HeapShown) (old new : RegionShown) : Type 0 where
   pub ready : IsReady heap new
   pub books : new.books ≡ old.books
-  pub records : new.seat.held.part.records ≡ old.seat.held.part.records
-  pub history : new.seat.held.part.history ≡ old.seat.held.part.history
+  pub seat : new.seat
+      ≡ record { table = old.seat.table; held = unit_withdrew old.seat.held }

@@ -50,8 +50,12 @@ pub record KeepsUnit (old new : RegionShown) : Type 0 where
   pub serial : new.books.serial ≡ old.books.serial
   pub durable : old.seat.held.part.durable ≤ new.seat.held.part.durable
 
+-- the unit is where it was in its epoch
+abbrev pub KeepsStage : RegionShown → RegionShown → Type 0
+KeepsStage old new = new.seat.held.part.stage ≡ old.seat.held.part.stage
+
 -- ---- A caller was cut in the unit, which is halted. It got no entry, and nothing was learnt. The
--- unit's list is at home.
+-- unit's list is at home. Where the unit is left within an epoch, the caller keeps which.
 pub record WasHalted
     (heap : HeapShown) (old new : RegionShown) (q r : CallerShown) : Type 0 where
   pub of_heap : IsRegionOf heap new
@@ -61,4 +65,4 @@ pub record WasHalted
   pub clean : IsTrue (are_clean (units_of heap.opening.layout) new.seat.held.clean)
   pub home : new.seat.held.turn.out ≡ false
   pub history : new.seat.held.part.history ≡ old.seat.held.part.history
-  pub caller : r ≡ record { table = q.table; held = caller_cut q.held old.books.unit }
+  pub caller : r ≡ record { table = q.table; held = caller_cut q.held new.seat.held }

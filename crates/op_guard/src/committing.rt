@@ -6,7 +6,7 @@ ghost use Rattle.heap.specs.GateAsked.{IsAskedOften};
 ghost use Rattle.heap_pass.specs.Spare.{spare_of};
 ghost use Rattle.heap_rule.specs.Views.{home_turn, unit_gave};
 ghost use Rattle.op_guard.specs.Answered.{HasCommitted, slots_of_written};
-ghost use Rattle.op_guard.specs.Regions.{IsUnderWay, IsRunning, WasHalted};
+ghost use Rattle.op_guard.specs.Regions.{IsUnderWay, IsRunning, KeepsStage, WasHalted};
 
 use crate::guard::Guard;
 use crate::halting::or_halt;
@@ -41,6 +41,7 @@ pub fn commit<G: Gate>(
     ensures kept { OnErr result (pass.new.receipts ≡ pass.old.receipts) }
     ensures cut { OnErr result (WasHalted heap.now region.old region.new pass.old.ticket
         pass.new.ticket) }
+    ensures stage { OnErr result (KeepsStage region.old region.new) }
 {
     let Guard {
         unit: _,

@@ -26,6 +26,15 @@ pub enum GuardRefusal {
     Cut,
 }
 
+/// Why no operation was begun at an epoch.
+#[derive(Clone, Copy, Debug, PartialEq, Eq)]
+pub enum AtRefusal {
+    /// The clock showed another epoch.
+    Moved { clock: Epoch },
+    /// The gate cut.
+    Cut,
+}
+
 impl From<Cut> for GuardRefusal {
     ghost from_gives = { λ _ e. e ≡ refusals.Cut };
 

@@ -11,8 +11,9 @@ mod halting;
 mod reading;
 mod writing;
 
-pub use beginning::begin;
+pub use beginning::{begin, begin_at, make_room};
 pub use committing::commit;
-pub use guard::{Guard, GuardRefusal};
+pub use guard::{AtRefusal, Guard, GuardRefusal};
+pub use halting::halt;
 pub use reading::read;
 pub use writing::{abandon, change};

@@ -2,7 +2,7 @@
 ghost use Rattle.std.specs.Prelude.{◌≡◌, ◌<◌, IfOk, OnOk, OnErr, is_err};
 ghost use Rattle.heap.specs.GateAsked.{IsAskedOften};
 ghost use Rattle.slots.specs.Changes.{CanPut};
-ghost use Rattle.op_guard.specs.Regions.{IsUnderWay, WasHalted};
+ghost use Rattle.op_guard.specs.Regions.{IsUnderWay, KeepsStage, WasHalted};
 ghost use Rattle.op_guard.specs.Guarding.{HasChanged, WentBack};
 
 use crate::guard::Guard;
@@ -33,6 +33,7 @@ pub fn change<G: Gate>(
     ensures caller { OnOk result (pass.new.ticket ≡ pass.old.ticket) }
     ensures cut { OnErr result (WasHalted heap.now region.old region.new pass.old.ticket
         pass.new.ticket) }
+    ensures stage { OnErr result (KeepsStage region.old region.new) }
 {
     let put = region.put_record(heap, change, guard.epoch, &mut pass.gate);
     let slot = or_halt(put, heap, region, &mut pass.ticket)?;

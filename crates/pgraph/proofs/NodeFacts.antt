@@ -20,6 +20,7 @@ use Rattle.mont_base.specs.State.{Ends, GraphOf, edge_cmp, touches, graph_step}
 use Rattle.mont_laws.specs.Effects.{IsOpOf}
 use Rattle.mont_laws.specs.Records.{live_of}
 use Rattle.mont_laws.specs.Structures.{Part, AtVertex, AtEdge, part_for, HasStructure}
+use Rattle.mont_laws.proofs.SameKind.{has_kind}
 use Rattle.mont_laws.proofs.Found.{IsVertexPart, IsEdgePart, part_cases}
 use Rattle.mont_laws.proofs.Keys.{one_edge}
 use Rattle.mont_laws.proofs.Members.{no_element, first_element, later_element, element_cases, kept_element, all_elements}
@@ -167,7 +168,10 @@ module _ (records : List Held) (nodes : Nodes) (holds : HoldsLive records nodes)
   edit_live b edit fits = all_live b records (effects_of nodes edit) (changes_of nodes edit) (edit_makes b edit fits)
 
   pub structure_is : (s : Shape) (u : ℕ) → kind_of s u ≡ Some unit_kinds.Graph → HasStructure s u records (GraphOf (graph_in nodes))
-  structure_is s u kind = record { of_unit = kind; things = holds.graph }
+  structure_is s u kind = record {
+    of_unit = has_kind (kind_of s u) unit_kinds.Graph (GraphOf (graph_in nodes)) kind refl;
+    things = holds.graph;
+  }
 
   -- where the same are live
   pub holds_kept : (s : Shape) (u : ℕ) → kind_of s u ≡ Some unit_kinds.Graph → (news : List Held)

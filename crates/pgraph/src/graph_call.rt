@@ -157,6 +157,7 @@ fn take_memory<G: Gate>(
     requires { Fits index.old edit.now }
     ensures ticket { pass.new.ticket ≡ pass.old.ticket }
     ensures gate { pass.new.gate ≡ pass.old.gate }
+    ensures receipts { pass.new.receipts.items ≡ pass.old.receipts.items }
     ensures changes { OnOk result (changes.new.items ≡ changes_of index.old edit.now) }
     ensures index { OnOk result (index.new ≡ prepared index.old edit.now) }
     ensures spare { OnOk result (1 ≤ spare_of pass.new.receipts) }

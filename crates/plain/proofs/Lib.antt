@@ -7,5 +7,7 @@ pub mod Lists
 pub mod Maps
 pub mod Named
 pub mod Order
+pub mod Ranges
 pub mod Recovered
+pub mod SameEntries
 pub mod Single

@@ -19,7 +19,7 @@ use Rattle.mont_base.specs.declared.record.ObjectFault.TheVariants as faults
 use Rattle.mont_base.specs.Bodies.{is_vertex_body, vertex_in, is_edge_body, edge_in}
 use Rattle.mont_base.specs.Layout.{Shape}
 use Rattle.mont_base.specs.State.{Key, Value, Ends}
-use Rattle.mont_base.specs.Structure.{names, fault_if, is_in_unit, pair_fault, has_key, is_serial, item_fault, has_serial, edge_fault, has_edge, vertex_at, lacks_end}
+use Rattle.mont_base.specs.Structure.{names, fault_if, keeps_key, pair_fault, has_key, is_serial, item_fault, has_serial, edge_fault, has_edge, vertex_at, lacks_end}
 use Rattle.plain.specs.Built.{HasNamed, AddsNamed}
 use Rattle.plain.proofs.Maps.{kept_get, kept_insert}
 
@@ -97,7 +97,7 @@ module _ {K X : Type 0} {R : K → K → Ordering} (o : IsTotalOrder R) (name : 
 
 -- ---- what the fault of an object is that names an entry and has no other fault
 module _ (lower : List Object) where
-  pub pair_told : (s : Shape) (unit : ℕ) (k : Key) (v : Value) (e : Option (Key × Value)) → e ≡ Some (k, v) → is_in_unit s unit k ≡ true
+  pub pair_told : (s : Shape) (unit : ℕ) (k : Key) (v : Value) (e : Option (Key × Value)) → e ≡ Some (k, v) → keeps_key s unit k ≡ true
       → pair_fault s unit lower e ≡ fault_if (list_any (has_key k) lower) faults.Key
   pair_told s unit k v e is kept = ap (pair_fault s unit lower) is ∙ rw kept refl
 

@@ -9,8 +9,8 @@ use Rattle.mont_base.specs.declared.record.Object.{Object}
 use Rattle.mont_base.specs.declared.record.ObjectFault.{ObjectFault}
 use Rattle.mont_base.specs.declared.kinds.UnitKind.{UnitKind}
 use Rattle.mont_base.specs.Layout.{Shape, kind_of}
-use Rattle.mont_base.specs.State.{State, edge_cmp}
-use Rattle.mont_base.specs.Structure.{IsStructure, object_fault, structure_of, vertex_at, edge_at}
+use Rattle.mont_base.specs.State.{State, Pairs, edge_cmp}
+use Rattle.mont_base.specs.Structure.{IsStructure, object_fault, structure_of, first_fault, map_fault, pairs_of, vertex_at, edge_at}
 use Rattle.plain.specs.declared.graph_parts.GraphParts.{GraphParts}
 use Rattle.plain.specs.declared.structure.BuildRefusal.{BuildRefusal}
 use Rattle.plain.specs.declared.structure.BuildRefusal.TheVariants as refusals
@@ -46,6 +46,15 @@ pub record IsFirstFault (s : Shape) (unit : ℕ) (os : List Object)
 -- the objects make some structure
 abbrev pub MakesStructure : Shape → ℕ → List Object → Type 0
 MakesStructure s unit os = (state : State) × IsStructure s unit os state
+
+-- The objects of a map or of an ordered unit have no fault and are built, or the first fault is
+-- answered.
+pub record BuildsPairs (s : Shape) (unit : ℕ) (os : List Object) (result : Result Pairs BuildRefusal)
+    : Type 0 where
+  pub sound : IfOk result (λ m. first_fault (map_fault s unit) [] os ≡ None)
+  pub made : IfOk result (λ m. m ≡ pairs_of os)
+  pub refused : (slot : ℕ) (fault : ObjectFault) → result ≡ Err (refusals.Object slot fault)
+      → first_fault (map_fault s unit) [] os ≡ Some (slot, fault)
 
 -- The objects of a unit of this kind have no fault and are built, or the first fault is answered.
 pub record BuildsKind (s : Shape) (unit : ℕ) (kind : UnitKind) (os : List Object)

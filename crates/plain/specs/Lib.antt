@@ -4,4 +4,5 @@ pub mod Callers
 pub mod Continues
 pub mod GraphCode
 pub mod Newest
+pub mod Ranges
 pub mod States

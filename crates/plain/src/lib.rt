@@ -20,6 +20,8 @@ mod image_tests;
 mod item_row;
 mod map_state;
 mod objects;
+#[cfg(test)]
+mod ordered_tests;
 mod pair_table;
 mod queue_state;
 mod recovery;
@@ -43,7 +45,7 @@ pub use contents::Contents;
 pub use graph_state::GraphState;
 pub use history::{cut_at, is_legal, state_after};
 pub use image::{record_at, records};
-pub use map_state::MapState;
+pub use map_state::{MapState, OrderedState};
 pub use objects::{live_objects, newest_of};
 pub use queue_state::QueueState;
 pub use recovery::recover;

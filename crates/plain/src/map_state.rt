@@ -1,20 +1,27 @@
-// A map unit in memory.
-ghost use Rattle.std.specs.Prelude.{◌≡◌, ◌↔◌, IsTrue, IfOk, OnOk, OnErr};
+// A map unit or an ordered unit in memory.
+ghost use Rattle.std.specs.Prelude.{◌≡◌, ◌↔◌, ◌≤◌, IsTrue, IfOk, OnOk, OnErr, length};
+ghost use Rattle.std.specs.Ordering.{is_lt, is_le};
 ghost use Rattle.std.specs.FinMap as map;
-ghost use Rattle.mont_base.specs.State.{MapOf, map_step};
+ghost use Rattle.mont_base.specs.declared.constants.TheConstants.{MOST_PAIRS};
+ghost use Rattle.mont_base.specs.State.{MapOf, key_cmp, map_step, pair_del, floor_of, rank_of, is_between, range_of};
+ghost use Rattle.plain.specs.Ranges.{key_of, pairs_between};
 
-use crate::replies::earlier_text;
-use mont_base::{Op, Reply, Text};
+use crate::replies::{earlier_text, key_found};
+use mont_base::{Op, PairList, Reply, Text};
 use std::alloc::{AllocError, Global};
 use std::collections::BTreeMap;
 use std::collections::btree_map::Iter;
 use std::marker::Model;
 
-/// A map from keys to values. Contracts see it as the finite map.
+/// A map from keys to values, which is the state of a map unit and of an ordered one. Contracts see
+/// it as the finite map.
 #[derive(Clone, Debug, Drop)]
 pub struct MapState {
     pairs: BTreeMap<Text, Text>,
 }
+
+/// The state of an ordered unit.
+pub type OrderedState = MapState;
 
 impl Model for MapState {
     ghost use Rattle.std.specs.Coded.{coded_ℕ, coded_list};
@@ -53,9 +60,18 @@ impl MapState {
         ensures err { OnErr result (self.new ≡ self.old) }
     {
         match *op {
-            Op::Put { key, value } => Ok(earlier_text(self.insert(key, value)?)),
-            Op::Get { key } => Ok(earlier_text(self.get(&key))),
-            Op::Del { key } => Ok(earlier_text(self.remove(&key))),
+            Op::Put { key, value } | Op::OPut { key, value, .. } => {
+                Ok(earlier_text(self.insert(key, value)?))
+            }
+            Op::Get { key } | Op::OGet { key, .. } => Ok(earlier_text(self.get(&key))),
+            Op::Del { key } | Op::ODel { key, .. } => Ok(self.delete(&key)),
+            Op::OFloor { key, .. } => Ok(key_found(self.floor(&key))),
+            Op::ORank { key, .. } => Ok(Reply::Count {
+                number: self.rank(&key),
+            }),
+            Op::ORange { from, to, most, .. } => Ok(Reply::Pairs {
+                number: self.count_between(&from, &to).min(most),
+            }),
             _ => Ok(Reply::Nothing),
         }
     }
@@ -84,6 +100,58 @@ impl MapState {
         self.pairs.remove(key)
     }
 
+    // Takes a key out, and answers what it had.
+    fn delete(&mut self, key: &Text) -> Reply
+        ensures reply { result ≡ (pair_del self.old key.now).reply }
+        ensures state { MapOf self.new ≡ (pair_del self.old key.now).state }
+    {
+        earlier_text(self.remove(key))
+    }
+
+    /// The greatest key that isn't above this one.
+    pub fn floor(&self, key: &Text) -> Option<Text>
+        ensures { result ≡ key_of (floor_of self.now key.now) }
+    {
+        let mut floor = None;
+        for (other, _) in self.iter() {
+            if is_at_most(other, key) {
+                floor = Some(*other);
+            }
+        }
+        floor
+    }
+
+    /// How many keys are below this one.
+    pub fn rank(&self, key: &Text) -> u64
+        ensures { result ≡ rank_of self.now key.now }
+    {
+        self.iter()
+            .filter(|(other, _)| is_below(other, key))
+            .count() as u64
+    }
+
+    /// Gives the run of a range: the first pairs, at most so many, with a key from one to another.
+    pub fn range(&self, from: &Text, to: &Text, most: u64, pairs: &mut PairList)
+        requires { most ≤ MOST_PAIRS }
+        ensures { pairs.new ≡ range_of self.now from.now to.now most }
+    {
+        *pairs = PairList::empty();
+        for (key, value) in self.iter() {
+            if pairs.len() < most && is_between(from, to, key) {
+                pairs.push(*key, *value);
+            }
+        }
+    }
+
+    // How many pairs have a key from one to another.
+    fn count_between(&self, from: &Text, to: &Text) -> u64
+        ensures { result ≡ length (pairs_between self.now from.now to.now) }
+    {
+        self.iter()
+            .filter(|(key, _)| is_between(from, to, key))
+            .count() as u64
+    }
+
     /// How many pairs there are.
     pub fn len(&self) -> u64
         ensures { result ≡ map.len self.now }
@@ -104,4 +172,25 @@ impl MapState {
     {
         self.pairs.len() == other.pairs.len() && self.pairs == other.pairs
     }
+}
+
+// Whether a key stands before another.
+fn is_below(a: &Text, b: &Text) -> bool
+    ensures { result ≡ is_lt (key_cmp a.now b.now) }
+{
+    a < b
+}
+
+// Whether a key isn't above another.
+fn is_at_most(a: &Text, b: &Text) -> bool
+    ensures { result ≡ is_le (key_cmp a.now b.now) }
+{
+    a <= b
+}
+
+// Whether a key stands from one to another, with both.
+fn is_between(from: &Text, to: &Text, key: &Text) -> bool
+    ensures { result ≡ is_between from.now to.now key.now }
+{
+    is_at_most(from, key) && is_at_most(key, to)
 }

@@ -1,12 +1,13 @@
-// The pairs that the objects of a map hold.
+// The pairs that the objects of a map or of an ordered unit hold.
 ghost use Rattle.std.specs.Prelude.{◌≡◌, []};
-ghost use Rattle.mont_base.specs.Layout.{unit_of_key};
+ghost use Rattle.mont_base.specs.declared.kinds.UnitKind.TheVariants as kinds;
+ghost use Rattle.mont_base.specs.Layout.{is_of_kind, kind_of, unit_of_key};
 ghost use Rattle.mont_base.specs.State.{key_cmp};
-ghost use Rattle.mont_base.specs.Structure.{is_in_unit, map_fault, pair_at};
+ghost use Rattle.mont_base.specs.Structure.{keeps_key, map_fault, pair_at};
 ghost use Rattle.plain.specs.Built.{HasNamed};
 
 use crate::gather::Gather;
-use mont_base::{Layout, Object, ObjectFault, Text, Unit};
+use mont_base::{Layout, Object, ObjectFault, Text, Unit, UnitKind};
 use payload::pair_in;
 use std::alloc::{AllocError, Global};
 use std::collections::BTreeMap;
@@ -50,9 +51,16 @@ impl Gather for PairTable {
     }
 }
 
-// Whether a unit keeps a key.
+// Whether a unit keeps a key: it is the map unit of the key, or an ordered unit.
 fn keeps(layout: &Layout, unit: Unit, key: &Text) -> bool
-    ensures { result ≡ is_in_unit layout.now unit key.now }
+    ensures { result ≡ keeps_key layout.now unit key.now }
 {
-    layout.maps() > 0 && layout.unit_of_key(key) == unit
+    (layout.maps() > 0 && layout.unit_of_key(key) == unit) || is_ordered(layout, unit)
+}
+
+// Whether a unit is an ordered one.
+fn is_ordered(layout: &Layout, unit: Unit) -> bool
+    ensures { result ≡ is_of_kind (kind_of layout.now unit) kinds.Ordered }
+{
+    layout.kinds().get(unit) == Some(UnitKind::Ordered)
 }

@@ -1,6 +1,7 @@
 // Replies that name what was there.
 ghost use Rattle.std.specs.Prelude.{◌≡◌};
 ghost use Rattle.mont_base.specs.State.{earlier, earlier_text};
+ghost use Rattle.plain.specs.Ranges.{key_found};
 
 use mont_base::{Reply, Text};
 
@@ -20,6 +21,16 @@ pub(crate) fn earlier_text(before: Option<Text>) -> Reply
 {
     match before {
         Some(value) => Reply::WasText { value },
+        None => Reply::Nothing,
+    }
+}
+
+// The reply that names the key that was found.
+pub(crate) fn key_found(found: Option<Text>) -> Reply
+    ensures { result ≡ key_found found }
+{
+    match found {
+        Some(key) => Reply::Key { key },
         None => Reply::Nothing,
     }
 }

@@ -292,18 +292,24 @@ fn kind_of(state: &UnitState) -> UnitKind {
         UnitState::Map { .. } => UnitKind::Map,
         UnitState::Queue { .. } => UnitKind::Queue,
         UnitState::Graph { .. } => UnitKind::Graph,
+        UnitState::Ordered { .. } => UnitKind::Ordered,
     }
 }
 
 fn empty_store(alloc: Global) -> Result<Contents, Fail> {
-    Ok(Contents::empty(alloc, layout_of(b"gmq")?)?)
+    Ok(Contents::empty(alloc, layout_of(b"gmqo")?)?)
 }
 
 #[test]
 fn an_empty_store_has_a_state_for_each_unit(rt: HostRuntime) -> Result<(), Fail> {
     let contents = empty_store(rt.alloc())?;
-    assert_eq!(rt; contents.units.len(), 3);
-    let kinds = [UnitKind::Graph, UnitKind::Map, UnitKind::Queue];
+    assert_eq!(rt; contents.units.len(), 4);
+    let kinds = [
+        UnitKind::Graph,
+        UnitKind::Map,
+        UnitKind::Queue,
+        UnitKind::Ordered,
+    ];
     for (state, kind) in contents.units.as_slice().iter().zip(kinds) {
         assert_eq!(rt; (kind_of(state), state.size()), (kind, 0));
     }

@@ -7,7 +7,7 @@ ghost use Rattle.mont_base.specs.Layout.{Shape, units_of};
 ghost use Rattle.mont_base.specs.State.{State};
 ghost use Rattle.mont_base.specs.Structure.{IsStructure};
 ghost use Rattle.plain.specs.declared.structure.BuildRefusal.TheVariants.{Memory};
-ghost use Rattle.plain.specs.Built.{IsFirstFault, MakesStructure, BuildsKind};
+ghost use Rattle.plain.specs.Built.{IsFirstFault, MakesStructure, BuildsKind, BuildsPairs};
 ghost use Rattle.plain.specs.States.{state_of};
 
 use crate::gather::gather_all;
@@ -65,6 +65,7 @@ pub fn build(
         UnitKind::Map => build_map(alloc, layout, unit, objects),
         UnitKind::Queue => build_queue(alloc, layout, unit, objects),
         UnitKind::Graph => build_graph(alloc, layout, unit, objects),
+        UnitKind::Ordered => build_ordered(alloc, layout, unit, objects),
     }
 }
 
@@ -100,12 +101,37 @@ fn build_map(
 ) -> Result<UnitState, BuildRefusal>
     ensures { BuildsKind layout unit kinds.Map objects.now result }
 {
+    let state = build_pairs(alloc, layout, unit, objects)?;
+    Ok(UnitState::Map { state })
+}
+
+// The ordered unit of the objects, unless one of them has a fault.
+fn build_ordered(
+    alloc: Global,
+    layout: Layout,
+    unit: Unit,
+    objects: &[Object],
+) -> Result<UnitState, BuildRefusal>
+    ensures { BuildsKind layout unit kinds.Ordered objects.now result }
+{
+    let state = build_pairs(alloc, layout, unit, objects)?;
+    Ok(UnitState::Ordered { state })
+}
+
+// The pairs of the objects, unless one of them has a fault.
+fn build_pairs(
+    alloc: Global,
+    layout: Layout,
+    unit: Unit,
+    objects: &[Object],
+) -> Result<MapState, BuildRefusal>
+    ensures { BuildsPairs layout unit objects.now result }
+{
     let mut table = PairTable::new(alloc, layout, unit);
     if let Some((slot, fault)) = gather_all(&mut table, objects)? {
         return Err(BuildRefusal::Object { slot, fault });
     }
-    let state = MapState::from_map(table.pairs);
-    Ok(UnitState::Map { state })
+    Ok(MapState::from_map(table.pairs))
 }
 
 // The queue of the objects, unless one of them has a fault.

@@ -143,6 +143,22 @@ fn the_first_fault_of_a_map_is_answered(rt: HostRuntime) -> Result<(), Fail> {
     are_answered(&rt, rt.alloc(), b"mqm", 2, &OF_ODD_KEYS)
 }
 
+// An ordered unit keeps all keys.
+static OF_ALL_KEYS: [Row; 4] = [
+    (&[FOUR, THREE, TWO], None),
+    (&[LONG, THREE], None),
+    (&[FOUR, THREE, FOUR], Some((4, ObjectFault::Key))),
+    (
+        &[FOUR, THREE, [25, 0, 0, 0, 0, 0, 0, 0]],
+        Some((4, ObjectFault::Text)),
+    ),
+];
+
+#[test]
+fn the_first_fault_of_an_ordered_unit_is_answered(rt: HostRuntime) -> Result<(), Fail> {
+    are_answered(&rt, rt.alloc(), b"mqom", 2, &OF_ALL_KEYS)
+}
+
 // Items behind their serials.
 const THIRD: Body = [3, 30, 0, 0, 0, 0, 0, 0];
 

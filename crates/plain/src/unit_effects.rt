@@ -8,16 +8,16 @@ use crate::queue_state::QueueState;
 use mont_base::{Effect, Op, Thing};
 use std::alloc::{AllocError, Global};
 
-// What an operation does to a map.
+// What an operation does to a map or an ordered unit.
 pub(crate) fn on_map(alloc: Global, state: &MapState, op: &Op) -> Result<Vec<Effect>, AllocError>
     ensures { IfOk result (λ v. v.items ≡ (map_step state.now op.now).effects) }
 {
     match *op {
-        Op::Put { key, value } => {
+        Op::Put { key, value } | Op::OPut { key, value, .. } => {
             let was = state.get(&key).is_some();
             set(alloc, was, Thing::Pair { key, value })
         }
-        Op::Del { key } => match state.get(&key) {
+        Op::Del { key } | Op::ODel { key, .. } => match state.get(&key) {
             Some(value) => removal(alloc, Thing::Pair { key, value }),
             None => Ok(Vec::new(alloc)),
         },

@@ -4,7 +4,7 @@ ghost use Rattle.mont_base.specs.State.{empty_state, size_of, step};
 ghost use Rattle.plain.specs.States.{state_of};
 
 use crate::graph_state::GraphState;
-use crate::map_state::MapState;
+use crate::map_state::{MapState, OrderedState};
 use crate::queue_state::QueueState;
 use crate::unit_effects;
 use mont_base::{Effect, Op, Reply, UnitKind};
@@ -16,6 +16,7 @@ pub enum UnitState {
     Map { state: MapState },
     Queue { state: QueueState },
     Graph { state: GraphState },
+    Ordered { state: OrderedState },
 }
 
 impl UnitState {
@@ -33,6 +34,9 @@ impl UnitState {
             UnitKind::Graph => UnitState::Graph {
                 state: GraphState::new(alloc),
             },
+            UnitKind::Ordered => UnitState::Ordered {
+                state: OrderedState::new(alloc),
+            },
         }
     }
 
@@ -45,6 +49,7 @@ impl UnitState {
     {
         match self {
             UnitState::Map { state } => state.apply(op),
+            UnitState::Ordered { state } => state.apply(op),
             UnitState::Queue { state } => state.apply(op),
             UnitState::Graph { state } => state.apply(op),
         }
@@ -56,7 +61,9 @@ impl UnitState {
         ensures { IfOk result (λ v. v.items ≡ (step (state_of self.now) op.now).effects) }
     {
         match self {
-            UnitState::Map { state } => unit_effects::on_map(alloc, state, op),
+            UnitState::Map { state } | UnitState::Ordered { state } => {
+                unit_effects::on_map(alloc, state, op)
+            }
             UnitState::Queue { state } => unit_effects::on_queue(alloc, state, op),
             UnitState::Graph { state } => unit_effects::on_graph(alloc, state, op),
         }
@@ -67,7 +74,7 @@ impl UnitState {
         ensures { result ≡ size_of (state_of self.now) }
     {
         match self {
-            UnitState::Map { state } => state.len(),
+            UnitState::Map { state } | UnitState::Ordered { state } => state.len(),
             UnitState::Queue { state } => state.len(),
             UnitState::Graph { state } => { state.vertices_len() + state.edges_len() }
         }

@@ -20,6 +20,7 @@ use Rattle.mont_laws.specs.Effects.{HasLiveSerial, IsLeastSerial}
 use Rattle.mont_laws.specs.Records.{live_of, live_if}
 use Rattle.mont_laws.specs.Shows.{live_things, Shows}
 use Rattle.mont_laws.specs.Structures.{item_for, HasItems, HasStructure}
+use Rattle.mont_laws.proofs.SameKind.{has_kind}
 use Rattle.mont_laws.proofs.Holders.{fitted, live_holder, held_live}
 use Rattle.mont_laws.proofs.Keys.{one_number}
 use Rattle.mont_laws.proofs.Members.{no_element, first_element, later_element, element_cases, pairs_head, pairs_tail, pair_cases, all_elements}
@@ -139,7 +140,10 @@ module _ (rs : List Held) (items : List Queued) (k : AreLiveItems rs items) wher
       (items_from rs (serials_of items) (record { sorted = sorted_serials items k.rising; shown = item_shown }))
 
   pub structure_shown : (s : Shape) (u : ℕ) → kind_of s u ≡ Some unit_kinds.Queue → HasStructure s u rs (QueueOf (items_in items))
-  structure_shown s u queue = record { of_unit = queue; things = items_shown }
+  structure_shown s u queue = record {
+    of_unit = has_kind (kind_of s u) unit_kinds.Queue (QueueOf (items_in items)) queue refl;
+    things = items_shown;
+  }
 
   -- a live serial is that of an item
   pub serial_stands : (serial : ℕ) → HasLiveSerial rs serial → (q : Queued) × Contains items q × (q.serial ≡ serial)

@@ -20,7 +20,8 @@ use Rattle.mont_base.specs.Structure.{is_serial, IsStructure}
 use Rattle.mont_base.specs.Versions.{live_objects, object_of, is_live}
 use Rattle.mont_laws.specs.Records.{AreApart, live_of}
 use Rattle.mont_laws.specs.Shows.{live_things, Shows}
-use Rattle.mont_laws.specs.Structures.{item_for, HasStructure, HasItems, kind_of_state}
+use Rattle.mont_laws.specs.Structures.{item_for, HasStructure, HasItems}
+use Rattle.mont_laws.proofs.SameKind.{state_fits}
 use Rattle.mont_laws.proofs.Agreement.{objects_show}
 use Rattle.mont_laws.proofs.Apart.{apart_filter}
 use Rattle.mont_laws.proofs.Holders.{fitted, sure_fit, held_live}
@@ -194,10 +195,9 @@ module _ (rs : List Held) (apart : AreApart rs) (value_of : ℕ → Option ℕ) 
 -- the objects of a queue make a queue
 queue_shown : (s : Shape) (u : ℕ) (rs : List Held) (state : State) → kind_of s u ≡ Some unit_kinds.Queue → HasStructure s u rs state
     → (items : List ℕ) × HasItems rs items
-queue_shown s u rs (MapOf m) queue h = let e = same_Some (kind_of_state (MapOf m)) unit_kinds.Queue (sym h.of_unit ∙ queue) in absurd (cc e)
+queue_shown s u rs (MapOf m) queue h = let e = state_fits (kind_of s u) unit_kinds.Queue (MapOf m) queue h.of_unit in absurd (cc)
 queue_shown s u rs (QueueOf items) queue h = (items, h.things)
-queue_shown s u rs (GraphOf g) queue h = let e = same_Some (kind_of_state (GraphOf g)) unit_kinds.Queue (sym h.of_unit ∙ queue) in
-    absurd (cc e)
+queue_shown s u rs (GraphOf g) queue h = let e = state_fits (kind_of s u) unit_kinds.Queue (GraphOf g) queue h.of_unit in absurd (cc)
 
 pub items_sorted : (s : Shape) (u : ℕ) (rs : List Held) (state : State) (items : List Queued) → AreApart rs
     → kind_of s u ≡ Some unit_kinds.Queue → IsStructure s u (live_objects rs) state

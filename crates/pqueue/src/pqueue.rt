@@ -140,6 +140,7 @@ fn reserve<G: Gate>(
     ensures items { items.new.items ≡ items.old.items }
     ensures ticket { pass.new.ticket ≡ pass.old.ticket }
     ensures gate { pass.new.gate ≡ pass.old.gate }
+    ensures receipts { pass.new.receipts.items ≡ pass.old.receipts.items }
     ensures room { IsTrue adds
         → OnOk result (deque_len items.new < deque_capacity items.new) }
     ensures spare { OnOk result (1 ≤ spare_of pass.new.receipts) }

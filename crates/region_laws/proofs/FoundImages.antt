@@ -8,11 +8,10 @@ use Rattle.std.proofs.lemmas.Bool.Decides.{nat_tests}
 use Rattle.std.proofs.lemmas.List.Elements.{All-cons, All-nil}
 use Rattle.std.proofs.lemmas.List.Kept.{AllPairs-filter}
 use Rattle.mont_base.specs.declared.constants.TheConstants.{LAST}
-use Rattle.mont_base.specs.declared.kinds.UnitKind.TheVariants as unit_kinds
 use Rattle.mont_base.specs.declared.record.Held.{Held}
 use Rattle.mont_base.specs.Bodies.{item_in, is_clean}
 use Rattle.mont_base.specs.Image.{slots_of, records_of, record_at, record_read, words_at, cut_of, epoch_at, IsWellFormed}
-use Rattle.mont_base.specs.Layout.{Shape, units_of, total_of, unit_of_slot, is_of_kind}
+use Rattle.mont_base.specs.Layout.{Shape, units_of, total_of, unit_of_slot, kind_of}
 use Rattle.mont_base.specs.Record.{reading}
 use Rattle.mont_base.specs.State.{State, MapOf, QueueOf, GraphOf}
 use Rattle.mont_base.specs.Structure.{is_serial}
@@ -25,6 +24,7 @@ use Rattle.mont_laws.proofs.Agreement.{objects_show}
 use Rattle.mont_laws.proofs.Holders.{fitted, held_live}
 use Rattle.mont_laws.proofs.LiveObjects.{live_records, live_record}
 use Rattle.mont_laws.proofs.Mapped.{range_rises}
+use Rattle.mont_laws.proofs.SameKind.{is_queue_by_state}
 use Rattle.mont_laws.proofs.Members.{first_element, later_element, kept_element, all_elements}
 use Rattle.mont_laws.proofs.SettledWords.{well_formed_slots_are_read}
 use Rattle.mont_laws.proofs.UnitRecords.{read_of_listed}
@@ -110,10 +110,10 @@ module _ (s : Shape) (image : List ℕ) (unit : ℕ) (well : IsWellFormed s imag
 
   serials_found : (state : State) → IsTrue (is_queue s unit) → HasStructure s unit (records_of s image unit) state
       → All (λ n. n ≤ LAST) (live_serials (records_of s image unit))
-  serials_found (MapOf m) queue h = absurd (let e = ap (λ o. is_of_kind o unit_kinds.Queue) h.of_unit in cc (e, queue))
+  serials_found (MapOf m) queue h = absurd (let e = is_queue_by_state (kind_of s unit) (MapOf m) h.of_unit in cc (e, queue))
   serials_found (QueueOf items) queue h = serials_last (records_of s image unit) apart (finite.get h.things.0) h.things.1
       (live_records (records_of s image unit)) (λ r c. c)
-  serials_found (GraphOf g) queue h = absurd (let e = ap (λ o. is_of_kind o unit_kinds.Queue) h.of_unit in cc (e, queue))
+  serials_found (GraphOf g) queue h = absurd (let e = is_queue_by_state (kind_of s unit) (GraphOf g) h.of_unit in cc (e, queue))
 
   image_found : AreFound s unit (records_of s image unit) (slots_beyond s image unit)
   image_found = record {

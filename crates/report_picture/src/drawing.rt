@@ -180,7 +180,7 @@ fn contents_lines(alloc: Global, report: &Report) -> Result<Vec<String>, AllocEr
 // What a unit holds, as far as it is shown.
 fn push_held(line: &mut String, contents: &Contents, unit: u64) -> Result<(), AllocError> {
     match contents.units.get(unit) {
-        Some(UnitState::Map { state }) => {
+        Some(UnitState::Map { state } | UnitState::Ordered { state }) => {
             let mut shown = 0;
             for (key, value) in state.iter() {
                 if shown < MOST_SHOWN {

@@ -20,6 +20,7 @@ pub(crate) fn kind_word(kind: UnitKind) -> &'static str {
         UnitKind::Map => "map",
         UnitKind::Queue => "queue",
         UnitKind::Graph => "graph",
+        UnitKind::Ordered => "ordered",
     }
 }
 
@@ -59,7 +60,33 @@ fn push_op(label: &mut String, op: &Op) -> Result<(), AllocError> {
         Op::DelE { from, to, .. } => write!(label, "dele {from} {to}"),
         Op::Vertex { vertex, .. } => write!(label, "vertex {vertex}"),
         Op::Degree { vertex, .. } => write!(label, "degree {vertex}"),
+        Op::OPut { key, value, .. } => {
+            label.push_str("oput ")?;
+            push_pair(label, key, value)
+        }
+        Op::OGet { key, .. } => push_asked(label, "oget ", key),
+        Op::ODel { key, .. } => push_asked(label, "odel ", key),
+        Op::OFloor { key, .. } => push_asked(label, "ofloor ", key),
+        Op::ORank { key, .. } => push_asked(label, "orank ", key),
+        Op::ORange { from, to, most, .. } => {
+            label.push_str("orange ")?;
+            push_pair(label, from, to)?;
+            write!(label, " {most}")
+        }
     }
+}
+
+// An operation on a key.
+fn push_asked(label: &mut String, name: &str, key: &Text) -> Result<(), AllocError> {
+    label.push_str(name)?;
+    push_text(label, key)
+}
+
+// Two texts.
+fn push_pair(label: &mut String, first: &Text, second: &Text) -> Result<(), AllocError> {
+    push_text(label, first)?;
+    label.push_str(" ")?;
+    push_text(label, second)
 }
 
 fn push_reply(label: &mut String, reply: &Reply) -> Result<(), AllocError> {
@@ -72,6 +99,11 @@ fn push_reply(label: &mut String, reply: &Reply) -> Result<(), AllocError> {
         }
         Reply::Count { number } => write!(label, " -&gt; {number}"),
         Reply::NoEnds => label.push_str(" -&gt; no ends"),
+        Reply::Key { key } => {
+            label.push_str(" -&gt; ")?;
+            push_text(label, key)
+        }
+        Reply::Pairs { number } => write!(label, " -&gt; {number} pairs"),
     }
 }
 

@@ -15,12 +15,13 @@ use Rattle.mont_base.specs.declared.record.Held.{Held}
 use Rattle.mont_base.specs.Bodies.{pair_body}
 use Rattle.mont_base.specs.Layout.{Shape}
 use Rattle.mont_base.specs.State.{Key, Value, Pairs, key_cmp, set_effects, map_step, map_del}
+use Rattle.mont_base.specs.Structure.{keeps_key}
 use Rattle.mont_base.specs.Versions.{newest_of}
 use Rattle.mont_laws.specs.Effects.{IsEffect, AreEffects, IsOpOf, IsNextVersion}
 use Rattle.mont_laws.specs.Records.{live_if, live_of}
 use Rattle.mont_laws.specs.Shows.{Shows}
 use Rattle.mont_laws.specs.Structures.{pair_for, HasPairs}
-use Rattle.mont_laws.proofs.Bodies.{pair_back, pair_fits}
+use Rattle.mont_laws.proofs.Bodies.{own_key, ordered_key, IsKeptPair, kept_pair, pair_back, pair_fits}
 use Rattle.mont_laws.proofs.Edits.{next_above, no_zip, one_zip}
 use Rattle.mont_laws.proofs.Keys.{one_text, texts_exact, is_some_not, insert_update, remove_update}
 use Rattle.mont_laws.proofs.Newest.{IsAbove, newest_push}
@@ -97,65 +98,71 @@ module _ (s : Shape) (unit : ℕ) (rs : List Held) (places : Places) (holds : Ho
         → HoldsLiveKeys s unit (rs ++ ws) (places_behind places op (slot_of_one ws))
     one op ws w is h = subst (λ (zs : List Held). HoldsLiveKeys s unit (rs ++ zs) (places_behind places op (slot_of_one zs))) (sym is) h
 
-    put_edit : (k : Key) (v : Value) (w : Held) → IsOpOf s unit (ops.Put k v) → (t : Bool) → finite.contains_key pairs k ≡ t
+    put_edit : (k : Key) (v : Value) (w : Held) → IsKeptPair s unit k v → (t : Bool) → finite.contains_key pairs k ≡ t
         → AreEffects unit rs (set_effects t (Pair k v)) (w ∷ []) → IsKeyEdit k (Some w.slot) w
     put_edit k v w op true e are =
         let h = are.0.writes in
         let body : pair_for s unit w.body ≡ Some (k, v) = ap (pair_for s unit) h.2
-        ∙ pair_fits s unit k v (pair_body k v) op.of_unit (pair_back k v op.texts.0 op.texts.1) in
+        ∙ pair_fits s unit k v (pair_body k v) op.kept (pair_back k v op.key op.value) in
         record {
           above = next_above (Pair k v) h.1;
           leaves = rw h.0 (ap (λ (o : Option (Key × Value)). Some (key_in_slot w.slot o)) body);
-          finds = finds_last k v h.1.named.0 w h.1 (pair_fits s unit k h.1.named.0 h.1.last.body op.of_unit h.1.named.1);
+          finds = finds_last k v h.1.named.0 w h.1 (pair_fits s unit k h.1.named.0 h.1.last.body op.kept h.1.named.1);
         }
     put_edit k v w op false e are =
         let h = are.0.writes in
         let body : pair_for s unit w.body ≡ Some (k, v) = ap (pair_for s unit) h.2
-        ∙ pair_fits s unit k v (pair_body k v) op.of_unit (pair_back k v op.texts.0 op.texts.1) in
+        ∙ pair_fits s unit k v (pair_body k v) op.kept (pair_back k v op.key op.value) in
         record {
           above = rw h.1.unused tt;
           leaves = rw h.0 (ap (λ (o : Option (Key × Value)). Some (key_in_slot w.slot o)) body);
           finds = inl (rw h.1.unused refl, no_place s unit rs places holds pairs shown k (is_some_not (finite.get pairs k) e));
         }
 
-    put_follows : (k : Key) (v : Value) (ws : List Held) → IsOpOf s unit (ops.Put k v) → (t : Bool) → finite.contains_key pairs k ≡ t
+    -- an operation that sets a key
+    put_follows : (op : Op) (k : Key) (v : Value) (ws : List Held) → IsKeptPair s unit k v
+        → ((slot : ℕ) → places_behind places op (Some slot) ≡ finite.insert places k slot) → (t : Bool) → finite.contains_key pairs k ≡ t
         → AreEffects unit rs (set_effects t (Pair k v)) ws
-        → HoldsLiveKeys s unit (rs ++ ws) (places_behind places (ops.Put k v) (slot_of_one ws))
-    put_follows k v ws op t e are = by t e are
+        → HoldsLiveKeys s unit (rs ++ ws) (places_behind places op (slot_of_one ws))
+    put_follows op k v ws kept puts t e are = by t e are
       where
         put : (w : Held) → ws ≡ w ∷ [] → IsKeyEdit k (Some w.slot) w
-            → HoldsLiveKeys s unit (rs ++ ws) (places_behind places (ops.Put k v) (slot_of_one ws))
-        put w is edit = one (ops.Put k v) ws w is
-            (edited k (Some w.slot) w (finite.insert places k w.slot) edit (insert_update nat_list_cmp_total texts_exact places k w.slot))
+            → HoldsLiveKeys s unit (rs ++ ws) (places_behind places op (slot_of_one ws))
+        put w is edit = one op ws w is (subst (HoldsLiveKeys s unit (rs ++ w ∷ [])) (sym (puts w.slot))
+            (edited k (Some w.slot) w (finite.insert places k w.slot) edit (insert_update nat_list_cmp_total texts_exact places k w.slot)))
 
         by : (t : Bool) → finite.contains_key pairs k ≡ t → AreEffects unit rs (set_effects t (Pair k v)) ws
-            → HoldsLiveKeys s unit (rs ++ ws) (places_behind places (ops.Put k v) (slot_of_one ws))
+            → HoldsLiveKeys s unit (rs ++ ws) (places_behind places op (slot_of_one ws))
         by true e are = let b = one_zip (IsEffect unit rs) (Replaces (Pair k v)) ws are in
-            put b.0 b.1 (put_edit k v b.0 op true e (b.2, tt))
+            put b.0 b.1 (put_edit k v b.0 kept true e (b.2, tt))
         by false e are = let b = one_zip (IsEffect unit rs) (Inserts (Pair k v)) ws are in
-            put b.0 b.1 (put_edit k v b.0 op false e (b.2, tt))
+            put b.0 b.1 (put_edit k v b.0 kept false e (b.2, tt))
 
-    del_follows : (k : Key) (ws : List Held) → IsOpOf s unit (ops.Del k) → (o : Option Value)
-        → AreEffects unit rs (map_del pairs k o).effects ws
-        → HoldsLiveKeys s unit (rs ++ ws) (places_behind places (ops.Del k) (slot_of_one ws))
-    del_follows k ws op None are = unchanged ws are (ops.Del k) refl
-    del_follows k ws op (Some v) are =
+    -- and one that removes it
+    del_follows : (op : Op) (k : Key) (ws : List Held) → keeps_key s unit k ≡ true
+        → ((slot : ℕ) → places_behind places op (Some slot) ≡ finite.remove places k) → places_behind places op None ≡ places
+        → (o : Option Value) → AreEffects unit rs (map_del pairs k o).effects ws
+        → HoldsLiveKeys s unit (rs ++ ws) (places_behind places op (slot_of_one ws))
+    del_follows op k ws kept dels stays None are = unchanged ws are op stays
+    del_follows op k ws kept dels stays (Some v) are =
         let b = one_zip (IsEffect unit rs) (Removes (Pair k v)) ws are in
         let h = b.2.writes in
         let edit : IsKeyEdit k None b.0 = record {
           above = next_above (Pair k v) h.1;
           leaves = rw h.0 refl;
-          finds = finds_last k v h.1.named.0 b.0 h.1 (pair_fits s unit k h.1.named.0 h.1.last.body op.of_unit h.1.named.1);
+          finds = finds_last k v h.1.named.0 b.0 h.1 (pair_fits s unit k h.1.named.0 h.1.last.body kept h.1.named.1);
         } in
-        one (ops.Del k) ws b.0 b.1
-        (edited k None b.0 (finite.remove places k) edit (remove_update nat_list_cmp_total texts_exact places k))
+        one op ws b.0 b.1 (subst (HoldsLiveKeys s unit (rs ++ b.0 ∷ [])) (sym (dels b.0.slot))
+        (edited k None b.0 (finite.remove places k) edit (remove_update nat_list_cmp_total texts_exact places k)))
 
     -- the index follows what an operation wrote
     pub keys_follow : (op : Op) (ws : List Held) → IsOpOf s unit op → AreEffects unit rs (map_step pairs op).effects ws
         → HoldsLiveKeys s unit (rs ++ ws) (places_behind places op (slot_of_one ws))
-    keys_follow (ops.Put k v) ws op are = put_follows k v ws op (finite.contains_key pairs k) refl are
+    keys_follow (ops.Put k v) ws op are = put_follows (ops.Put k v) k v ws (kept_pair s unit k v (own_key s unit k op.of_unit) op.texts)
+        (λ slot. refl) (finite.contains_key pairs k) refl are
     keys_follow (ops.Get k) ws op are = unchanged ws are (ops.Get k) refl
-    keys_follow (ops.Del k) ws op are = del_follows k ws op (finite.get pairs k) are
+    keys_follow (ops.Del k) ws op are =
+        del_follows (ops.Del k) k ws (own_key s unit k op.of_unit) (λ slot. refl) refl (finite.get pairs k) are
     keys_follow (ops.Enq unit item) ws op are = unchanged ws are (ops.Enq unit item) refl
     keys_follow (ops.Deq unit) ws op are = unchanged ws are (ops.Deq unit) refl
     keys_follow (ops.Len unit) ws op are = unchanged ws are (ops.Len unit) refl
@@ -165,3 +172,11 @@ module _ (s : Shape) (unit : ℕ) (rs : List Held) (places : Places) (holds : Ho
     keys_follow (ops.DelE unit from to) ws op are = unchanged ws are (ops.DelE unit from to) refl
     keys_follow (ops.Vertex unit vertex) ws op are = unchanged ws are (ops.Vertex unit vertex) refl
     keys_follow (ops.Degree unit vertex) ws op are = unchanged ws are (ops.Degree unit vertex) refl
+    keys_follow (ops.OPut u k v) ws op are = put_follows (ops.OPut u k v) k v ws
+        (kept_pair s unit k v (ordered_key s u unit k op.of_unit) op.texts) (λ slot. refl) (finite.contains_key pairs k) refl are
+    keys_follow (ops.OGet u k) ws op are = unchanged ws are (ops.OGet u k) refl
+    keys_follow (ops.ODel u k) ws op are =
+        del_follows (ops.ODel u k) k ws (ordered_key s u unit k op.of_unit) (λ slot. refl) refl (finite.get pairs k) are
+    keys_follow (ops.OFloor u k) ws op are = unchanged ws are (ops.OFloor u k) refl
+    keys_follow (ops.ORank u k) ws op are = unchanged ws are (ops.ORank u k) refl
+    keys_follow (ops.ORange u from to most) ws op are = unchanged ws are (ops.ORange u from to most) refl

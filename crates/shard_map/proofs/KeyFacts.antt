@@ -7,9 +7,10 @@ use Rattle.std.specs.Ordering.{eq_by_cmp}
 use Rattle.std.proofs.lemmas.Bool.Decides.{nat_tests}
 use Rattle.std.proofs.lemmas.Option.{same_Some}
 use Rattle.mont_base.specs.declared.record.Held.{Held}
+use Rattle.mont_base.specs.declared.kinds.UnitKind.{UnitKind}
 use Rattle.mont_base.specs.declared.kinds.UnitKind.TheVariants as unit_kinds
-use Rattle.mont_base.specs.Layout.{Shape, kind_of}
-use Rattle.mont_base.specs.State.{State, MapOf, QueueOf, GraphOf, Key, Value, Pairs, key_cmp}
+use Rattle.mont_base.specs.Layout.{Shape, kind_of, is_of_kind, code_of}
+use Rattle.mont_base.specs.State.{State, MapOf, QueueOf, GraphOf, Graph, Key, Value, Pairs, key_cmp, is_kind_of}
 use Rattle.mont_base.specs.Structure.{pairs_of}
 use Rattle.mont_base.specs.Versions.{live_objects}
 use Rattle.mont_laws.specs.Records.{AreApart, live_of}
@@ -22,9 +23,11 @@ use Rattle.mont_laws.proofs.Made.{entries_shown, made_pairs}
 use Rattle.mont_laws.proofs.Members.{no_element, element_cases, first_element, later_element}
 use Rattle.mont_laws.proofs.Apart.{same_slot}
 use Rattle.mont_laws.proofs.Newest.{IsNewest, newest_is}
+use Rattle.mont_laws.proofs.SameKind.{maps_no_queues, maps_no_graphs}
 use Rattle.index_kit.specs.Index.{Places}
 use Rattle.slots.specs.Books.{record_in}
 use Rattle.shard_map.specs.LiveKeys.{key_in_slot, key_of_live, live_keys, HoldsLiveKeys}
+use Rattle.shard_map.specs.MapShard.{KeepsPairs}
 
 -- ---- the record of a slot
 -- what is in a slot is among the records, and there
@@ -197,9 +200,26 @@ module _ (s : Shape) (unit : ℕ) (rs : List Held) where
           let b = entries_shown (eq_by_cmp key_cmp) one_text (pair_for s unit) rs apart value_by pairs_shown in
           made_pairs s unit rs b.0 b.1 apart
 
--- the state of a map unit is a map
-pub map_state : (s : Shape) (u : ℕ) (rs : List Held) (state : State) → kind_of s u ≡ Some unit_kinds.Map → HasStructure s u rs state
+-- ---- units that keep pairs
+pub may_have : (o : Option UnitKind) (m : Pairs) → KeepsPairs o → is_kind_of o (MapOf m) ≡ true
+may_have None m h = absurd h
+may_have (Some kind) m h = h
+
+pub no_queue : (o : Option UnitKind) → KeepsPairs o → is_of_kind o unit_kinds.Queue ≡ false
+no_queue None h = absurd h
+no_queue (Some kind) h = maps_no_queues (code_of kind) h
+
+no_items : (o : Option UnitKind) (items : List ℕ) → KeepsPairs o → is_kind_of o (QueueOf items) ≡ true → ⊥
+no_items None items h e = h
+no_items (Some kind) items h e = let f = maps_no_queues (code_of kind) h in cc
+
+no_parts : (o : Option UnitKind) (g : Graph) → KeepsPairs o → is_kind_of o (GraphOf g) ≡ true → ⊥
+no_parts None g h e = h
+no_parts (Some kind) g h e = let f = maps_no_graphs (code_of kind) h in cc
+
+-- their state is a map
+pub map_state : (s : Shape) (u : ℕ) (rs : List Held) (state : State) → KeepsPairs (kind_of s u) → HasStructure s u rs state
     → (m : Pairs) × (state ≡ MapOf m) × HasPairs s u rs m
-map_state s u rs (MapOf m) e h = (m, refl, h.things)
-map_state s u rs (QueueOf items) e h = let f = h.of_unit in absurd (cc)
-map_state s u rs (GraphOf graph) e h = let f = h.of_unit in absurd (cc)
+map_state s u rs (MapOf m) k h = (m, refl, h.things)
+map_state s u rs (QueueOf items) k h = absurd (no_items (kind_of s u) items k h.of_unit)
+map_state s u rs (GraphOf graph) k h = absurd (no_parts (kind_of s u) graph k h.of_unit)

@@ -13,7 +13,7 @@ use Rattle.mont_base.specs.declared.record.Object.{Object}
 use Rattle.mont_base.specs.Bodies.{pair_in}
 use Rattle.mont_base.specs.Layout.{Shape}
 use Rattle.mont_base.specs.State.{Key, Value, Pairs, key_cmp}
-use Rattle.mont_base.specs.Structure.{pair_at, is_in_unit}
+use Rattle.mont_base.specs.Structure.{pair_at, keeps_key}
 use Rattle.mont_base.specs.Versions.{object_of, live_objects}
 use Rattle.mont_laws.specs.Records.{AreApart, live_of}
 use Rattle.mont_laws.specs.Shows.{live_things}
@@ -152,7 +152,7 @@ module _ (s : Shape) (unit : ℕ) (rs : List Held) (apart : AreApart rs) (pairs 
         live = live;
         in_slot = ap (λ (o : Object). o.slot) c.2 ∙ b.in_slot;
         value = b.value;
-        holds = sure_fit (λ (p : Key × Value). is_in_unit s unit p.0) (pair_in c.0.body) (key, b.value)
+        holds = sure_fit (λ (p : Key × Value). keeps_key s unit p.0) (pair_in c.0.body) (key, b.value)
             (ap pair_at c.2 ∙ b.holds)
             (λ e. shown.readable c.0.label.identity (held_live (pair_for s unit) rs c.0.label.identity c.0 live ∙ ap Some e));
       }
@@ -165,7 +165,7 @@ module _ (s : Shape) (unit : ℕ) (rs : List Held) (apart : AreApart rs) (pairs 
   found i key slot e =
       let k : KeptAt s unit rs i key slot = kept_at s unit rs i key slot e in
       let object = object_of_record (live_records rs) k.kept (record_live rs i k.kept k.live) in
-      let read = (fitted (λ (p : Key × Value). is_in_unit s unit p.0) (pair_in k.kept.body) (key, k.value) k.holds).0 in
+      let read = (fitted (λ (p : Key × Value). keeps_key s unit p.0) (pair_in k.kept.body) (key, k.value) k.holds).0 in
       let there = some_there (finite.get places key) (h.each (object_of k.kept) (key, k.value) object read) in
       let b : RecordAt key there.0 = record_at key there.0 (h.only key there.0 there.1) in
       let one : i ≡ b.kept.label.identity = shown.once i b.kept.label.identity key k.value b.value

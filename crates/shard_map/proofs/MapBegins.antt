@@ -1,8 +1,7 @@
 -- A map unit as it begins.
 use Rattle.std.proofs.Common.{◌≡◌, ℕ, List, sym, subst}
-use Rattle.std.specs.Prelude.{Some, None}
+use Rattle.std.specs.Prelude.{None}
 use Rattle.std.specs.FinMap as finite
-use Rattle.mont_base.specs.declared.kinds.UnitKind.TheVariants as unit_kinds
 use Rattle.mont_base.specs.declared.record.Held.{Held}
 use Rattle.mont_base.specs.declared.record.Object.{Object}
 use Rattle.mont_base.specs.Layout.{Shape, kind_of}
@@ -16,16 +15,16 @@ use Rattle.index_kit.specs.Index.{Places}
 use Rattle.slots.specs.Books.{RegionShown, Agrees}
 use Rattle.shard_map.specs.LiveKeys.{HoldsLiveKeys}
 use Rattle.shard_map.specs.MapBeginning.{HasKeysOf}
-use Rattle.shard_map.specs.MapShard.{IsMapUnit}
+use Rattle.shard_map.specs.MapShard.{IsMapUnit, KeepsPairs}
 use Rattle.shard_map.proofs.KeyFacts.{map_state}
 use Rattle.shard_map.proofs.KeysFilled.{keys_of_none, keys_filled}
 
 -- its index has the live keys
-pub unit_with : (r : RegionShown) (places : Places) (s : Shape) → r.books.layout ≡ s → kind_of s r.books.unit ≡ Some unit_kinds.Map
+pub unit_with : (r : RegionShown) (places : Places) (s : Shape) → r.books.layout ≡ s → KeepsPairs (kind_of s r.books.unit)
     → Agrees r → HoldsLiveKeys s r.books.unit r.seat.held.part.records places → IsMapUnit r places
 unit_with r places s layout kind agrees holds = record {
   agrees = agrees;
-  kind = subst (λ (t : Shape). kind_of t r.books.unit ≡ Some unit_kinds.Map) (sym layout) kind;
+  kind = subst (λ (t : Shape). KeepsPairs (kind_of t r.books.unit)) (sym layout) kind;
   indexed = λ _. subst (λ (t : Shape). HoldsLiveKeys t r.books.unit r.seat.held.part.records places) (sym layout) holds;
 }
 
@@ -36,7 +35,7 @@ keys_of_empty s u rs places none empty = subst (HoldsLiveKeys s u rs) (sym (fini
 
 -- where the live objects make a map it has their keys
 pub keys_of_objects : (s : Shape) (u : ℕ) (rs : List Held) (os : List Object) (state : State) (places : Places) → AreApart rs
-    → kind_of s u ≡ Some unit_kinds.Map → os ≡ live_objects rs → IsStructure s u os state → HasKeysOf os places
+    → KeepsPairs (kind_of s u) → os ≡ live_objects rs → IsStructure s u os state → HasKeysOf os places
     → HoldsLiveKeys s u rs places
 keys_of_objects s u rs os state places apart kind are makes has =
     let shown : HasStructure s u rs state = (agrees s u rs state apart).1

@@ -6,8 +6,8 @@ use Rattle.std.specs.List.{AllZip, list_any}
 use Rattle.std.proofs.Math.Path.{fun_ext}
 use Rattle.std.proofs.lemmas.Slice.Zip.{AllZip-long}
 use Rattle.mont_base.specs.declared.effect.Effect.TheVariants.{Inserts}
+use Rattle.mont_base.specs.declared.effect.Thing.{Thing}
 use Rattle.mont_base.specs.declared.effect.Thing.TheVariants.{Pair}
-use Rattle.mont_base.specs.declared.kinds.UnitKind.TheVariants as unit_kinds
 use Rattle.mont_base.specs.declared.operation.Op.{Op}
 use Rattle.mont_base.specs.declared.operation.Op.TheVariants as ops
 use Rattle.mont_base.specs.declared.operation.Receipt.{Receipt}
@@ -18,13 +18,13 @@ use Rattle.mont_base.specs.declared.record.Held.{Held}
 use Rattle.mont_base.specs.declared.refusal.CallRefusal.{CallRefusal}
 use Rattle.mont_base.specs.declared.refusal.CallRefusal.TheVariants.{Full, Cut}
 use Rattle.mont_base.specs.Layout.{Shape, kind_of}
-use Rattle.mont_base.specs.State.{State, MapOf, Key, Value, Pairs, set_effects, map_step, map_del, step}
+use Rattle.mont_base.specs.State.{State, Step, MapOf, Key, Value, Pairs, set_effects, pair_put, map_step, map_del, step}
 use Rattle.mont_laws.specs.Effects.{AreEffects}
 use Rattle.mont_laws.specs.Records.{live_of}
 use Rattle.mont_laws.specs.Shows.{held_in, Shows}
 use Rattle.mont_laws.specs.Structures.{pair_for, HasPairs}
 use Rattle.heap.specs.HeapShown.{HeapShown, CallerShown}
-use Rattle.index_kit.specs.Index.{Places}
+use Rattle.index_kit.specs.Index.{Places, CanPut}
 use Rattle.slots.specs.Books.{RegionShown, IsRegionOf}
 use Rattle.slots.specs.Changes.{has_serial}
 use Rattle.structure_call.specs.Calling.{HasAnsweredCall}
@@ -34,28 +34,30 @@ use Rattle.structure_call.specs.Standing.{IsStanding}
 use Rattle.structure_call.proofs.CarriedRecords.{carried_effects}
 use Rattle.shard_map.specs.LiveKeys.{HoldsLiveKeys}
 use Rattle.shard_map.specs.MapCall.{places_behind, HasRoomFor, AddsKey}
-use Rattle.shard_map.specs.MapShard.{IsMapUnit}
-use Rattle.shard_map.proofs.KeyFacts.{map_state, no_value}
+use Rattle.shard_map.specs.MapShard.{IsMapUnit, KeepsPairs}
+use Rattle.shard_map.proofs.KeyFacts.{map_state, no_queue, no_value}
 use Rattle.shard_map.proofs.KeyEdits.{keys_of_same_live, slot_of_one, keys_follow}
 
 -- a map has no serials
-pub no_serial : (s : Shape) (unit : ℕ) (cs : List Change) → kind_of s unit ≡ Some unit_kinds.Map → list_any (has_serial s unit) cs ≡ false
-no_serial s unit [] e = refl
-no_serial s unit (c ∷ cs) e = rw e (no_serial s unit cs e)
+pub no_serial : (s : Shape) (unit : ℕ) (cs : List Change) → KeepsPairs (kind_of s unit) → list_any (has_serial s unit) cs ≡ false
+no_serial s unit [] k = refl
+no_serial s unit (c ∷ cs) k = rw (no_queue (kind_of s unit) k) (no_serial s unit cs k)
 
 -- ---- the change of a plan
+few_set : (t : Bool) (thing : Thing) → length (set_effects t thing) ≤ 1
+few_set true thing = omega arith
+few_set false thing = omega arith
+
+few_deleted : (m : Pairs) (key : Key) (o : Option Value) → length (map_del m key o).effects ≤ 1
+few_deleted m key None = omega arith
+few_deleted m key (Some value) = omega arith
+
 -- an operation on a map has one effect at most
 few_effects : (m : Pairs) (op : Op) → length (map_step m op).effects ≤ 1
-few_effects m (ops.Put key value) = set (finite.contains_key m key)
-  where
-    set : (t : Bool) → length (set_effects t (Pair key value)) ≤ 1
-    set true = omega arith
-    set false = omega arith
-few_effects m (ops.Del key) = del (finite.get m key)
-  where
-    del : (o : Option Value) → length (map_del m key o).effects ≤ 1
-    del None = omega arith
-    del (Some value) = omega arith
+few_effects m (ops.Put key value) = few_set (finite.contains_key m key) (Pair key value)
+few_effects m (ops.Del key) = few_deleted m key (finite.get m key)
+few_effects m (ops.OPut unit key value) = few_set (finite.contains_key m key) (Pair key value)
+few_effects m (ops.ODel unit key) = few_deleted m key (finite.get m key)
 few_effects m _ = omega arith
 
 -- so what was written is in the slot of the last change
@@ -69,14 +71,14 @@ slot_of_last u next epoch kept (c ∷ []) (n ∷ m ∷ slots) few each = absurd 
 slot_of_last u next epoch kept (c ∷ d ∷ cs) slots few each = absurd (omega arith)
 
 -- where an operation sets a key that has no place, its change adds it
-pub room_for : (r : RegionShown) (places : Places) → IsMapUnit r places → r.books.halted ≡ None → (op : Op) (reply : Reply)
-    (change : Option Change) (spare : ℕ) → IsPlan r op reply (option_to_list change) → (AddsKey change → 1 ≤ spare)
-    → HasRoomFor places spare op
-room_for r places unit running (ops.Put key value) reply change spare plan room = λ none.
+put_room : (r : RegionShown) (places : Places) → IsMapUnit r places → r.books.halted ≡ None → (op : Op) (key : Key) (value : Value)
+    (reply : Reply) (change : Option Change) (spare : ℕ) → ((m : Pairs) → map_step m op ≡ pair_put m key value)
+    → IsPlan r op reply (option_to_list change) → (AddsKey change → 1 ≤ spare) → CanPut places spare key
+put_room r places unit running op key value reply change spare puts plan room = λ none.
     room (inserts change (subst (λ (t : Bool). AllZip (Makes r.books r.seat.held.part.records) (set_effects t (Pair key value))
     (option_to_list change))
-    (ap is_some (absent none)) (subst (λ (st : State). AllZip (Makes r.books r.seat.held.part.records) (step st (ops.Put key value)).effects
-    (option_to_list change)) b.1 plan.makes)))
+    (ap is_some (absent none)) (subst (λ (st : Step). AllZip (Makes r.books r.seat.held.part.records) st.effects (option_to_list change))
+    (ap (λ (st : State). step st op) b.1 ∙ puts b.0) plan.makes)))
   where
     b : (m : Pairs) × (plan.state ≡ MapOf m) × HasPairs r.books.layout r.books.unit r.seat.held.part.records m
     b = map_state r.books.layout r.books.unit r.seat.held.part.records plan.state unit.kind plan.shown
@@ -90,6 +92,14 @@ room_for r places unit running (ops.Put key value) reply change spare plan room 
     inserts (Some (Insert body)) z = tt
     inserts (Some (Replace at identity body)) z = absurd z.0
     inserts (Some (Remove at identity)) z = absurd z.0
+
+pub room_for : (r : RegionShown) (places : Places) → IsMapUnit r places → r.books.halted ≡ None → (op : Op) (reply : Reply)
+    (change : Option Change) (spare : ℕ) → IsPlan r op reply (option_to_list change) → (AddsKey change → 1 ≤ spare)
+    → HasRoomFor places spare op
+room_for r places unit running (ops.Put key value) reply change spare plan room =
+    put_room r places unit running (ops.Put key value) key value reply change spare (λ m. refl) plan room
+room_for r places unit running (ops.OPut named key value) reply change spare plan room =
+    put_room r places unit running (ops.OPut named key value) key value reply change spare (λ m. refl) plan room
 room_for r places unit running _ reply change spare plan room = tt
 
 -- pairs that records show, shown by others of which the same are live
@@ -121,10 +131,9 @@ as_changes (Some c) cs h = h
 
 module _ (heap : HeapShown) (old new : RegionShown) (places : Places) (called : IsCalled heap old places) where
   -- it is a map unit still
-  kind_stays : IsRegionOf heap new → new.books.unit ≡ old.books.unit → kind_of new.books.layout new.books.unit ≡ Some unit_kinds.Map
-  kind_stays of_heap unit = subst (λ (s : Shape). kind_of s new.books.unit ≡ Some unit_kinds.Map)
-      (called.of_heap.layout ∙ sym of_heap.layout)
-      (subst (λ (u : ℕ). kind_of old.books.layout u ≡ Some unit_kinds.Map) (sym unit) called.unit.kind)
+  kind_stays : IsRegionOf heap new → new.books.unit ≡ old.books.unit → KeepsPairs (kind_of new.books.layout new.books.unit)
+  kind_stays of_heap unit = subst (λ (s : Shape). KeepsPairs (kind_of s new.books.unit)) (called.of_heap.layout ∙ sym of_heap.layout)
+      (subst (λ (u : ℕ). KeepsPairs (kind_of old.books.layout u)) (sym unit) called.unit.kind)
 
   keys_stay : (after : Places) → IsRegionOf heap new → new.books.unit ≡ old.books.unit
       → HoldsLiveKeys old.books.layout old.books.unit new.seat.held.part.records after

@@ -1,5 +1,5 @@
 -- The plan of a map operation is one: the reply is the plain step's, and the change makes its effect.
-use Rattle.std.proofs.Common.{◌≡◌, ℕ, List, [], ◌∷◌, sym, ap, ◌∙◌, subst, Bool}
+use Rattle.std.proofs.Common.{◌≡◌, ℕ, ◌⊎◌, inl, inr, List, [], ◌∷◌, refl, sym, ap, ◌∙◌, subst, Bool}
 use Rattle.std.specs.Prelude.{Option, Some, None, is_some, IfSome}
 use Rattle.std.specs.FinMap as finite
 use Rattle.std.specs.List.{AllZip}
@@ -11,8 +11,9 @@ use Rattle.mont_base.specs.declared.operation.Reply.{Reply}
 use Rattle.mont_base.specs.declared.record.Change.{Change}
 use Rattle.mont_base.specs.declared.record.Held.{Held}
 use Rattle.mont_base.specs.Bodies.{pair_body, pair_in}
-use Rattle.mont_base.specs.State.{MapOf, Key, Value, Pairs, earlier_text, map_step, map_del, set_effects}
-use Rattle.mont_base.specs.Structure.{pairs_of, is_in_unit}
+use Rattle.mont_base.specs.Layout.{kind_of}
+use Rattle.mont_base.specs.State.{Step, MapOf, Key, Value, Pairs, earlier_text, map_step, map_del, pair_put, pair_get, pair_del, set_effects}
+use Rattle.mont_base.specs.Structure.{pairs_of, keeps_key}
 use Rattle.mont_base.specs.Versions.{live_objects}
 use Rattle.mont_laws.specs.Effects.{IsOpOf}
 use Rattle.mont_laws.specs.Records.{live_of}
@@ -24,10 +25,31 @@ use Rattle.structure_call.specs.Planning.{IsPlan, Makes, NamesThing}
 use Rattle.shard_map.specs.declared.map_plan.Found.{Found}
 use Rattle.shard_map.specs.MapPlan.{HasValue, value_found, setting, removal}
 use Rattle.shard_map.specs.MapShard.{IsMapUnit}
-use Rattle.shard_map.proofs.KeyFacts.{has_pairs, no_value, value_kept, at_place, KeptAt, live_record_of, record_there}
+use Rattle.shard_map.proofs.KeyFacts.{has_pairs, may_have, no_value, value_kept, at_place, KeptAt, live_record_of, record_there}
+
+-- ---- operations on a key, of a map unit and of an ordered unit
+abbrev pub IsEither : Op → Op → (ℕ → Op) → Type 0
+IsEither op of_map of_ordered = (op ≡ of_map) ⊎ ((unit : ℕ) × (op ≡ of_ordered unit))
+
+either : (m : Pairs) (op of_map : Op) (of_ordered : ℕ → Op) (planned : Step) → map_step m of_map ≡ planned
+    → ((unit : ℕ) → map_step m (of_ordered unit) ≡ planned) → IsEither op of_map of_ordered → map_step m op ≡ planned
+either m op of_map of_ordered planned map ordered is = elim is [
+  | inl e ↦ ap (map_step m) e ∙ map
+  | inr e ↦ ap (map_step m) e.1 ∙ ordered e.0
+]
+
+module _ (m : Pairs) (op : Op) (key : Key) where
+  pub puts : (value : Value) → IsEither op (ops.Put key value) (λ unit. ops.OPut unit key value) → map_step m op ≡ pair_put m key value
+  puts value = either m op (ops.Put key value) (λ unit. ops.OPut unit key value) (pair_put m key value) refl (λ unit. refl)
+
+  pub gets : IsEither op (ops.Get key) (λ unit. ops.OGet unit key) → map_step m op ≡ pair_get m key
+  gets = either m op (ops.Get key) (λ unit. ops.OGet unit key) (pair_get m key) refl (λ unit. refl)
+
+  pub dels : IsEither op (ops.Del key) (λ unit. ops.ODel unit key) → map_step m op ≡ pair_del m key
+  dels = either m op (ops.Del key) (λ unit. ops.ODel unit key) (pair_del m key) refl (λ unit. refl)
 
 module _ (r : RegionShown) (places : Places) (unit : IsMapUnit r places) (running : r.books.halted ≡ None) where
-  abbrev the_pairs : Pairs
+  abbrev pub the_pairs : Pairs
   the_pairs = pairs_of (live_objects r.seat.held.part.records)
 
   pub map_shown : HasPairs r.books.layout r.books.unit r.seat.held.part.records the_pairs
@@ -57,7 +79,7 @@ module _ (r : RegionShown) (places : Places) (unit : IsMapUnit r places) (runnin
         stands = ap (record_in r.seat.held.part.records) (sym k.in_slot)
             ∙ record_there r.seat.held.part.records k.kept unit.agrees.1.apart live.there;
         same = live.identity;
-        read = (fitted (λ (p : Key × Value). is_in_unit r.books.layout r.books.unit p.0) (pair_in k.kept.body) (key, k.value) k.holds).0;
+        read = (fitted (λ (p : Key × Value). keeps_key r.books.layout r.books.unit p.0) (pair_in k.kept.body) (key, k.value) k.holds).0;
       }
 
   pub no_record : (key : Key) (slot : ℕ) → finite.get places key ≡ Some slot → record_in r.seat.held.part.records slot ≡ None → ⊥
@@ -98,52 +120,53 @@ module _ (r : RegionShown) (places : Places) (unit : IsMapUnit r places) (runnin
         }
 
   -- ---- what is planned
-  plan_of : (op : Op) (reply : Reply) (changes : List Change) → IsOpOf r.books.layout r.books.unit op
-      → reply ≡ (map_step the_pairs op).reply → AllZip (Makes r.books r.seat.held.part.records) (map_step the_pairs op).effects changes
-      → IsPlan r op reply changes
-  plan_of op reply changes is replies makes = record {
-    of_unit = is;
-    state = MapOf the_pairs;
-    shown = record { of_unit = unit.kind; things = map_shown };
-    replies = replies;
-    makes = makes;
-  }
+  module _ (op : Op) (is : IsOpOf r.books.layout r.books.unit op) where
+    plan_of : (planned : Step) (reply : Reply) (changes : List Change) → map_step the_pairs op ≡ planned → reply ≡ planned.reply
+        → AllZip (Makes r.books r.seat.held.part.records) planned.effects changes → IsPlan r op reply changes
+    plan_of planned reply changes same replies makes = record {
+      of_unit = is;
+      state = MapOf the_pairs;
+      shown = record { of_unit = may_have (kind_of r.books.layout r.books.unit) the_pairs unit.kind; things = map_shown };
+      replies = replies ∙ ap (λ (st : Step). st.reply) (sym same);
+      makes =
+          subst (λ (st : Step). AllZip (Makes r.books r.seat.held.part.records) st.effects changes) (sym same) makes;
+    }
 
-  abbrev pub IsNamed : Key → Option Found → Type 0
-  IsNamed key found = IfSome found (λ f. NamesThing r.seat.held.part.records (Pair key f.value) f.slot f.identity)
+    abbrev pub IsNamed : Key → Option Found → Type 0
+    IsNamed key found = IfSome found (λ f. NamesThing r.seat.held.part.records (Pair key f.value) f.slot f.identity)
 
-  pub put_plan : (key : Key) (value : Value) (found : Option Found) (body : List ℕ) → HasValue r key (value_found found)
-      → IsNamed key found → body ≡ pair_body key value → IsOpOf r.books.layout r.books.unit (ops.Put key value)
-      → IsPlan r (ops.Put key value) (earlier_text (value_found found)) (setting found body ∷ [])
-  put_plan key value None body v n b is =
-      let none = v the_pairs map_shown in
-      plan_of (ops.Put key value) _ _ is (ap earlier_text (sym none))
-      (subst (λ (t : Bool). AllZip (Makes r.books r.seat.held.part.records) (set_effects t (Pair key value)) (setting None body ∷ []))
-      (ap is_some (sym none)) (b, tt))
-  put_plan key value (Some f) body v n b is =
-      let some = v the_pairs map_shown in
-      plan_of (ops.Put key value) _ _ is (ap earlier_text (sym some))
-      (subst (λ (t : Bool). AllZip (Makes r.books r.seat.held.part.records) (set_effects t (Pair key value)) (setting (Some f) body ∷ []))
-      (ap is_some (sym some)) ((record { live = n.live; is = n.is; in_slot = n.in_slot; named = n.named }, b), tt))
+    pub put_plan : (key : Key) (value : Value) (found : Option Found) (body : List ℕ) → map_step the_pairs op ≡ pair_put the_pairs key value
+        → HasValue r key (value_found found) → IsNamed key found → body ≡ pair_body key value
+        → IsPlan r op (earlier_text (value_found found)) (setting found body ∷ [])
+    put_plan key value None body same v n b =
+        let none = v the_pairs map_shown in
+        plan_of (pair_put the_pairs key value) _ _ same (ap earlier_text (sym none))
+        (subst (λ (t : Bool). AllZip (Makes r.books r.seat.held.part.records) (set_effects t (Pair key value)) (setting None body ∷ []))
+        (ap is_some (sym none)) (b, tt))
+    put_plan key value (Some f) body same v n b =
+        let some = v the_pairs map_shown in
+        plan_of (pair_put the_pairs key value) _ _ same (ap earlier_text (sym some))
+        (subst (λ (t : Bool). AllZip (Makes r.books r.seat.held.part.records) (set_effects t (Pair key value)) (setting (Some f) body ∷ []))
+        (ap is_some (sym some)) ((record { live = n.live; is = n.is; in_slot = n.in_slot; named = n.named }, b), tt))
 
-  pub get_plan : (key : Key) (found : Option Found) → HasValue r key (value_found found)
-      → IsOpOf r.books.layout r.books.unit (ops.Get key) → IsPlan r (ops.Get key) (earlier_text (value_found found)) []
-  get_plan key found v is = plan_of (ops.Get key) _ _ is (ap earlier_text (sym (v the_pairs map_shown))) tt
+    pub get_plan : (key : Key) (found : Option Found) → map_step the_pairs op ≡ pair_get the_pairs key
+        → HasValue r key (value_found found) → IsPlan r op (earlier_text (value_found found)) []
+    get_plan key found same v = plan_of (pair_get the_pairs key) _ _ same (ap earlier_text (sym (v the_pairs map_shown))) tt
 
-  abbrev changes_of : Option Change → List Change
-  changes_of None = []
-  changes_of (Some change) = change ∷ []
+    abbrev changes_of : Option Change → List Change
+    changes_of None = []
+    changes_of (Some change) = change ∷ []
 
-  pub del_plan : (key : Key) (found : Option Found) → HasValue r key (value_found found) → IsNamed key found
-      → IsOpOf r.books.layout r.books.unit (ops.Del key)
-      → IsPlan r (ops.Del key) (earlier_text (value_found found)) (changes_of (removal found))
-  del_plan key None v n is =
-      let none = v the_pairs map_shown in
-      plan_of (ops.Del key) _ _ is (ap (λ (o : Option Value). (map_del the_pairs key o).reply) (sym none))
-      (subst (λ (o : Option Value). AllZip (Makes r.books r.seat.held.part.records) (map_del the_pairs key o).effects []) (sym none) tt)
-  del_plan key (Some f) v n is =
-      let some = v the_pairs map_shown in
-      plan_of (ops.Del key) _ _ is (ap (λ (o : Option Value). (map_del the_pairs key o).reply) (sym some))
-      (subst (λ (o : Option Value). AllZip (Makes r.books r.seat.held.part.records) (map_del the_pairs key o).effects
-      (changes_of (removal (Some f))))
-      (sym some) (n, tt))
+    pub del_plan : (key : Key) (found : Option Found) → map_step the_pairs op ≡ pair_del the_pairs key
+        → HasValue r key (value_found found) → IsNamed key found
+        → IsPlan r op (earlier_text (value_found found)) (changes_of (removal found))
+    del_plan key None same v n =
+        let none = v the_pairs map_shown in
+        plan_of (pair_del the_pairs key) _ _ same (ap (λ (o : Option Value). (map_del the_pairs key o).reply) (sym none))
+        (subst (λ (o : Option Value). AllZip (Makes r.books r.seat.held.part.records) (map_del the_pairs key o).effects []) (sym none) tt)
+    del_plan key (Some f) same v n =
+        let some = v the_pairs map_shown in
+        plan_of (pair_del the_pairs key) _ _ same (ap (λ (o : Option Value). (map_del the_pairs key o).reply) (sym some))
+        (subst (λ (o : Option Value). AllZip (Makes r.books r.seat.held.part.records) (map_del the_pairs key o).effects
+        (changes_of (removal (Some f))))
+        (sym some) (n, tt))

@@ -11,11 +11,21 @@ use Rattle.index_kit.specs.Index.{Places, CanPut}
 abbrev pub places_behind : Places → Op → Option ℕ → Places
 places_behind places (ops.Put key value) (Some slot) = finite.insert places key slot
 places_behind places (ops.Del key) (Some slot) = finite.remove places key
+places_behind places (ops.OPut unit key value) (Some slot) = finite.insert places key slot
+places_behind places (ops.ODel unit key) (Some slot) = finite.remove places key
 places_behind places _ _ = places
+
+-- An index finds keys alone: the operation looks up, sets or removes one.
+abbrev pub AsksKey : Op → Type 0
+AsksKey (ops.OFloor unit key) = ⊥
+AsksKey (ops.ORank unit key) = ⊥
+AsksKey (ops.ORange unit from to most) = ⊥
+AsksKey _ = Unit {0}
 
 -- an operation that sets a key finds room for it
 abbrev pub HasRoomFor : Places → ℕ → Op → Type 0
 HasRoomFor places spare (ops.Put key value) = CanPut places spare key
+HasRoomFor places spare (ops.OPut unit key value) = CanPut places spare key
 HasRoomFor places spare _ = Unit {0}
 
 -- a key that wasn't there comes in

@@ -1,9 +1,9 @@
 -- What contracts see of a map unit, and what its type keeps.
-use Rattle.std.specs.Prelude.{◌≡◌, Some, None, refl}
+use Rattle.std.specs.Prelude.{◌≡◌, true, Option, Some, None, refl}
 use Rattle.std.specs.Coded.{Coded, code_by, coded×, coded_ℕ, coded_list}
 use Rattle.std.specs.FinMap as finite
-use Rattle.mont_base.specs.declared.kinds.UnitKind.TheVariants as kinds
-use Rattle.mont_base.specs.Layout.{kind_of}
+use Rattle.mont_base.specs.declared.kinds.UnitKind.{UnitKind}
+use Rattle.mont_base.specs.Layout.{kind_of, keeps_pairs}
 use Rattle.index_kit.specs.Index.{Places}
 use Rattle.slots.specs.Books.{RegionShown, Agrees}
 use Rattle.slots.specs.contracts.region.Region.{the_row as region_row}
@@ -26,7 +26,12 @@ abbrev pub HasIndex : RegionShown → Places → Type 0
 HasIndex r places = r.books.halted ≡ None
     → HoldsLiveKeys r.books.layout r.books.unit r.seat.held.part.records places
 
+-- a unit of this kind, if there is one, is a map or an ordered unit
+abbrev pub KeepsPairs : Option UnitKind → Type 0
+KeepsPairs None = ⊥
+KeepsPairs (Some kind) = keeps_pairs kind ≡ true
+
 pub record IsMapUnit (r : RegionShown) (places : Places) : Type 0 where
   pub agrees : Agrees r
-  pub kind : kind_of r.books.layout r.books.unit ≡ Some kinds.Map
+  pub kind : KeepsPairs (kind_of r.books.layout r.books.unit)
   pub indexed : HasIndex r places

@@ -1,7 +1,6 @@
-// How a map unit begins: with nothing, or with what is live in its region.
-ghost use Rattle.std.specs.Prelude.{◌≡◌, ℕ, Some, None, IfOk, OnOk};
+// How a map unit or an ordered unit begins: with nothing, or with what is live in its region.
+ghost use Rattle.std.specs.Prelude.{◌≡◌, ℕ, None, IfOk, OnOk};
 ghost use Rattle.std.specs.FinMap as finite;
-ghost use Rattle.mont_base.specs.declared.kinds.UnitKind.TheVariants as kinds;
 ghost use Rattle.mont_base.specs.Layout.{kind_of};
 ghost use Rattle.mont_base.specs.State.{State};
 ghost use Rattle.mont_base.specs.Structure.{IsStructure};
@@ -10,6 +9,7 @@ ghost use Rattle.mont_laws.specs.Records.{live_of};
 ghost use Rattle.slots.specs.Books.{Agrees};
 ghost use Rattle.shard_map.specs.LiveKeys.{HoldsLiveKeys};
 ghost use Rattle.shard_map.specs.MapBeginning.{HasKeysOf};
+ghost use Rattle.shard_map.specs.MapShard.{KeepsPairs};
 
 use crate::map_shard::MapShard;
 use index_kit::Index;
@@ -19,21 +19,24 @@ use slots::Region;
 use std::alloc::AllocError;
 
 impl<I: Index> MapShard<I> {
-    /// The map unit of a region in which nothing is live, with an empty index.
+    /// The unit of a region in which nothing is live, with an empty index.
     pub fn fresh(layout: Layout, region: Region, index: I) -> MapShard<I>
         requires layout { region.books.layout ≡ layout }
-        requires kind { kind_of layout region.books.unit ≡ Some kinds.Map }
+        requires kind { KeepsPairs (kind_of layout region.books.unit) }
         requires agrees { Agrees region }
         requires none { (identity : ℕ) → live_of identity region.seat.held.part.records ≡ None }
         requires empty { finite.len (I.places index) ≡ 0 }
         ensures region { result.region ≡ region }
         ensures index { result.places ≡ finite.empty }
     {
-        prove!(matches!(layout.kind(region.unit()), UnitKind::Map));
+        prove!(matches!(
+            layout.kind(region.unit()),
+            UnitKind::Map | UnitKind::Ordered
+        ));
         MapShard { region, index }
     }
 
-    /// The map unit of a region whose live objects these are, by rising slot. They make a map. The
+    /// The unit of a region whose live objects these are, by rising slot. They make a map. The
     /// index is empty, and is filled with their keys.
     pub fn rebuild(
         layout: Layout,
@@ -42,7 +45,7 @@ impl<I: Index> MapShard<I> {
         index: I,
     ) -> Result<MapShard<I>, AllocError>
         requires layout { region.books.layout ≡ layout }
-        requires kind { kind_of layout region.books.unit ≡ Some kinds.Map }
+        requires kind { KeepsPairs (kind_of layout region.books.unit) }
         requires agrees { Agrees region }
         requires live { objects.now ≡ live_objects region.seat.held.part.records }
         requires structure { (state : State)
@@ -52,7 +55,10 @@ impl<I: Index> MapShard<I> {
         ensures index { IfOk result (λ m. HoldsLiveKeys layout region.books.unit
             region.seat.held.part.records m.places) }
     {
-        prove!(matches!(layout.kind(region.unit()), UnitKind::Map));
+        prove!(matches!(
+            layout.kind(region.unit()),
+            UnitKind::Map | UnitKind::Ordered
+        ));
         let index = filled(index, objects)?;
         Ok(MapShard { region, index })
     }

@@ -1,4 +1,4 @@
-// A call of a map unit.
+// A call of a map unit, or one on a key of an ordered unit.
 ghost use Rattle.std.specs.Prelude.{◌≡◌, ◌≤◌, true, [], ◌∷◌, ◌++◌, None, IsTrue, IfOk, OnOk, IfErr, OnErr};
 ghost use Rattle.heap.specs.GateAsked.{IsAskedOften};
 ghost use Rattle.mont_laws.specs.Effects.{IsOpOf};
@@ -6,7 +6,7 @@ ghost use Rattle.heap_pass.specs.Spare.{spare_of};
 ghost use Rattle.structure_call.specs.Calling.{HasAnsweredCall, LeavesCall, was_cut, was_checked};
 ghost use Rattle.structure_call.specs.Checking.{MayBeCalled};
 ghost use Rattle.structure_call.specs.Standing.{IsStanding};
-ghost use Rattle.shard_map.specs.MapCall.{places_behind, HasRoomFor, AddsKey};
+ghost use Rattle.shard_map.specs.MapCall.{places_behind, AsksKey, HasRoomFor, AddsKey};
 ghost use Rattle.shard_map.specs.MapShard.{IsMapUnit};
 
 use crate::map_plan::plan;
@@ -20,8 +20,8 @@ use std::sync::Wait;
 use structure_call::{carry_out, check_numbers, check_running};
 
 impl<I: Index> MapShard<I> {
-    /// Carries an operation of the unit out, answers it with one entry, and keeps the receipt in
-    /// the pass. It may wait for the clock to stand still.
+    /// Carries an operation on a key of the unit out, answers it with one entry, and keeps the
+    /// receipt in the pass. It may wait for the clock to stand still.
     ///
     /// Memory is taken before the first step; a refusal for want of it leaves all as it was but for
     /// spare room.
@@ -35,6 +35,7 @@ impl<I: Index> MapShard<I> {
         requires stands { IsStanding heap.now self.old.region }
         requires pass { pass.old.ticket.table ≡ heap.now.table }
         requires op { IsOpOf heap.now.opening.layout self.old.region.books.unit op.now }
+        requires key { AsksKey op.now }
         ensures gate { IsAskedOften G.cuts G.endless pass.old.gate pass.new.gate (was_cut result) }
         ensures answered { IfOk result (λ receipt. HasAnsweredCall heap.now self.old.region
             self.new.region pass.old.ticket pass.new.ticket op.now receipt) }
@@ -78,6 +79,7 @@ fn make_room<I: Index, G: Gate>(
     ensures places { I.places index.new ≡ I.places index.old }
     ensures ticket { pass.new.ticket ≡ pass.old.ticket }
     ensures gate { pass.new.gate ≡ pass.old.gate }
+    ensures receipts { pass.new.receipts.items ≡ pass.old.receipts.items }
     ensures receipt { OnOk result (1 ≤ spare_of pass.new.receipts) }
     ensures key { OnOk result (AddsKey change.now → 1 ≤ I.spare index.new) }
 {
@@ -97,10 +99,10 @@ fn follow<I: Index>(index: &mut I, op: &Op, slot: Option<Slot>)
         return;
     };
     match op {
-        Op::Put { key, .. } => {
+        Op::Put { key, .. } | Op::OPut { key, .. } => {
             index.put(*key, slot);
         }
-        Op::Del { key } => {
+        Op::Del { key } | Op::ODel { key, .. } => {
             index.remove(*key);
         }
         _ => {}

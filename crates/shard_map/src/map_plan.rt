@@ -1,4 +1,4 @@
-// What an operation on a map is answered, and the change that makes its effect, found without
+// What an operation on a key is answered, and the change that makes its effect, found without
 // memory.
 ghost use Rattle.std.specs.Prelude.{◌≡◌, None, Some, IfSome, option_to_list};
 ghost use Rattle.std.specs.Option.{option_map};
@@ -6,6 +6,7 @@ ghost use Rattle.mont_base.specs.declared.effect.Thing.TheVariants.{Pair};
 ghost use Rattle.mont_base.specs.State.{earlier_text};
 ghost use Rattle.mont_laws.specs.Effects.{IsOpOf};
 ghost use Rattle.structure_call.specs.Planning.{IsPlan, NamesThing};
+ghost use Rattle.shard_map.specs.MapCall.{AsksKey};
 ghost use Rattle.shard_map.specs.MapShard.{IsMapUnit};
 ghost use Rattle.shard_map.specs.MapPlan.{HasValue, value_found, setting, removal};
 
@@ -21,34 +22,35 @@ pub(crate) struct MapPlan {
     pub(crate) change: Option<Change>,
 }
 
-// The value of a key, with the slot and the identity of its live record.
+/// The value of a key, with the slot and the identity of its live record.
 #[derive(Clone, Copy)]
-pub(crate) struct Found {
-    pub(crate) value: Text,
-    pub(crate) slot: Slot,
-    pub(crate) identity: u64,
+pub struct Found {
+    pub value: Text,
+    pub slot: Slot,
+    pub identity: u64,
 }
 
-// Plans an operation of a map unit.
+// Plans an operation on a key of the unit.
 pub(crate) fn plan<I: Index>(region: &Region, index: &I, op: &Op) -> MapPlan
     requires unit { IsMapUnit region.now (I.places index.now) }
     requires running { region.now.books.halted ≡ None }
     requires op { IsOpOf region.now.books.layout region.now.books.unit op.now }
+    requires key { AsksKey op.now }
     ensures { IsPlan region.now op.now result.reply (option_to_list result.change) }
 {
     match op {
-        Op::Put { key, value } => {
+        Op::Put { key, value } | Op::OPut { key, value, .. } => {
             let earlier = find(region, index, key);
             MapPlan {
                 reply: reply_of(&earlier),
                 change: Some(setting(&earlier, pair_body(key, value))),
             }
         }
-        Op::Get { key } => MapPlan {
+        Op::Get { key } | Op::OGet { key, .. } => MapPlan {
             reply: reply_of(&find(region, index, key)),
             change: None,
         },
-        Op::Del { key } => {
+        Op::Del { key } | Op::ODel { key, .. } => {
             let found = find(region, index, key);
             MapPlan {
                 reply: reply_of(&found),
@@ -63,7 +65,7 @@ pub(crate) fn plan<I: Index>(region: &Region, index: &I, op: &Op) -> MapPlan
 }
 
 // What the live record of a key says, if the key is there.
-fn find<I: Index>(region: &Region, index: &I, key: &Text) -> Option<Found>
+pub(crate) fn find<I: Index>(region: &Region, index: &I, key: &Text) -> Option<Found>
     requires unit { IsMapUnit region.now (I.places index.now) }
     requires running { region.now.books.halted ≡ None }
     ensures value { HasValue region.now key.now (value_found result) }

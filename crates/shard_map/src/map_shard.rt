@@ -1,14 +1,21 @@
-// A map unit: the region of its slots, and an index from each live key to its slot.
-ghost use Rattle.std.specs.Prelude.{◌≡◌};
+// A map unit or an ordered unit: the region of its slots, and an index from each live key to its
+// slot.
+ghost use Rattle.std.specs.Prelude.{◌≡◌, None, IfSome};
+ghost use Rattle.mont_base.specs.declared.effect.Thing.TheVariants.{Pair};
+ghost use Rattle.structure_call.specs.Planning.{NamesThing};
+ghost use Rattle.shard_map.specs.MapPlan.{HasValue, value_found};
 ghost use Rattle.shard_map.specs.MapShard.{IsMapUnit};
 
+use crate::map_plan::{Found, find};
 use heap_pass::OfHeap;
 use index_kit::Index;
+use mont_base::Text;
 use slots::Region;
 use std::marker::Model;
 
-/// A map unit. The pairs stand in the region's records alone; the index, which the unit's maker
-/// hands in, says in which slot each live key's record is. It may be of any kind: a box is one too.
+/// A map unit, or the keys of an ordered unit. The pairs stand in the region's records alone; the
+/// index, which the unit's maker hands in, says in which slot each live key's record is. It may be
+/// of any kind: a box is one too.
 ///
 /// Contracts see the region and the index's places. The index of a unit in which a caller was cut
 /// is of no use any more.
@@ -45,6 +52,17 @@ impl<I: Index> MapShard<I> {
         ensures unit { IsMapUnit self.now.region self.now.places }
     {
         &self.region
+    }
+
+    /// What the live record of a key says, if the key is there.
+    pub fn find(&self, key: &Text) -> Option<Found>
+        requires running { self.now.region.books.halted ≡ None }
+        ensures value { HasValue self.now.region key.now (value_found result) }
+        ensures named { IfSome result (λ found. NamesThing
+            self.now.region.seat.held.part.records (Pair key.now found.value) found.slot
+            found.identity) }
+    {
+        find(&self.region, &self.index, key)
     }
 
     /// Gives the region back, and drops the index.

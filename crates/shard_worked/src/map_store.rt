@@ -2,6 +2,7 @@
 ghost use Rattle.std.specs.Prelude.{◌≡◌, IsTrue};
 ghost use Rattle.heap_pass.specs.OfHeap.{IsAdvancerOf};
 ghost use Rattle.mont_laws.specs.Effects.{CarriesTexts, IsOpOf};
+ghost use Rattle.shard_map.specs.MapCall.{AsksKey};
 
 use advance::{AdvanceRefusal, Advancer};
 use caller::{SyncRefusal, hear, sync, tell};
@@ -56,13 +57,13 @@ impl<I: Index> MapStore<I> {
         rt: &impl Wait,
         op: &Op,
     ) -> Result<Result<Receipt, CallRefusal>, Fail> {
-        if is_of(self.heap.layout(), 0, op) {
+        if is_of(self.heap.layout(), 0, op) && asks_key(op) {
             return Ok(self.shard.apply(rt, &self.heap, &mut self.first, op));
         }
         if is_of(self.heap.layout(), 1, op) {
             return Ok(self.queue.apply(rt, &self.heap, &mut self.first, op));
         }
-        Err(Fail::new("a graph's"))
+        Err(Fail::new("another's"))
     }
 
     // The second caller's call.
@@ -71,13 +72,13 @@ impl<I: Index> MapStore<I> {
         rt: &impl Wait,
         op: &Op,
     ) -> Result<Result<Receipt, CallRefusal>, Fail> {
-        if is_of(self.heap.layout(), 0, op) {
+        if is_of(self.heap.layout(), 0, op) && asks_key(op) {
             return Ok(self.shard.apply(rt, &self.heap, &mut self.second, op));
         }
         if is_of(self.heap.layout(), 1, op) {
             return Ok(self.queue.apply(rt, &self.heap, &mut self.second, op));
         }
-        Err(Fail::new("a graph's"))
+        Err(Fail::new("another's"))
     }
 
     // The first caller tells the second one what it has seen.
@@ -98,6 +99,14 @@ impl<I: Index> MapStore<I> {
         rt: &impl Wait,
         caller: Caller,
     ) -> (MapStore<I>, Result<Epoch, SyncRefusal>) {
+        match caller {
+            Caller::First => self.sync_first(rt),
+            Caller::Second => self.sync_second(rt),
+        }
+    }
+
+    // The first caller waits.
+    fn sync_first(self, rt: &impl Wait) -> (MapStore<I>, Result<Epoch, SyncRefusal>) {
         let MapStore {
             heap,
             shard,
@@ -105,12 +114,33 @@ impl<I: Index> MapStore<I> {
             graph,
             advancer,
             mut first,
+            second,
+        } = self;
+        let (advancer, answer) = sync_named::<Brand>(rt, &heap, advancer, &mut first);
+        let store = MapStore {
+            heap,
+            shard,
+            queue,
+            graph,
+            advancer,
+            first,
+            second,
+        };
+        (store, answer)
+    }
+
+    // The second caller waits.
+    fn sync_second(self, rt: &impl Wait) -> (MapStore<I>, Result<Epoch, SyncRefusal>) {
+        let MapStore {
+            heap,
+            shard,
+            queue,
+            graph,
+            advancer,
+            first,
             mut second,
         } = self;
-        let (advancer, answer) = match caller {
-            Caller::First => sync_named::<Brand>(rt, &heap, advancer, &mut first),
-            Caller::Second => sync_named::<Brand>(rt, &heap, advancer, &mut second),
-        };
+        let (advancer, answer) = sync_named::<Brand>(rt, &heap, advancer, &mut second);
         let store = MapStore {
             heap,
             shard,
@@ -150,12 +180,19 @@ fn is_of(layout: Layout, unit: Unit, op: &Op) -> bool
     are_texts(op) && op.unit(layout) == Some(unit)
 }
 
+// Whether an operation asks for no order of keys.
+fn asks_key(op: &Op) -> bool
+    ensures { IsTrue result → AsksKey op.now }
+{
+    !matches!(op, Op::OFloor { .. } | Op::ORank { .. } | Op::ORange { .. })
+}
+
 // Whether the key and the value that an operation carries are texts.
 fn are_texts(op: &Op) -> bool
     ensures { IsTrue result → CarriesTexts op.now }
 {
     match op {
-        Op::Put { key, value } => {
+        Op::Put { key, value } | Op::OPut { key, value, .. } => {
             let (key, value) = (key.len(), value.len());
             key <= 24 && value <= 24
         }

@@ -4,7 +4,7 @@ mod Agreements
 mod Puts
 mod Lives
 mod NextSerials
-mod Closes
+pub mod Closes
 mod Settles
 mod Stores
 mod Gates

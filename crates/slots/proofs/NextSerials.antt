@@ -13,8 +13,7 @@ use Rattle.mont_base.specs.declared.record.Change.TheVariants.{Insert, Replace, 
 use Rattle.mont_base.specs.declared.record.Held.{Held}
 use Rattle.mont_base.specs.declared.record.Kind.{Kind}
 use Rattle.mont_base.specs.Bodies.{item_in, is_clean}
-use Rattle.mont_base.specs.Layout.{Shape, is_of_kind}
-use Rattle.mont_base.specs.declared.kinds.UnitKind.TheVariants as unit_kinds
+use Rattle.mont_base.specs.Layout.{Shape, kind_of}
 use Rattle.mont_base.specs.State.{State, MapOf, QueueOf, GraphOf, step, queue_step, queue_deq}
 use Rattle.mont_base.specs.Versions.{newest_of, object_of, is_delete}
 use Rattle.mont_laws.specs.Effects.{AreEffects, IsEffect}
@@ -24,6 +23,7 @@ use Rattle.mont_laws.proofs.Edits.{no_zip, one_zip, next_above}
 use Rattle.mont_laws.proofs.LiveObjects.{live_records, record_live}
 use Rattle.mont_laws.proofs.Members.{no_element, first_element, later_element, element_cases}
 use Rattle.mont_laws.proofs.Newest.{IsAbove, newest_push}
+use Rattle.mont_laws.proofs.SameKind.{is_queue_by_state}
 use Rattle.slots.specs.Beginning.{greatest, serial_of, live_serials, serial_at_first}
 use Rattle.slots.specs.Books.{BooksShown}
 use Rattle.slots.specs.Changes.{serial_after, record_by}
@@ -186,6 +186,8 @@ module _ (u : ℕ) (rs : List Held) where
   -- the effects of an operation on a queue
   pub left_serials : (s : Shape) (state : State) (op : Op) (ws : List Held) (next : ℕ) → IsTrue (is_queue s u) → HasStructure s u rs state
       → AreEffects u rs (step state op).effects ws → IsNextSerial rs ws next → IsNextSerial (rs ++ ws) [] next
-  left_serials s (MapOf m) op ws next queue h are k = absurd (let e = ap (λ o. is_of_kind o unit_kinds.Queue) h.of_unit in cc (e, queue))
+  left_serials s (MapOf m) op ws next queue h are k =
+      absurd (let e = is_queue_by_state (kind_of s u) (MapOf m) h.of_unit in cc (e, queue))
   left_serials s (QueueOf items) op ws next queue h are k = queue_written items op ws next are k
-  left_serials s (GraphOf g) op ws next queue h are k = absurd (let e = ap (λ o. is_of_kind o unit_kinds.Queue) h.of_unit in cc (e, queue))
+  left_serials s (GraphOf g) op ws next queue h are k =
+      absurd (let e = is_queue_by_state (kind_of s u) (GraphOf g) h.of_unit in cc (e, queue))

@@ -119,7 +119,7 @@ impl Region {
             ≡ record self.old.books { halted = Some ticket.old.held.caller } }
         ensures caller { ticket.new ≡ record {
           table = ticket.old.table;
-          held = caller_cut ticket.old.held self.old.seat.held.unit;
+          held = caller_cut ticket.old.held self.old.seat.held;
         } }
         ensures agrees { Agrees self.new }
     {

@@ -1,6 +1,8 @@
 -- The callers of the example, and whose passes they are.
 use Rattle.std.specs.Prelude.{◌≡◌, ℕ, List, length, slice_get, Some}
+use Rattle.mont_base.specs.declared.operation.Receipt.{Receipt}
 use Rattle.heap.specs.HeapShown.{HeapShown, UnitShown, AdvShown, CallerShown}
+use Rattle.heap_pass.specs.Kept.{IsWhole}
 use Rattle.montage.specs.FreshStore.{IsFreshHeap}
 
 -- a heap of two callers, of which no step was made
@@ -10,15 +12,17 @@ pub record IsForTwo
   pub fresh : IsFreshHeap heap units advancer callers
   pub two : heap.opening.callers ≡ 2
 
--- the same caller, of the same heap
-pub record IsSameCaller (old new : CallerShown) : Type 0 where
+-- the same caller, of the same heap, whose pass has all of its receipts still
+pub record IsSameCaller (old new : CallerShown) (receipts : List Receipt) : Type 0 where
   pub table : new.table ≡ old.table
   pub caller : new.held.caller ≡ old.held.caller
+  pub whole : IsWhole new receipts
 
 -- each of these passes is of the same caller as the one in its place was
-pub record AreSameCallers {P : Type 0} (ticket : P → CallerShown) (olds news : List P)
-    : Type 0 where
+pub record AreSameCallers {P : Type 0} (ticket : P → CallerShown) (receipts : P → List Receipt)
+    (olds news : List P) : Type 0 where
   pub count : length news ≡ length olds
   pub each :
       (place : ℕ) (old new : P) → slice_get olds place ≡ Some old
-      → slice_get news place ≡ Some new → IsSameCaller (ticket old) (ticket new)
+      → slice_get news place ≡ Some new
+      → IsSameCaller (ticket old) (ticket new) (receipts new)

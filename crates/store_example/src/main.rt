@@ -12,6 +12,7 @@ mod run;
 use heap::{Heap, Seats};
 use index_kit::SortedIndex;
 use mont_base::{Kinds, Layout, Text};
+use montage::serves_all;
 use plain::{Contents, UnitState};
 use run::put_on_threads;
 use std::alloc::{AllocError, Global};
@@ -40,6 +41,9 @@ fn contents_after_crash<R: AllocGlobal + Threads + Wait + Sync>(rt: &R) -> Optio
     let alloc = rt.alloc();
     let layout = Layout::new(Kinds::of_letters(b"mqg").ok()?, 8).ok()?;
     let (heap, seats) = heap_for_two(alloc, layout).ok()?;
+    if !serves_all(&heap.layout()) {
+        return None;
+    }
     let mut boxes = Vec::new(alloc);
     boxes.push(SortedIndex::new(alloc)).ok()?;
     put_on_threads::<_, Brand>(rt, alloc, heap, seats, boxes).ok()

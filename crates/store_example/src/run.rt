@@ -1,5 +1,7 @@
 // Two callers on a store of their own.
-ghost use Rattle.std.specs.Prelude.{◌≡◌, All, IfOk, vec_len};
+ghost use Rattle.std.specs.Prelude.{◌≡◌, true, All, IfOk, vec_len};
+ghost use Rattle.montage.specs.FreshStore.{serves_all};
+ghost use Rattle.montage.specs.Store.{IsWholePass};
 ghost use Rattle.plain.specs.States.{states_of};
 ghost use Rattle.store_example.specs.Callers.{IsForTwo, IsSameCaller, AreSameCallers};
 ghost use Rattle.store_example.specs.Outlived.{Outlives};
@@ -27,6 +29,7 @@ pub(crate) fn put_on_threads<R: Threads + Wait + Sync, N: HeapName + Send + Sync
 ) -> Result<Contents, OpenRefusal>
     requires named { heap ≡ N.heap }
     requires opens { IsForTwo N.heap seats.units.items seats.advancer seats.callers.items }
+    requires kinds { serves_all N.heap.opening.layout ≡ true }
     ensures { IfOk result (λ contents. Outlives (states_of contents)) }
 {
     let gates = two_gates(alloc)?;
@@ -49,8 +52,8 @@ fn put_beside<R: Threads + Wait + Sync, N: HeapName + Send + Sync>(
     store: &Store<N, SortedIndex>,
     mut passes: Vec<Pass<Steady>>,
 ) -> Vec<Pass<Steady>>
-    requires { All (λ p. p.ticket.table ≡ N.heap.table) passes.items }
-    ensures { AreSameCallers (λ p. p.ticket) passes.items result.items }
+    requires { All (λ p. IsWholePass N.heap p.ticket p.receipts.items) passes.items }
+    ensures { AreSameCallers (λ p. p.ticket) (λ p. p.receipts.items) passes.items result.items }
 {
     put_each(rt, store, passes.as_mut_slice());
     passes
@@ -62,16 +65,17 @@ fn put_each<R: Threads + Wait + Sync, N: HeapName + Send + Sync>(
     store: &Store<N, SortedIndex>,
     passes: &mut [Pass<Steady>],
 )
-    requires { All (λ p. p.ticket.table ≡ N.heap.table) passes.old }
-    ensures { AreSameCallers (λ p. p.ticket) passes.old passes.new }
+    requires { All (λ p. IsWholePass N.heap p.ticket p.receipts.items) passes.old }
+    ensures { AreSameCallers (λ p. p.ticket) (λ p. p.receipts.items) passes.old passes.new }
 {
     for_each_mut(
         rt,
         passes,
         2,
         &|_caller: usize, pass: &mut Pass<Steady>|
-            requires { pass.now.ticket.table ≡ N.heap.table }
-            ensures { IsSameCaller pass.entry.now.ticket pass.exit.now.ticket }
+            requires { IsWholePass N.heap pass.now.ticket pass.now.receipts.items }
+            ensures { IsSameCaller pass.entry.now.ticket pass.exit.now.ticket
+                pass.exit.now.receipts.items }
         { put_and_sync(rt, store, pass) },
     );
 }
@@ -83,8 +87,8 @@ fn put_and_sync<R: Wait, N: HeapName, I: Index>(
     store: &Store<N, I>,
     pass: &mut Pass<Steady>,
 )
-    requires { pass.old.ticket.table ≡ N.heap.table }
-    ensures { IsSameCaller pass.old.ticket pass.new.ticket }
+    requires { IsWholePass N.heap pass.old.ticket pass.old.receipts.items }
+    ensures { IsSameCaller pass.old.ticket pass.new.ticket pass.new.receipts.items }
 {
     if store.heap().layout().maps() == 0 {
         return;

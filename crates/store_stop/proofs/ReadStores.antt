@@ -83,6 +83,7 @@ pub finds_nothing : (kind : UnitKind) (key : Key)
 finds_nothing kinds.Map key = (ap earlier_text (sym (finite.get-empty key_cmp key)), refl)
 finds_nothing kinds.Queue key = (refl, refl)
 finds_nothing kinds.Graph key = (refl, refl)
+finds_nothing kinds.Ordered key = (ap earlier_text (sym (finite.get-empty key_cmp key)), refl)
 
 module _ (heap : HeapShown) (reads : ℕ) (units : List UnitShown) (advancer : AdvShown) (callers : List CallerShown)
     (w : AreUnwritten heap reads units advancer callers) (u k : ℕ) (s : UnitShown) (q : CallerShown)

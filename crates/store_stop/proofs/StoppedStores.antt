@@ -1,6 +1,6 @@
 -- What the core of a heap that was stopped tells of its store.
-use Rattle.std.proofs.Common.{◌≡◌, ℕ, zero, suc, ◌<◌, ◌≤◌, List, [], ◌∷◌, length, map, take, ap, sym, ◌∙◌, subst, refl, arith}
-use Rattle.std.specs.Prelude.{slice_get, unwrap_or, Some, All, Option}
+use Rattle.std.proofs.Common.{◌≡◌, ℕ, zero, suc, ◌+◌, ◌<◌, ◌≤◌, List, [], ◌∷◌, length, map, take, ap, sym, ◌∙◌, subst, refl, arith}
+use Rattle.std.specs.Prelude.{slice_get, unwrap_or, Some, None, All, Option}
 use Rattle.std.proofs.lemmas.List.{length-map}
 use Rattle.std.proofs.lemmas.List.Elements.{All-weaker}
 use Rattle.std.proofs.lemmas.Option.{same_Some}
@@ -20,14 +20,16 @@ use Rattle.plain.specs.States.{states_of}
 use Rattle.core_steps.specs.declared.parts.Core.{Core}
 use Rattle.core_steps.specs.declared.parts.UnitPart.{UnitPart}
 use Rattle.core_steps.specs.declared.parts.CallerPart.{CallerPart}
+use Rattle.core_steps.specs.declared.parts.UnitStage.{UnitStage}
+use Rattle.core_steps.specs.declared.parts.UnitStage.TheVariants.{Idle, Told, Within, Closing}
 use Rattle.core_steps.specs.declared.parts.Mark.{Mark}
 use Rattle.core_steps.specs.CallerClauses.{receipts_of, view_of, HasReceipt}
 use Rattle.core_steps.specs.Clock.{clock, durable_clock}
 use Rattle.core_steps.specs.Cuts.{HoldsCut}
-use Rattle.core_steps.specs.Notes.{histories_of, cuts_of, IsTrueMark}
+use Rattle.core_steps.specs.Notes.{left_within, histories_of, cuts_of, IsTrueMark}
 use Rattle.core_steps.specs.Opened.{opened_at}
 use Rattle.core_steps.specs.Places.{RowHas}
-use Rattle.core_steps.specs.Sound.{Base, base_state, IsSound}
+use Rattle.core_steps.specs.Sound.{Base, base_state, StageFits, IsSound}
 use Rattle.core_steps.specs.Stages.{limit_of, passed_of}
 use Rattle.core_steps.proofs.CallerReceipts.{callers_order}
 use Rattle.core_steps.proofs.CutLaws.{images_hold_cuts, images_hold_synced}
@@ -35,10 +37,11 @@ use Rattle.core_steps.proofs.NoteLaws.{limit_reached}
 use Rattle.core_steps.proofs.RowFacts.{all_at, row_of_map, row_in_map, row_gives, item_at, same_item}
 use Rattle.core_steps.proofs.UnitFrames.{reached_later}
 use Rattle.heap_rule.specs.declared.rule.Opening.{Opening}
-use Rattle.heap_rule.specs.Rule.{seen_in}
+use Rattle.heap_rule.specs.declared.views.LeftWithin.{LeftWithin}
+use Rattle.heap_rule.specs.Rule.{IsLeft, AreLeft, seen_in}
 use Rattle.heap.specs.HeapShown.{UnitShown, AdvShown, CallerShown}
 use Rattle.heap.specs.Stops.{StopsAt}
-use Rattle.store_stop.specs.Headline.{IsBaseOf, AreLegal, HasSeen, AreClocks, AreEpochsReached, AreAllWords, IsCutAsMarked, IsSyncedIn, HoldsHistories, IsStopped, parts_shown}
+use Rattle.store_stop.specs.Headline.{IsBaseOf, AreLegal, HasSeen, AreClocks, AreEpochsReached, IsHeldBack, AreAllWords, IsCutAsMarked, IsSyncedIn, HoldsHistories, IsStopped, parts_shown}
 use Rattle.store_stop.specs.ToldHistories.{HoldsEntryOf, HasReceiptAt, TellAll}
 use Rattle.store_stop.proofs.CutStates.{rebuilds}
 use Rattle.store_stop.proofs.Items.{all_gives}
@@ -56,6 +59,14 @@ seen_count : (fronts : List ℕ) (histories : List (List Entry)) → length fron
 seen_count [] histories e = e
 seen_count (n ∷ ns) [] e = absurd (omega arith)
 seen_count (n ∷ ns) (g ∷ gs) e = ap suc (seen_count ns gs (omega arith))
+
+-- ---- a unit that is left within an epoch is within it
+left_stage : (frozen : Option ℕ) (stage : UnitStage) (epoch : ℕ) → left_within frozen stage ≡ Some epoch → stage ≡ Within epoch
+left_stage None stage epoch is = absurd (cc)
+left_stage (Some k) Idle epoch is = absurd (cc)
+left_stage (Some k) (Told x) epoch is = absurd (cc)
+left_stage (Some k) (Within x) epoch is = ap Within (same_Some x epoch is)
+left_stage (Some k) (Closing slot) epoch is = absurd (cc)
 
 module _ (o : Opening) (units : List UnitShown) (advancer : AdvShown) (callers : List CallerShown) (words : Words)
     (stops : StopsAt o units advancer callers words) (base_clock : ℕ) (contents : Contents)
@@ -186,6 +197,20 @@ module _ (o : Opening) (units : List UnitShown) (advancer : AdvShown) (callers :
       (λ k q e. All-weaker (IsTrueMark (cuts_of core.units)) (IsCutAsMarked core.callers) cut_as_marked q.marks
       (sound.callers.each k q e).marks))
 
+  -- ---- units that were left halted
+  -- by where the clock may stand while a unit is within an epoch
+  held_at : (w : LeftWithin) → IsLeft core.units w → IsHeldBack (clock_of words.cur) w
+  held_at w is =
+      let p = row_of_map (λ (p : UnitPart). left_within p.frozen p.stage) core.units w.unit (Some w.epoch) is in
+      let registered = subst (StageFits opened.clock (clock core) (w.unit < passed_of (length core.units) core.advancer))
+      (left_stage p.0.frozen p.0.stage w.epoch p.2) (sound.registration w.unit p.0 p.1) in
+      subst (λ (ws : List ℕ). clock_of ws ≤ w.epoch + 1) (sym stops.current) registered.near
+
+  pub held_back : All (λ (q : CallerShown). All (IsHeldBack (clock_of words.cur)) q.held.within) callers
+  held_back = All-weaker (λ (q : CallerShown). AreLeft core.units q.held.within)
+      (λ (q : CallerShown). All (IsHeldBack (clock_of words.cur)) q.held.within)
+      (λ q left. All-weaker (IsLeft core.units) (IsHeldBack (clock_of words.cur)) held_at q.held.within left) callers stops.told.left
+
   -- ---- words
   pub all_words : AreAllWords o.layout words
   all_words = record {
@@ -247,6 +272,7 @@ module _ (o : Opening) (units : List UnitShown) (advancer : AdvShown) (callers :
         seen = seen;
         clocks = clocks;
         reached = reached;
+        held_back = held_back;
         marks = marks;
         images = holds_histories;
       })

@@ -3,7 +3,7 @@
 -- order that its caller had seen. And every image that a crash then permits holds one cut of all
 -- histories: the operations up to two epochs before its clock, whole, with all that a caller knew
 -- to be durable.
-use Rattle.std.specs.Prelude.{◌≡◌, ◌↔◌, ℕ, ◌<◌, ◌≤◌, List, [], ◌∷◌, length, map, take, slice_get, Some, All}
+use Rattle.std.specs.Prelude.{◌≡◌, ◌↔◌, ℕ, ◌+◌, ◌<◌, ◌≤◌, List, [], ◌∷◌, length, map, take, slice_get, Some, All}
 use Rattle.std.specs.List.{Contains}
 use Rattle.mont_base.specs.declared.constants.TheConstants.{LAST}
 use Rattle.mont_base.specs.declared.memory.Words.{Words}
@@ -23,6 +23,7 @@ use Rattle.core_steps.specs.Notes.{NamesCaller, BeginsWith}
 use Rattle.core_steps.specs.Places.{RowHas}
 use Rattle.heap_rule.specs.declared.rule.Opening.{Opening}
 use Rattle.heap_rule.specs.declared.views.CallerHeld.{CallerHeld}
+use Rattle.heap_rule.specs.declared.views.LeftWithin.{LeftWithin}
 use Rattle.heap.specs.HeapShown.{CallerShown}
 use Rattle.store_stop.specs.declared.headline.Stopped.{Stopped}
 
@@ -61,6 +62,11 @@ pub record AreClocks (base : ℕ) (callers : List CallerPart) (now durable : ℕ
 abbrev pub AreEpochsReached : ℕ → List (List Entry) → Type 0
 AreEpochsReached now histories =
     All (λ (h : List Entry). All (λ (e : Entry). e.epoch ≤ now) h) histories
+
+-- The clock is at most one past an epoch within which a unit was left halted. So no image that a
+-- crash permits has a cut that this epoch is in.
+abbrev pub IsHeldBack : ℕ → LeftWithin → Type 0
+IsHeldBack now w = now ≤ w.epoch + 1
 
 -- ---- marks
 -- The caller that a mark names was cut in its unit, and knows it; where it names none, some caller
@@ -125,6 +131,8 @@ pub record IsStopped
   pub seen : All (λ (q : CallerShown). HasSeen t.histories q.held) callers
   pub clocks : AreClocks clock (parts_shown callers) (clock_of t.words.cur) (clock_of t.words.dur)
   pub reached : AreEpochsReached (clock_of t.words.cur) t.histories
+  pub held_back :
+      All (λ (q : CallerShown). All (IsHeldBack (clock_of t.words.cur)) q.held.within) callers
   pub marks : All (λ (q : CallerPart). All (IsCutAsMarked (parts_shown callers)) q.marks)
       (parts_shown callers)
   pub images :

@@ -1,7 +1,8 @@
 // What a store leaves when it is stopped, and what it promises of it.
-ghost use Rattle.std.specs.Prelude.{◌≡◌, map, IfOk};
+ghost use Rattle.std.specs.Prelude.{◌≡◌, ◌↔◌, map, All, IfOk, IsTrue};
 ghost use Rattle.core_steps.specs.CallerClauses.{receipts_of};
 ghost use Rattle.heap.specs.Stops.{AreAllSeats, AreAtHome};
+ghost use Rattle.heap_pass.specs.Kept.{IsWhole};
 ghost use Rattle.plain.specs.States.{states_of};
 ghost use Rattle.store_stop.specs.Headline.{IsBaseOf, IsStopped, StoppedStoresOutliveCrashes, parts_shown};
 
@@ -24,8 +25,16 @@ pub struct Stopped {
     pub histories: Sequence<Sequence<Entry>>,
 }
 
-/// Takes back all seats of a heap and the passes of all its callers, by their numbers. It looks at
-/// each receipt once for each unit. After want of memory the heap is gone.
+/// Whether each of the passes has all of its receipts still.
+pub fn are_whole<G: Gate>(passes: &[Pass<G>]) -> bool
+    ensures { IsTrue result ↔ All (λ p. IsWhole p.ticket p.receipts.items) passes.now }
+{
+    passes.iter().all(|pass| pass.is_whole())
+}
+
+/// Takes back all seats of a heap and the passes of all its callers, by their numbers. Each pass has
+/// to have all of its receipts still, since the histories are told by these. It looks at each
+/// receipt once for each unit. After want of memory the heap is gone.
 pub fn stop_store<G: Gate + Drop>(
     alloc: Global,
     heap: Heap,
@@ -38,6 +47,7 @@ pub fn stop_store<G: Gate + Drop>(
     requires seats { AreAllSeats
         heap units.items advancer (map (λ p. p.ticket) passes.items) }
     requires home { AreAtHome units.items }
+    requires whole { All (λ p. IsWhole p.ticket p.receipts.items) passes.items }
     requires base { IsBaseOf heap.opening base_clock (states_of base) }
     ensures stopped { IfOk result (λ stopped. IsStopped heap.opening.layout base_clock base
         (map (λ p. p.ticket) passes.items) stopped) }
@@ -70,6 +80,7 @@ fn taken_apart<G: Gate + Drop>(
     alloc: Global,
     passes: Vec<Pass<G>>,
 ) -> Result<(Vec<Ticket>, Vec<Sequence<Receipt>>), AllocError>
+    requires { All (λ p. IsWhole p.ticket p.receipts.items) passes.items }
     ensures tickets { IfOk result (λ r. r.0.items ≡ map (λ p. p.ticket) passes.items) }
     ensures receipts { IfOk result (λ r. r.1.items
         ≡ map receipts_of (parts_shown r.0.items)) }

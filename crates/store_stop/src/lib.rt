@@ -10,4 +10,4 @@ mod read_stores;
 mod tests;
 mod told_histories;
 
-pub use headline::{Stopped, stop_store, stopped_stores_outlive_crashes};
+pub use headline::{Stopped, are_whole, stop_store, stopped_stores_outlive_crashes};

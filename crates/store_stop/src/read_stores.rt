@@ -7,7 +7,7 @@ ghost use Rattle.heap_rule.specs.Views.{are_clean};
 ghost use Rattle.mont_base.specs.Layout.{units_of};
 ghost use Rattle.store_stop.specs.ReadStores.{AreUnwritten, HasReadOnce, IsReadOfNothing};
 
-use crate::{Stopped, stop_store};
+use crate::{Stopped, are_whole, stop_store};
 use heap::{AdvSeat, Heap, Seats, Ticket, UnitSeat};
 use heap_pass::Pass;
 use mont_base::{
@@ -175,6 +175,9 @@ pub(crate) fn stop(alloc: Global, store: ReadStore) -> Result<Stopped, Fail>
         passes,
         reads: _,
     } = store;
+    if !are_whole(&passes) {
+        return Err(Fail::new("a receipt was dropped"));
+    }
     let base = Contents::empty(alloc, heap.layout())?;
     Ok(stop_store(alloc, heap, units, advancer, passes, FIRST_CLOCK, base)?)
 }

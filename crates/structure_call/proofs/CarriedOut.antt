@@ -5,7 +5,6 @@ use Rattle.std.specs.List.{AllZip}
 use Rattle.std.proofs.lemmas.List.Elements.{All-cons, All-nil, All-contains, Contains-append_left}
 use Rattle.mont_base.specs.declared.constants.TheConstants.{LAST}
 use Rattle.mont_base.specs.declared.effect.Effect.{Effect}
-use Rattle.mont_base.specs.declared.kinds.UnitKind.{UnitKind}
 use Rattle.mont_base.specs.declared.kinds.UnitKind.TheVariants as unit_kinds
 use Rattle.mont_base.specs.declared.operation.Entry.{Entry}
 use Rattle.mont_base.specs.declared.operation.Op.{Op}
@@ -14,11 +13,12 @@ use Rattle.mont_base.specs.declared.operation.Reply.{Reply}
 use Rattle.mont_base.specs.declared.record.Change.{Change}
 use Rattle.mont_base.specs.declared.record.Held.{Held}
 use Rattle.mont_base.specs.Layout.{Shape, kind_of, is_of_kind}
-use Rattle.mont_base.specs.State.{State, is_state_of, MapOf, QueueOf, GraphOf, step}
+use Rattle.mont_base.specs.State.{is_state_of, step}
 use Rattle.mont_base.specs.Versions.{newest_of}
 use Rattle.mont_laws.specs.Effects.{IsOpOf, IsNewSerial, AreEffects}
 use Rattle.mont_laws.specs.Records.{live_of}
-use Rattle.mont_laws.specs.Structures.{HasStructure, kind_of_state}
+use Rattle.mont_laws.specs.Structures.{HasStructure}
+use Rattle.mont_laws.proofs.SameKind.{is_queue_by_state}
 use Rattle.mont_laws.proofs.Newest.{newest_is}
 use Rattle.mont_laws.proofs.Shown.{effects_lead}
 use Rattle.core_steps.specs.declared.parts.UnitPart.{UnitPart}
@@ -42,12 +42,6 @@ use Rattle.structure_call.proofs.ChangeNumbers.{AreLeft, numbers_left, all_live,
 use Rattle.structure_call.proofs.SerialsGiven.{serial_given}
 use Rattle.structure_call.proofs.SoundHistories.{sound_shows, shows_before}
 use Rattle.structure_call.proofs.KeptPlans.{structure_kept, next_kept, all_kept}
-
--- the kind of a state
-pub kind_is : (state : State) → is_of_kind (Some (kind_of_state state)) unit_kinds.Queue ≡ is_state_of unit_kinds.Queue state
-kind_is (MapOf pairs) = refl
-kind_is (QueueOf items) = refl
-kind_is (GraphOf graph) = refl
 
 -- the records are of the epoch
 epochs_by : (unit next : ℕ) (kept : List Held) (epoch : ℕ) (cs : List Change) (slots : List ℕ)
@@ -91,7 +85,7 @@ module _ (heap : HeapShown) (old : RegionShown) (q : CallerShown) (op : Op) (rep
   effects = (step plan.state op).effects
 
   of_kind : is_of_kind (kind_of old.books.layout old.books.unit) unit_kinds.Queue ≡ is_state_of unit_kinds.Queue plan.state
-  of_kind = ap (λ (o : Option UnitKind). is_of_kind o unit_kinds.Queue) plan.shown.of_unit ∙ kind_is plan.state
+  of_kind = is_queue_by_state (kind_of old.books.layout old.books.unit) plan.state plan.shown.of_unit
 
   shape : old.books.layout ≡ heap.opening.layout
   shape = ready.runs.of_heap.layout
@@ -351,6 +345,7 @@ module _ (heap : HeapShown) (old : RegionShown) (q : CallerShown) (op : Op) (rep
             let newest = k.clock.not_before in
             let durable = k.clock.not_behind in
             record {
+              first = k.clock.low;
               not_before = omega arith;
               not_behind = omega arith;
               after_entries = k.clock.after_entries;

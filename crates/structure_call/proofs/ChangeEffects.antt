@@ -72,6 +72,8 @@ del_edge_fits g e (Some attribute) = (tt, tt)
 pub step_fits : (state : State) (op : Op) → AllFit (is_state_of unit_kinds.Queue state) (step state op).effects
 step_fits (MapOf m) (ops.Put key value) = set_fits (finite.contains_key m key) (Pair key value) refl
 step_fits (MapOf m) (ops.Del key) = map_del_fits m key (finite.get m key)
+step_fits (MapOf m) (ops.OPut unit key value) = set_fits (finite.contains_key m key) (Pair key value) refl
+step_fits (MapOf m) (ops.ODel unit key) = map_del_fits m key (finite.get m key)
 step_fits (MapOf m) _ = tt
 step_fits (QueueOf items) (ops.Enq unit item) = (refl, tt)
 step_fits (QueueOf items) (ops.Deq unit) = deq_fits items

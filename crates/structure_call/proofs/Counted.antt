@@ -6,7 +6,6 @@ use Rattle.std.proofs.lemmas.Bool.Decides.{nat_tests}
 use Rattle.std.proofs.lemmas.Option.{same_Some}
 use Rattle.mont_base.specs.declared.constants.TheConstants.{LAST}
 use Rattle.mont_base.specs.declared.effect.Effect.{Effect}
-use Rattle.mont_base.specs.declared.kinds.UnitKind.{UnitKind}
 use Rattle.mont_base.specs.declared.kinds.UnitKind.TheVariants as kinds
 use Rattle.mont_base.specs.declared.operation.Entry.{Entry}
 use Rattle.mont_base.specs.declared.operation.Op.{Op}
@@ -19,9 +18,10 @@ use Rattle.mont_base.specs.declared.refusal.Which.{Which}
 use Rattle.mont_base.specs.declared.refusal.Which.TheVariants as ends
 use Rattle.mont_base.specs.History.{state_after}
 use Rattle.mont_base.specs.Image.{IsRecovered}
-use Rattle.mont_base.specs.Layout.{Shape, is_of_kind}
-use Rattle.mont_base.specs.State.{State, MapOf, QueueOf, GraphOf, is_state_of, step}
-use Rattle.mont_laws.specs.Structures.{HasStructure, kind_of_state}
+use Rattle.mont_base.specs.Layout.{Shape, kind_of}
+use Rattle.mont_base.specs.State.{State, is_state_of, step}
+use Rattle.mont_laws.specs.Structures.{HasStructure}
+use Rattle.mont_laws.proofs.SameKind.{the_kind, of_one_kind, is_queue_by_state}
 use Rattle.mont_laws.proofs.Shown.{one_state}
 use Rattle.core_steps.specs.declared.parts.CallerPart.{CallerPart}
 use Rattle.heap.specs.HeapShown.{HeapShown, CallerShown}
@@ -34,7 +34,6 @@ use Rattle.structure_call.specs.Calling.{HasAnsweredCall, is_insertion, is_enque
 use Rattle.structure_call.specs.Counting.{HasCounted, IsCountedFrom, AreVersionsWithin, FreshAreCounted, RecoveredAreCounted, AnswersAreCounted, RefusalsAreCounted, LacksIdentity, LacksVersions, LacksSerial, LacksNumber, NumbersEnd, sum_over, insertions, enqueued, changes_made, greatest_opened, objects_opened, opened_with, records_opened}
 use Rattle.structure_call.specs.Planning.{IsPlan, Makes, adds_item, first_at_end}
 use Rattle.structure_call.specs.Standing.{ShowsHistory}
-use Rattle.structure_call.proofs.CarriedOut.{kind_is}
 use Rattle.structure_call.proofs.ChangeEffects.{inserts_are, queue_of, step_fits}
 use Rattle.structure_call.proofs.Insertions.{few_inserted}
 use Rattle.structure_call.proofs.NamedThings.{step_names}
@@ -48,7 +47,7 @@ module _ (heap : HeapShown) (r : RegionShown) where
   opened = records_opened heap r.books.unit
 
   -- a unit has the records that it was opened with, has answered nothing, and its next numbers are those behind the records
-  counted_at_first : r.books.identity ≡ greatest_opened heap r.books.unit + 1
+  pub counted_at_first : r.books.identity ≡ greatest_opened heap r.books.unit + 1
       → r.books.serial ≡ serial_at_first heap.opening.layout r.books.unit opened → r.seat.held.part.records ≡ opened
       → r.seat.held.part.history ≡ [] → HasCounted heap r
   counted_at_first identity serial records none = λ running states recovered.
@@ -131,11 +130,12 @@ module _ (heap : HeapShown) (old new : RegionShown) (q r : CallerShown) (op : Op
   versions_after within =
       subst (λ (x : ℕ × List Held). AreVersionsWithin heap.opening.layout old.books.unit (objects_opened heap old.books.unit) x.0 x.1)
       (λ i. (sym (counted_more length) i, sym a.wrote.records_are i))
-      (more_versions heap.opening.layout old.books.unit (objects_opened heap old.books.unit) (changes_made base history) a.wrote.kept
+      (let kind = the_kind (kind_of heap.opening.layout old.books.unit) a.judged.state a.judged.shown.of_unit in
+      more_versions heap.opening.layout old.books.unit (objects_opened heap old.books.unit) (changes_made base history) a.wrote.kept
       (kept_versions heap.opening.layout old.books.unit (objects_opened heap old.books.unit) (changes_made base history)
       old.seat.held.part.records a.wrote.kept a.wrote.live within)
-      (kind_of_state a.judged.state) a.judged.shown.of_unit (step a.judged.state op).effects a.wrote.written a.wrote.are_effects
-      (step_names a.judged.state op a.judged.of_unit.texts))
+      kind.0 kind.1 (step a.judged.state op).effects a.wrote.written a.wrote.are_effects
+      (step_names kind.0 a.judged.state op kind.2 a.judged.of_unit.texts))
 
   answer_counted : IsCountedFrom heap old base → IsCountedFrom heap new (opened_with heap states new.books.unit)
   answer_counted before =
@@ -212,11 +212,6 @@ at_end q r cs which =
     (here_or_later (IsAtEnd q r cs) (adds_item r.books cs && nat_lt LAST r.books.serial) ends.Serial None which
     (serial_ends (adds_item r.books cs) r.books.serial) (λ none. absurd (cc))))))
 
-kind_is_queue : (state : State) → is_of_kind (Some (kind_of_state state)) kinds.Queue ≡ true → kind_of_state state ≡ kinds.Queue
-kind_is_queue (MapOf pairs) e = absurd (cc)
-kind_is_queue (QueueOf items) e = refl
-kind_is_queue (GraphOf graph) e = absurd (cc)
-
 module _ (heap : HeapShown) (old : RegionShown) (q : CallerPart) (op : Op) (reply : Reply) (changes : List Change)
     (layout : old.books.layout ≡ heap.opening.layout) (plan : IsPlan old op reply changes) (states : List State)
     (shown : HasStructure heap.opening.layout old.books.unit old.seat.held.part.records
@@ -245,9 +240,10 @@ module _ (heap : HeapShown) (old : RegionShown) (q : CallerPart) (op : Op) (repl
 
   lacks_versions : list_any (ends_version old.seat.held.part.records) changes ≡ true → LacksVersions heap old op opened_base
   lacks_versions ends =
+      let kind = the_kind (kind_of heap.opening.layout old.books.unit) reached shown.of_unit in
       versions_end heap.opening.layout old.books.unit (objects_opened heap old.books.unit)
-      (changes_made opened_base old.seat.held.part.history) old.seat.held.part.records counted.versions (kind_of_state reached)
-      shown.of_unit old.books (step reached op).effects changes makes (step_names reached op plan.of_unit.texts) ends
+      (changes_made opened_base old.seat.held.part.history) old.seat.held.part.records counted.versions kind.0 kind.1
+      old.books (step reached op).effects changes makes (step_names kind.0 reached op kind.2 plan.of_unit.texts) ends
 
   lacks_serial : adds_item old.books changes ≡ true → LAST < old.books.serial → LacksSerial heap old op opened_base
   lacks_serial adds above =
@@ -259,12 +255,11 @@ module _ (heap : HeapShown) (old : RegionShown) (q : CallerPart) (op : Op) (repl
       = ap (λ (t : Bool). cond t (greatest (live_serials (records_opened heap old.books.unit)) + 1) 1) here in
       let serial = counted.serial in
       record {
-        of_queue = shown.of_unit ∙ ap Some (kind_is_queue reached
-            (ap (λ (o : Option UnitKind). is_of_kind o kinds.Queue) (sym shown.of_unit) ∙ here));
+        of_queue = of_one_kind (kind_of heap.opening.layout old.books.unit) kinds.Queue here;
         adds =
             some_enqueued old.books old.seat.held.part.records (is_state_of kinds.Queue reached)
             (ap (λ (s : Shape). is_queue s old.books.unit) layout
-            ∙ ap (λ (o : Option UnitKind). is_of_kind o kinds.Queue) shown.of_unit ∙ kind_is reached)
+            ∙ is_queue_by_state (kind_of heap.opening.layout old.books.unit) reached shown.of_unit)
             (step reached op).effects changes (step_fits reached op) makes adds;
         none_left = omega (arith, above, serial, first);
       }

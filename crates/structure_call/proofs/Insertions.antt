@@ -56,6 +56,8 @@ none_cut g e (Some attribute) = one_renewed (Removes (edge_thing (e, attribute))
 pub few_inserted : (state : State) (op : Op) → count_by is_insertion (step state op).effects ≤ 1
 few_inserted (MapOf m) (ops.Put key value) = one_set (finite.contains_key m key) (Pair key value)
 few_inserted (MapOf m) (ops.Del key) = none_deleted m key (finite.get m key)
+few_inserted (MapOf m) (ops.OPut unit key value) = one_set (finite.contains_key m key) (Pair key value)
+few_inserted (MapOf m) (ops.ODel unit key) = none_deleted m key (finite.get m key)
 few_inserted (MapOf m) _ = omega arith
 few_inserted (QueueOf items) (ops.Enq unit item) = let c = counted_cons (Inserts (Item item)) [] in omega arith
 few_inserted (QueueOf items) (ops.Deq unit) = none_dequeued items

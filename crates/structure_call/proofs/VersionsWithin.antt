@@ -3,7 +3,6 @@ use Rattle.std.proofs.Common.{◌≡◌, ℕ, ◌+◌, ◌≤◌, ◌⊎◌, inl
 use Rattle.std.specs.Prelude.{◌||◌, nat_lt, nat_le, max, fold, Any, Option, Some, None}
 use Rattle.std.specs.List.{AllZip, Contains, list_any}
 use Rattle.std.proofs.lemmas.Bool.Decides.{nat_tests}
-use Rattle.std.proofs.lemmas.Option.{same_Some}
 use Rattle.mont_base.specs.declared.constants.TheConstants.{LAST}
 use Rattle.mont_base.specs.declared.effect.Effect.{Effect}
 use Rattle.mont_base.specs.declared.effect.Effect.TheVariants.{Inserts, Replaces, Removes}
@@ -23,7 +22,7 @@ use Rattle.mont_laws.proofs.Members.{no_element, first_element, later_element, e
 use Rattle.mont_laws.proofs.Newest.{newest_append, newest_is}
 use Rattle.slots.specs.Books.{BooksShown}
 use Rattle.slots.specs.Changes.{ends_version, greatest_version, version_in}
-use Rattle.structure_call.specs.Counting.{AreVersionsWithin, LacksVersion, is_version_of, kind_of_thing, version_if, version_among}
+use Rattle.structure_call.specs.Counting.{AreVersionsWithin, LacksVersion, is_version_of, is_thing_of, may_hold, version_if, version_among}
 use Rattle.structure_call.specs.Planning.{Makes, NamesThing}
 use Rattle.structure_call.proofs.KeptPlans.{newest_live}
 use Rattle.structure_call.proofs.NamedThings.{Names, AllName, named_is, same_name}
@@ -94,20 +93,26 @@ live_among rs ws identity r live =
 
 module _ (s : Shape) (unit : ℕ) (objects : List Object) (changes : ℕ) (rs : List Held)
     (within : AreVersionsWithin s unit objects changes rs) (kind : UnitKind) (of_unit : kind_of s unit ≡ Some kind) where
+  held_by : (thing : Thing) → may_hold (kind_of s unit) thing ≡ is_thing_of kind thing
+  held_by thing = ap (λ (o : Option UnitKind). may_hold o thing) of_unit
+
+  held : (thing : Thing) → is_thing_of kind thing ≡ true → may_hold (kind_of s unit) thing ≡ true
+  held thing is = held_by thing ∙ is
+
   -- a record that an effect writes
-  effect_within : (thing : Thing) → kind_of_thing thing ≡ kind → (e : Effect) (w : Held) → IsEffect unit rs e w → Names kind e
+  effect_within : (thing : Thing) → is_thing_of kind thing ≡ true → (e : Effect) (w : Held) → IsEffect unit rs e w → Names kind e
       → is_delete w.label.kind ≡ false → is_version_of thing (object_of w) ≡ true
       → w.label.version ≤ version_among objects thing + changes + 1
   effect_within thing is_kind (Inserts set) w k named alive is = let first = k.writes.1.version in omega (arith, first)
   effect_within thing is_kind (Replaces set) w k named alive is =
       let next = k.writes.1 in
-      let low = within thing (of_unit ∙ ap Some (sym is_kind)) w.label.identity next.last next.live
-      (same_name rs thing set next.last w (is_kind ∙ sym named.0) named.1 next.named k.writes.2 ∙ is) in
+      let low = within thing (held thing is_kind) w.label.identity next.last next.live
+      (same_name kind rs thing set next.last w is_kind named.0 named.1 next.named k.writes.2 ∙ is) in
       let one = next.version in omega (arith, low, one)
   effect_within thing is_kind (Removes set) w k named alive is =
       absurd (let gone = ap is_delete k.writes.0 in cc)
 
-  written_within : (thing : Thing) → kind_of_thing thing ≡ kind → (es : List Effect) (ws : List Held)
+  written_within : (thing : Thing) → is_thing_of kind thing ≡ true → (es : List Effect) (ws : List Held)
       → AllZip (IsEffect unit rs) es ws → AllName kind es → (w : Held) → Contains ws w
       → is_delete w.label.kind ≡ false → is_version_of thing (object_of w) ≡ true
       → w.label.version ≤ version_among objects thing + changes + length es
@@ -125,7 +130,7 @@ module _ (s : Shape) (unit : ℕ) (objects : List Object) (changes : ℕ) (rs : 
       → AreVersionsWithin s unit objects (changes + length es) (rs ++ ws)
   more_versions es ws k named thing fits identity r live is = elim (live_among rs ws identity r live) [
     | inl new ↦
-        let low = written_within thing (same_Some (kind_of_thing thing) kind (sym fits ∙ of_unit)) es ws k named r new.0 new.1 is in
+        let low = written_within thing (sym (held_by thing) ∙ fits) es ws k named r new.0 new.1 is in
         omega (arith, low)
     | inr old ↦ let low = within thing fits identity r old is in omega (arith, low)
   ]
@@ -137,12 +142,12 @@ at_least m n e = grind (arith, nat_tests)
 module _ (s : Shape) (unit : ℕ) (objects : List Object) (changes : ℕ) (rs : List Held)
     (within : AreVersionsWithin s unit objects changes rs) (kind : UnitKind) (of_unit : kind_of s unit ≡ Some kind)
     (b : BooksShown) where
-  last_named : (thing : Thing) (slot identity : ℕ) → kind_of_thing thing ≡ kind → NamesThing rs thing slot identity
+  last_named : (thing : Thing) (slot identity : ℕ) → is_thing_of kind thing ≡ true → NamesThing rs thing slot identity
       → nat_le LAST (greatest_version identity rs) ≡ true → LAST ≤ version_among objects thing + changes
   last_named thing slot identity is_kind k ends =
       let last = at_least LAST (greatest_version identity rs) ends in
       let own : greatest_version identity rs ≡ k.live.label.version = ap version_in (newest_live rs identity k.live k.is) in
-      let low = within thing (of_unit ∙ ap Some (sym is_kind)) identity k.live k.is (named_is rs thing k.live k.named) in
+      let low = within thing (ap (λ (o : Option UnitKind). may_hold o thing) of_unit ∙ is_kind) identity k.live k.is (named_is rs thing k.live k.named) in
       omega (arith, last, own, low)
 
   effect_ends : (e : Effect) (c : Change) → Makes b rs e c → Names kind e → ends_version rs c ≡ true → LacksVersion objects changes e

@@ -1,5 +1,5 @@
 -- How far the numbers of a unit have come since its store was opened.
-use Rattle.std.specs.Prelude.{◌≡◌, ℕ, ◌+◌, ◌<◌, ◌≤◌, Bool, true, List, [], ◌∷◌, map, length, Any, count_by, Some, None, if◌then◌else◌}
+use Rattle.std.specs.Prelude.{◌≡◌, ℕ, ◌+◌, ◌<◌, ◌≤◌, Bool, true, false, List, [], ◌∷◌, map, length, Any, count_by, Option, Some, None, if◌then◌else◌}
 use Rattle.std.proofs.Props.{props}
 use Rattle.std.specs.Coded.{Coded-set, coded_ℕ}
 use Rattle.mont_base.specs.declared.constants.TheConstants.{LAST}
@@ -20,7 +20,7 @@ use Rattle.mont_base.specs.declared.refusal.Which.{Which}
 use Rattle.mont_base.specs.declared.refusal.Which.TheVariants as ends
 use Rattle.mont_base.specs.History.{state_after}
 use Rattle.mont_base.specs.Image.{clock_of, records_of, IsRecovered}
-use Rattle.mont_base.specs.Layout.{Shape, kind_of}
+use Rattle.mont_base.specs.Layout.{Shape, kind_of, same_kind, keeps_pairs}
 use Rattle.mont_base.specs.State.{State, step}
 use Rattle.mont_base.specs.Structure.{has_key, has_vertex, has_edge}
 use Rattle.mont_base.specs.Versions.{live_objects, object_of}
@@ -68,11 +68,17 @@ abbrev pub opened_with : HeapShown → List State → ℕ → State
 opened_with heap states unit = base_state (opened_at (clock_of heap.opening.words) states) unit
 
 -- ---- versions of a thing
-abbrev pub kind_of_thing : Thing → UnitKind
-kind_of_thing (Pair key value) = kinds.Map
-kind_of_thing (Item item) = kinds.Queue
-kind_of_thing (Vertex vertex attribute) = kinds.Graph
-kind_of_thing (Edge from to attribute) = kinds.Graph
+-- whether a unit of a kind may hold a thing
+abbrev pub is_thing_of : UnitKind → Thing → Bool
+is_thing_of kind (Pair key value) = keeps_pairs kind
+is_thing_of kind (Item item) = same_kind kind kinds.Queue
+is_thing_of kind (Vertex vertex attribute) = same_kind kind kinds.Graph
+is_thing_of kind (Edge from to attribute) = same_kind kind kinds.Graph
+
+-- the same of a unit's kind, if there is the unit
+abbrev pub may_hold : Option UnitKind → Thing → Bool
+may_hold None thing = false
+may_hold (Some kind) thing = is_thing_of kind thing
 
 -- the object is a version of the thing; in a queue any item will do
 abbrev pub is_version_of : Thing → Object → Bool
@@ -91,7 +97,7 @@ version_among objects thing = greatest (map (version_if thing) objects)
 -- A live record's version is above that which its thing had at first by so many at most.
 abbrev pub AreVersionsWithin : Shape → ℕ → List Object → ℕ → List Held → Type 0
 AreVersionsWithin s unit objects changes records =
-    (thing : Thing) → kind_of s unit ≡ Some (kind_of_thing thing)
+    (thing : Thing) → may_hold (kind_of s unit) thing ≡ true
     → (identity : ℕ) (r : Held) → live_of identity records ≡ Some r
     → is_version_of thing (object_of r) ≡ true
     → r.label.version ≤ version_among objects thing + changes

@@ -72,8 +72,8 @@ pub fn check_numbers<G: Gate>(
     Err(CallRefusal::CountEnd { which })
 }
 
-// The pass takes a note of the unit.
-fn take_note<G: Gate>(heap: &Heap, region: &mut Region, pass: &mut Pass<G>)
+/// The pass takes a note of the unit.
+pub fn take_note<G: Gate>(heap: &Heap, region: &mut Region, pass: &mut Pass<G>)
     requires region { region.old.seat.table ≡ heap.now.table }
     requires agrees { Agrees region.old }
     requires pass { pass.old.ticket.table ≡ heap.now.table }

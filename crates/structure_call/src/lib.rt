@@ -8,7 +8,7 @@ mod counting;
 mod refusing;
 
 pub use carrying::{Carried, carry_out};
-pub use checking::{check_numbers, check_running};
+pub use checking::{check_numbers, check_running, take_note};
 pub use counting::{
     answers_are_counted, fresh_units_are_counted, numbers_end, recovered_units_are_counted,
     refusals_are_counted,

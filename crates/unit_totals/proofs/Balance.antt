@@ -114,9 +114,16 @@ removal f m k (Some v) is =
     let one = remove_total f m k v is in
     record { behind = finite.remove m k; leads = refl; sums = omega (arith, one) }
 
+-- a removal from an ordered unit is one from a map
+ordered_removal : (f : Value → ℕ) (m : Pairs) (unit : ℕ) (k : Key) (s : Step) → StepBalances f m (ops.Del k) s
+    → StepBalances f m (ops.ODel unit k) s
+ordered_removal f m unit k s b = record { behind = b.behind; leads = b.leads; sums = b.sums }
+
 step_balances : (f : Value → ℕ) (m : Pairs) (op : Op) → StepBalances f m op (map_step m op)
 step_balances f m (ops.Put k v) = record { behind = finite.insert m k v; leads = refl; sums = put_total f m k v }
 step_balances f m (ops.Del k) = removal f m k (finite.get m k) refl
+step_balances f m (ops.OPut unit k v) = record { behind = finite.insert m k v; leads = refl; sums = put_total f m k v }
+step_balances f m (ops.ODel unit k) = ordered_removal f m unit k (map_del m k (finite.get m k)) (removal f m k (finite.get m k) refl)
 step_balances f m _ = record { behind = m; leads = refl; sums = refl }
 
 pub balance : BooksBalance

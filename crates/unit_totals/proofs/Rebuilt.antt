@@ -10,13 +10,13 @@ use Rattle.mont_base.specs.declared.operation.Entry.{Entry}
 use Rattle.mont_base.specs.declared.operation.Op.{Op}
 use Rattle.mont_base.specs.declared.operation.Op.TheVariants as ops
 use Rattle.mont_base.specs.declared.operation.Reply.{Reply}
-use Rattle.mont_base.specs.Layout.{Shape, kind_of, same_kind, units_from, map_units, key_number, unit_of_key}
-use Rattle.mont_base.specs.State.{Key, Value, State, MapOf, QueueOf, GraphOf, step, unit_of_op}
+use Rattle.mont_base.specs.Layout.{Shape, kind_of, same_kind, is_of_kind, named_if, unit_named, units_from, map_units, key_number, unit_of_key}
+use Rattle.mont_base.specs.State.{Key, Value, State, MapOf, QueueOf, GraphOf, is_state_of, step, unit_of_op}
 use Rattle.mont_base.specs.History.{state_after, RepliesFollow, cut_at}
 use Rattle.mont_base.specs.Structure.{IsStructure, structure_of}
 use Rattle.mont_base.specs.declared.record.Object.{Object}
-use Rattle.mont_laws.specs.Structures.{kind_of_state}
-use Rattle.mont_laws.proofs.SameKind.{same_kind_after}
+use Rattle.mont_base.proofs.KindTable.{one_kind}
+use Rattle.mont_laws.proofs.SameKind.{same_kind_after, of_one_kind}
 use Rattle.store_stop.specs.Headline.{IsRebuilt}
 use Rattle.unit_totals.specs.Books.{total_of, put_by, taken_by, put_in, taken_out}
 use Rattle.unit_totals.proofs.Balance.{balance}
@@ -43,17 +43,6 @@ front_follows s [] rest f = tt
 front_follows s (e ∷ front) rest f = (f.0, front_follows (step s e.op).state front rest f.1)
 
 -- ---- a unit of another kind has no total, and none of its operations counts
-same : (a b : UnitKind) → same_kind a b ≡ true → a ≡ b
-same kinds.Map kinds.Map e = refl
-same kinds.Queue kinds.Queue e = refl
-same kinds.Graph kinds.Graph e = refl
-same kinds.Map kinds.Queue e = cc
-same kinds.Map kinds.Graph e = cc
-same kinds.Queue kinds.Map e = cc
-same kinds.Queue kinds.Graph e = cc
-same kinds.Graph kinds.Map e = cc
-same kinds.Graph kinds.Queue e = cc
-
 record IsUnitFrom (n : ℕ) (kind : UnitKind) (ks : List UnitKind) (u : ℕ) : Type 0 where
   pub place : ℕ
   pub at : u ≡ n + place
@@ -71,7 +60,7 @@ units_are n kind (k ∷ ks) i u e = by (same_kind k kind) refl i e (λ j f. late
         → IsUnitFrom n kind (k ∷ ks) u
     by true t zero f rest =
         let here : n ≡ u = same_Some n u (rw t at f) in
-        record { place = 0; at = omega (arith, here); is = ap Some (same k kind t) }
+        record { place = 0; at = omega (arith, here); is = ap Some (one_kind k kind t) }
     by true t (suc j) f rest = rest j (rw t at f)
     by false t j f rest = rest j (rw t at f)
 
@@ -81,14 +70,26 @@ map_of_key s unit key e =
     let at : unit ≡ it.place = let a = it.at in omega (arith, a) in
     ap (slice_get s.kinds) at ∙ it.is
 
-module _ (amount : Value → ℕ) (s : Shape) (unit : ℕ) (no_map : kind_of s unit ≢ Some kinds.Map) where
+-- the unit that is named for a kind has it
+named_has : (s : Shape) (kind : UnitKind) (named unit : ℕ) → unit_named s kind named ≡ Some unit → kind_of s unit ≡ Some kind
+named_has s kind named unit e = by (is_of_kind (kind_of s named) kind) refl e
+  where
+    by : (b : Bool) → is_of_kind (kind_of s named) kind ≡ b → named_if b named ≡ Some unit → kind_of s unit ≡ Some kind
+    by true is f = let same = same_Some named unit f in ap (kind_of s) (sym same) ∙ of_one_kind (kind_of s named) kind is
+    by false is f = absurd (cc)
+
+module _ (amount : Value → ℕ) (s : Shape) (unit : ℕ) (no_map : kind_of s unit ≢ Some kinds.Map)
+    (no_ordered : kind_of s unit ≢ Some kinds.Ordered) where
   puts_nothing : (op : Op) → unit_of_op s op ≡ Some unit → put_by amount op ≡ 0
   puts_nothing (ops.Put key value) e = absurd (no_map (map_of_key s unit key e))
+  puts_nothing (ops.OPut named key value) e = absurd (no_ordered (named_has s kinds.Ordered named unit e))
   puts_nothing _ e = refl
 
   takes_nothing : (op : Op) (reply : Reply) → unit_of_op s op ≡ Some unit → taken_by amount op reply ≡ 0
   takes_nothing (ops.Put key value) reply e = absurd (no_map (map_of_key s unit key e))
   takes_nothing (ops.Del key) reply e = absurd (no_map (map_of_key s unit key e))
+  takes_nothing (ops.OPut named key value) reply e = absurd (no_ordered (named_has s kinds.Ordered named unit e))
+  takes_nothing (ops.ODel named key) reply e = absurd (no_ordered (named_has s kinds.Ordered named unit e))
   takes_nothing _ reply e = refl
 
   abbrev OfUnit : Entry → Type 0
@@ -106,19 +107,18 @@ module _ (amount : Value → ℕ) (s : Shape) (unit : ℕ) (no_map : kind_of s u
       zero_within true n z = z
       zero_within false n z = refl
 
-kind_after : (state : State) (h : List Entry) → kind_of_state (state_after state h) ≡ kind_of_state state
-kind_after state [] = refl
-kind_after state (e ∷ es) = kind_after (step state e.op).state es ∙ same_kind_after state e.op
+-- a state with pairs is one that a map may have
+abbrev has_pairs : State → Bool
+has_pairs state = is_state_of kinds.Map state
 
-kind_made : (kind : UnitKind) (os : List Object) → kind_of_state (structure_of kind os) ≡ kind
-kind_made kinds.Map os = refl
-kind_made kinds.Queue os = refl
-kind_made kinds.Graph os = refl
+pairs_after : (state : State) (h : List Entry) → has_pairs (state_after state h) ≡ has_pairs state
+pairs_after state [] = refl
+pairs_after state (e ∷ es) = pairs_after (step state e.op).state es ∙ same_kind_after kinds.Map state e.op
 
-no_total : (amount : Value → ℕ) (state : State) → kind_of_state state ≢ kinds.Map → total_of amount state ≡ 0
-no_total amount (MapOf m) other = absurd (other refl)
-no_total amount (QueueOf items) other = refl
-no_total amount (GraphOf g) other = refl
+no_total : (amount : Value → ℕ) (state : State) → has_pairs state ≡ false → total_of amount state ≡ 0
+no_total amount (MapOf m) none = absurd (cc)
+no_total amount (QueueOf items) none = refl
+no_total amount (GraphOf g) none = refl
 
 -- ---- what is rebuilt of a unit accounts for the entries within the cut
 module _ (amount : Value → ℕ) (s : Shape) (clock x unit : ℕ) (os : List Object) where
@@ -126,18 +126,26 @@ module _ (amount : Value → ℕ) (s : Shape) (clock x unit : ℕ) (os : List Ob
   Accounts opened h state = total_of amount state + sum_by (within x (taken_out amount)) h
       ≡ total_of amount opened + sum_by (within x (put_in amount)) h
 
-  other_accounts : (opened : State) (h : List Entry) (state : State) → kind_of_state opened ≢ kinds.Map
+  -- the state of a unit of this kind has pairs, so a unit whose state has none isn't of it
+  not_of : (kind : UnitKind) (state : State) → has_pairs (structure_of kind os) ≡ true → has_pairs state ≡ false
+      → IsStructure s unit os state → kind_of s unit ≢ Some kind
+  not_of kind state has none made is =
+      let own : made.kind ≡ kind = same_Some made.kind kind (sym made.of_unit ∙ is) in
+      let has_all = ap has_pairs made.made ∙ ap (λ (k : UnitKind). has_pairs (structure_of k os)) own ∙ has in
+      absurd (cc)
+
+  other_accounts : (opened : State) (h : List Entry) (state : State) → has_pairs opened ≡ false
       → IsRebuilt s clock x unit opened h state → IsStructure s unit os state → Accounts opened h state
   other_accounts opened h state other r made =
-      let kept : kind_of_state state ≡ kind_of_state opened = ap kind_of_state r.leads ∙ kind_after opened (cut_at x h) in
-      let own : made.kind ≡ kind_of_state opened = sym (ap kind_of_state made.made ∙ kind_made made.kind os) ∙ kept in
-      let no_map : kind_of s unit ≢ Some kinds.Map =
-      λ is. other (sym own ∙ same_Some made.kind kinds.Map (sym made.of_unit ∙ is)) in
-      let put = no_sum amount s unit no_map x (put_in amount) (λ e. puts_nothing amount s unit no_map e.op) h r.legal.of_unit in
-      let taken = no_sum amount s unit no_map x (taken_out amount)
-      (λ e. takes_nothing amount s unit no_map e.op e.reply) h r.legal.of_unit in
+      let none : has_pairs state ≡ false = ap has_pairs r.leads ∙ pairs_after opened (cut_at x h) ∙ other in
+      let no_map = not_of kinds.Map state refl none made in
+      let no_ordered = not_of kinds.Ordered state refl none made in
+      let put = no_sum amount s unit no_map no_ordered x (put_in amount)
+      (λ e. puts_nothing amount s unit no_map no_ordered e.op) h r.legal.of_unit in
+      let taken = no_sum amount s unit no_map no_ordered x (taken_out amount)
+      (λ e. takes_nothing amount s unit no_map no_ordered e.op e.reply) h r.legal.of_unit in
       let before = no_total amount opened other in
-      let behind = no_total amount state (λ is. other (sym kept ∙ is)) in
+      let behind = no_total amount state none in
       omega (arith, put, taken, before, behind)
 
   pub accounts : (opened : State) (h : List Entry) (state : State) → IsRebuilt s clock x unit opened h state → IsStructure s unit os state
@@ -147,8 +155,8 @@ module _ (amount : Value → ℕ) (s : Shape) (clock x unit : ℕ) (os : List Ob
       let book = balance amount m (cut_at x h) follows in
       let leads = ap (total_of amount) r.leads in
       omega (arith, book, leads, cut_sum x (put_in amount) h, cut_sum x (taken_out amount) h)
-  accounts (QueueOf items) h state r made = other_accounts (QueueOf items) h state (λ e. cc) r made
-  accounts (GraphOf g) h state r made = other_accounts (GraphOf g) h state (λ e. cc) r made
+  accounts (QueueOf items) h state r made = other_accounts (QueueOf items) h state refl r made
+  accounts (GraphOf g) h state r made = other_accounts (GraphOf g) h state refl r made
 
 -- ---- and so do all units
 module _ (amount : Value → ℕ) (x : ℕ) where

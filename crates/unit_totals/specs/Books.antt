@@ -1,5 +1,5 @@
--- What the values of a map come to, each counted by a function, and what entries put in and take
--- out.
+-- What the values of a map or of an ordered unit come to, each counted by a function, and what
+-- entries put in and take out.
 use Rattle.std.specs.Prelude.{◌≡◌, ℕ, ◌+◌, List, sum_by}
 use Rattle.std.specs.FinMap as finite
 use Rattle.mont_base.specs.declared.operation.Entry.{Entry}
@@ -10,7 +10,7 @@ use Rattle.mont_base.specs.declared.operation.Reply.TheVariants as replies
 use Rattle.mont_base.specs.State.{Key, Value, Pairs, State, MapOf}
 use Rattle.mont_base.specs.History.{state_after, RepliesFollow}
 
--- the total of a map's values; other units have none
+-- the total of the values of a map or of an ordered unit; other units have none
 abbrev pub total_of : (Value → ℕ) → State → ℕ
 total_of amount (MapOf m) = sum_by (λ (e : Key × Value). amount e.1) (finite.entries m)
 total_of amount _ = 0
@@ -22,6 +22,7 @@ total_in amount states = sum_by (total_of amount) states
 -- what an operation puts in
 abbrev pub put_by : (Value → ℕ) → Op → ℕ
 put_by amount (ops.Put key value) = amount value
+put_by amount (ops.OPut unit key value) = amount value
 put_by amount _ = 0
 
 -- what it takes out, as its reply tells: the value that was there
@@ -32,6 +33,8 @@ told_by amount _ = 0
 abbrev pub taken_by : (Value → ℕ) → Op → Reply → ℕ
 taken_by amount (ops.Put key value) reply = told_by amount reply
 taken_by amount (ops.Del key) reply = told_by amount reply
+taken_by amount (ops.OPut unit key value) reply = told_by amount reply
+taken_by amount (ops.ODel unit key) reply = told_by amount reply
 taken_by amount _ reply = 0
 
 abbrev pub put_in : (Value → ℕ) → Entry → ℕ

@@ -1,19 +1,15 @@
-use Rattle.std.proofs.Common.{◌≡◌, ℕ, ◌+◌, ◌-◌, ◌<◌, ◌≤◌, ◌∷◌, [], List, length, ap, sym, subst, ◌∙◌, arith, refl}
-use Rattle.std.specs.FinMap.{FinMap, entries, insert}
-use Rattle.std.specs.Ordering.{nat_cmp}
-use Rattle.std.proofs.lemmas.Cmp.{nat_cmp_total}
+use Rattle.std.proofs.Common.{◌≡◌, ◌+◌, ◌-◌, ◌≤◌, length, ap, sym, subst, arith, refl}
+use Rattle.std.specs.FinMap.{entries}
 use Rattle.std.proofs.lemmas.List.{length_push}
 use Rattle.mont_base.specs.State.{Graph, edge_cmp}
-use Rattle.job_text.specs.Operations.{IsNumber}
-use Rattle.job_text.specs.Ranks.{limit_after, numbers_behind, edges_behind}
+use Rattle.job_text.specs.Ranks.{limit_after, edges_behind}
 use Rattle.job_text.specs.Readings.{Refuses}
 use Rattle.job_text.specs.ReportText.{edge_words}
 use Rattle.job_text.specs.ReportRanges.{IsEdge}
-use Rattle.job_text.specs.ReportRows.{AllRising, RowsOf, edge_behind, all_edges, behind_last}
+use Rattle.job_text.specs.ReportRows.{AllRising, RowsOf, edge_behind, all_edges}
 use Rattle.job_text.proofs.ReadLines.{at_exit}
 use Rattle.job_text.proofs.RowParts.{edge_once}
-use Rattle.job_text.proofs.Ranked.{number_rank}
-use Rattle.job_text.proofs.KeyRanks.{edge_rank, edges_total, IsEnds, some_vertex, some_edge}
+use Rattle.job_text.proofs.KeyRanks.{edge_rank, edges_total, IsEnds, some_edge}
 use Rattle.job_text.proofs.MapParts.{SoFar, map_start, map_item, list_refuses, entries_none}
 use Rattle.job_text.proofs.contents_reader.next_edges.Goals as goal
 

@@ -1,6 +1,6 @@
 use Rattle.std.proofs.Common.{sym, subst}
 use Rattle.std.specs.FinMap.{entries}
-use Rattle.mont_base.specs.State.{Graph, Vertices}
+use Rattle.mont_base.specs.State.{Vertices}
 use Rattle.job_text.specs.Readings.{Reads, Refuses}
 use Rattle.job_text.specs.ReportText.{vertex_words}
 use Rattle.job_text.specs.ReportRows.{RowsOf}

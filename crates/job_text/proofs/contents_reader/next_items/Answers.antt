@@ -1,4 +1,4 @@
-use Rattle.std.proofs.Common.{◌≡◌, ℕ, ◌+◌, ◌∷◌, [], List, length, ap, sym, subst, arith}
+use Rattle.std.proofs.Common.{ℕ, List, length, ap, sym, subst, arith}
 use Rattle.std.proofs.lemmas.List.{length_push}
 use Rattle.job_text.specs.Operations.{IsNumber}
 use Rattle.job_text.specs.TextParts.{AllFrom}

@@ -1,5 +1,5 @@
-use Rattle.std.proofs.Common.{◌≡◌, ℕ, ◌+◌, ◌-◌, ◌<◌, ◌≤◌, ◌∷◌, [], List, length, ap, sym, subst, ◌∙◌, arith, IfSome, Some}
-use Rattle.std.specs.FinMap.{FinMap, entries, insert}
+use Rattle.std.proofs.Common.{◌≡◌, ◌+◌, ◌-◌, ◌≤◌, length, ap, sym, subst, arith}
+use Rattle.std.specs.FinMap.{entries}
 use Rattle.std.proofs.lemmas.Cmp.{nat_list_cmp_total}
 use Rattle.std.proofs.lemmas.List.{length_push}
 use Rattle.mont_base.specs.declared.constants.TheConstants.{TEXT_BYTES}
@@ -7,9 +7,9 @@ use Rattle.mont_base.specs.State.{Pairs}
 use Rattle.mont_base.specs.Texts.{IsText, text_cmp}
 use Rattle.job_text.specs.Ranks.{limit_after, texts_behind}
 use Rattle.job_text.specs.Readings.{Refuses}
-use Rattle.job_text.specs.ReportText.{pair_words}
+use Rattle.job_text.specs.Spelling.{pair_words}
 use Rattle.job_text.specs.ReportRanges.{IsPair}
-use Rattle.job_text.specs.ReportRows.{AllRising, RowsOf, pair_behind, all_pairs, behind_last}
+use Rattle.job_text.specs.ReportRows.{AllRising, RowsOf, pair_behind, all_pairs}
 use Rattle.job_text.proofs.ReadLines.{at_exit}
 use Rattle.job_text.proofs.RowParts.{pair_once}
 use Rattle.job_text.proofs.KeyRanks.{text_rank, some_pair, many_pairs}

@@ -4,7 +4,7 @@ use Rattle.mont_base.specs.declared.constants.TheConstants.{TEXT_BYTES}
 use Rattle.mont_base.specs.Texts.{IsText}
 use Rattle.job_text.specs.Ranks.{LeavesRoom, limit_after, texts_behind}
 use Rattle.job_text.specs.Readings.{Reads}
-use Rattle.job_text.specs.ReportText.{pair_words}
+use Rattle.job_text.specs.Spelling.{pair_words}
 use Rattle.job_text.specs.ReportRanges.{IsPair}
 use Rattle.job_text.specs.ReportRows.{RowsOf, pair_behind, all_pairs, behind_last}
 use Rattle.job_text.proofs.contents_reader.next_pairs.Given as goal

@@ -9,4 +9,5 @@ use Rattle.job_text.proofs.contents_reader.next_units.Given as goal
 -- the units so far were read
 abbrev pub invariant-loop-unit : goal.invariant-loop-unit
 invariant-loop-unit l =
-    Reads (AllFrom (IsUnit l.fn.layout.kinds) 0) contents_lines l.fn.lines l.lines (map state_of l.units) × (length l.units ≡ l.unit)
+    Reads (AllFrom (IsUnit l.fn.layout.kinds) 0) (contents_lines l.fn.layout.kinds) l.fn.lines l.lines (map state_of l.units)
+    × (length l.units ≡ l.unit)

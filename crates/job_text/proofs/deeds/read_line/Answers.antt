@@ -1,8 +1,6 @@
-use Rattle.std.proofs.Common.{◌≡◌, ◌≢◌, ℕ, ◌+◌, ◌<◌, ◌≤◌, ◌∷◌, [], List, length, map, Bor, decimal, sym, ap, ◌∙◌, arith}
+use Rattle.std.proofs.Common.{◌≡◌, ℕ, ◌∷◌, List, length, map, Bor, decimal, sym, ap, ◌∙◌, arith}
 use Rattle.std.proofs.lemmas.List.{length-map}
 use Rattle.job_text.specs.declared.job.Line.{Line}
-use Rattle.job_text.specs.declared.job.Deed.{Deed}
-use Rattle.job_text.specs.declared.words.TheConstants.{MOST_WORDS}
 use Rattle.job_text.specs.Lines.{spaced}
 use Rattle.job_text.specs.LineWords.{words_of}
 use Rattle.job_text.specs.Operations.{IsNumber}

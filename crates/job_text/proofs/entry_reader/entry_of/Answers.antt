@@ -1,12 +1,13 @@
-use Rattle.std.proofs.Common.{◌≡◌, ℕ, ◌<◌, ◌^◌, [], ◌∷◌, ◌⊎◌, inl, inr, refl, sym, ◌∙◌, arith}
-use Rattle.job_text.specs.Operations.{IsNumber}
+use Rattle.std.proofs.Common.{◌<◌, ◌^◌, [], ◌∷◌, inl, inr, refl, sym, ◌∙◌, arith}
 use Rattle.job_text.proofs.AnswerWords.{entry_parts, four_numbers, leading_numbers}
 use Rattle.job_text.proofs.entry_reader.entry_of.Goals as goal
 
 pub returns-in_err-own : goal.returns-in_err-own
 returns-in_err-own c =
     rw c.from_residual.ensures
-    (λ e is words.
+    (λ p spelled words.
+    let e = p.0 in
+    let is = spelled.0 in
     let low = is.caller in
     c.in_err-own.ensures (c.args.place ∷ e.caller ∷ e.call ∷ e.epoch ∷ []) refl
     (four_numbers c.args.place e.caller e.call e.epoch c.ranges.place.fits
@@ -14,7 +15,9 @@ returns-in_err-own c =
     (entry_parts c.args.words.now _ _ _ _ _ words).0)
 
 pub returns-else-own-place : goal.returns-else-own-place
-returns-else-own-place c = λ e is words.
+returns-else-own-place c = λ p spelled words.
+    let e = p.0 in
+    let is = spelled.0 in
     let low = is.caller in
     let few : c.args.callers < 2 ^ 64 = c.ranges.callers.fits in
     let parts = leading_numbers c.in_ok-own.field-0 c.args.place e.caller e.call e.epoch 0 0 c.in_ok-own.ensures.1

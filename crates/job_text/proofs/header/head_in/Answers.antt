@@ -1,4 +1,3 @@
-use Rattle.std.proofs.Common.{arith}
 use Rattle.job_text.proofs.HeadWords.{head_parts, tail_from_parts}
 use Rattle.job_text.proofs.header.head_in.Goals as goal
 

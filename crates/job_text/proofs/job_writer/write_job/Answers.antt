@@ -1,9 +1,9 @@
-use Rattle.std.proofs.Common.{◌≡◌, ◌++◌, List, [], ℕ, get_or, ap, sym, ◌∙◌, Vec, Global, refl}
+use Rattle.std.proofs.Common.{◌≡◌, ◌++◌, List, [], ℕ, get_or, ap, ◌∙◌, Vec, Global}
 use Rattle.std.specs.String.{string_bytes}
 use Rattle.std.proofs.lemmas.List.{take_all}
 use Rattle.job_text.specs.Lines.{line_of}
 use Rattle.job_text.specs.Grammar.{head_of, job_of}
-use Rattle.job_text.specs.JobText.{head_words, line_words, stop_words, job_text}
+use Rattle.job_text.specs.JobText.{head_words, line_words, job_text}
 use Rattle.job_text.specs.declared.job.Line.{Line}
 use Rattle.job_text.specs.declared.job.Stop.{Stop}
 use Rattle.job_text.proofs.JobWritten.{written_header, written_stop, written_line}

@@ -1,7 +1,7 @@
-use Rattle.std.proofs.Common.{◌≡◌, ℕ, List, Bor, map, ap, ◌∙◌}
+use Rattle.std.proofs.Common.{ℕ, List, Bor, map, ap, ◌∙◌}
 use Rattle.job_text.specs.declared.op_name.OpName.TheVariants as names
 use Rattle.job_text.specs.Operations.{name_word}
-use Rattle.job_text.proofs.OpSpelling.{no_name, named_alone, no_enq, no_deq, no_len, no_addv, no_delv, no_adde, no_dele, no_vertex, no_degree}
+use Rattle.job_text.proofs.OpSpelling.{no_name, named_alone, no_enq, no_deq, no_len, no_addv, no_delv, no_adde, no_dele, no_vertex, no_degree, no_oput_unit, no_oget, no_odel, no_ofloor, no_orank, no_orange}
 use Rattle.job_text.proofs.operations.read_op.Goals as goal
 
 abbrev all : List (Bor (List ℕ)) → List (List ℕ)
@@ -48,3 +48,33 @@ pub returns-in_err-unit-in-Degree : goal.returns-in_err-unit-in-Degree
 returns-in_err-unit-in-Degree c = rw c.from_residual-in_err-unit-in-Degree.ensures (named_alone (all c.args.words.now) _ _ names.Degree
     (ap all c.in_ok-name.ensures.cases.0) (c.in_ok-of_word.ensures ∙ ap name_word c.in-Degree.is)
     (no_degree _ c.in_err-unit-in-Degree.ensures))
+
+pub returns-in_err-unit-in-OGet : goal.returns-in_err-unit-in-OGet
+returns-in_err-unit-in-OGet c = rw c.from_residual-in_err-unit-in-OGet.ensures (named_alone (all c.args.words.now) _ _ names.OGet
+    (ap all c.in_ok-name.ensures.cases.0) (c.in_ok-of_word.ensures ∙ ap name_word c.in-OGet.is)
+    (no_oget _ c.in_err-unit-in-OGet.ensures))
+
+pub returns-in_err-unit-in-ODel : goal.returns-in_err-unit-in-ODel
+returns-in_err-unit-in-ODel c = rw c.from_residual-in_err-unit-in-ODel.ensures (named_alone (all c.args.words.now) _ _ names.ODel
+    (ap all c.in_ok-name.ensures.cases.0) (c.in_ok-of_word.ensures ∙ ap name_word c.in-ODel.is)
+    (no_odel _ c.in_err-unit-in-ODel.ensures))
+
+pub returns-in_err-unit-in-OFloor : goal.returns-in_err-unit-in-OFloor
+returns-in_err-unit-in-OFloor c = rw c.from_residual-in_err-unit-in-OFloor.ensures (named_alone (all c.args.words.now) _ _ names.OFloor
+    (ap all c.in_ok-name.ensures.cases.0) (c.in_ok-of_word.ensures ∙ ap name_word c.in-OFloor.is)
+    (no_ofloor _ c.in_err-unit-in-OFloor.ensures))
+
+pub returns-in_err-unit-in-ORank : goal.returns-in_err-unit-in-ORank
+returns-in_err-unit-in-ORank c = rw c.from_residual-in_err-unit-in-ORank.ensures (named_alone (all c.args.words.now) _ _ names.ORank
+    (ap all c.in_ok-name.ensures.cases.0) (c.in_ok-of_word.ensures ∙ ap name_word c.in-ORank.is)
+    (no_orank _ c.in_err-unit-in-ORank.ensures))
+
+pub returns-in_err-unit-in-ORange : goal.returns-in_err-unit-in-ORange
+returns-in_err-unit-in-ORange c = rw c.from_residual-in_err-unit-in-ORange.ensures (named_alone (all c.args.words.now) _ _ names.ORange
+    (ap all c.in_ok-name.ensures.cases.0) (c.in_ok-of_word.ensures ∙ ap name_word c.in-ORange.is)
+    (no_orange _ c.in_err-unit-in-ORange.ensures))
+
+pub returns-in_err-unit-in-OPut : goal.returns-in_err-unit-in-OPut
+returns-in_err-unit-in-OPut c = rw c.from_residual-in_err-unit-in-OPut.ensures (named_alone (all c.args.words.now) _ _ names.OPut
+    (ap all c.in_ok-name.ensures.cases.0) (c.in_ok-of_word.ensures ∙ ap name_word c.in-OPut.is)
+    (no_oput_unit _ c.in_err-unit-in-OPut.ensures))

@@ -1,4 +1,4 @@
-use Rattle.std.proofs.Common.{◌≡◌, ◌<◌, ◌+◌, ◌==◌, Bool, [], ◌∷◌, ◌++◌, true, false, List, ℕ, sym, subst, ap, ◌∙◌, arith, length, refl}
+use Rattle.std.proofs.Common.{◌≡◌, ◌<◌, ◌+◌, ◌==◌, Bool, [], ◌∷◌, ◌++◌, true, false, List, ℕ, sym, subst, ap, ◌∙◌, arith, length}
 use Rattle.std.proofs.lemmas.List.{length-append, nil_from_length}
 use Rattle.std.proofs.lemmas.Bool.Decides.{nat_tests}
 use Rattle.job_text.specs.declared.job.Job.{Job}

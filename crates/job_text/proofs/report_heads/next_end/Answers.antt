@@ -1,9 +1,9 @@
-use Rattle.std.proofs.Common.{[], ◌∷◌, refl}
+use Rattle.std.proofs.Common.{[], refl}
 use Rattle.std.proofs.lemmas.List.Elements.{All-nil}
 use Rattle.job_text.specs.Operations.{IsNumber}
 use Rattle.job_text.specs.Readings.{Refuses}
 use Rattle.job_text.specs.ReportRows.{line_of_row, end_words}
-use Rattle.job_text.proofs.ReadLines.{reads_words, refuses_none, refuses_words, at_exit}
+use Rattle.job_text.proofs.ReadLines.{refuses_none, refuses_words, at_exit}
 use Rattle.job_text.proofs.RowParts.{end_part}
 use Rattle.job_text.proofs.report_heads.next_end.Goals as goal
 

@@ -1,4 +1,4 @@
-use Rattle.std.proofs.Common.{ℕ, ◌≡◌, ◌+◌, ap, sym, subst, refl, ◌∙◌}
+use Rattle.std.proofs.Common.{ℕ, ◌≡◌, ◌+◌, sym, subst, refl, ◌∙◌}
 use Rattle.job_text.specs.declared.report_refusal.ReportRefusal.{ReportRefusal}
 use Rattle.job_text.specs.declared.report_refusal.ReportRefusal.TheVariants.{Text, Memory}
 use Rattle.job_text.specs.Readings.{Unread, Reads, Refuses}

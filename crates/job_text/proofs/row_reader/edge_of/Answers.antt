@@ -1,10 +1,9 @@
 use Rattle.std.proofs.Common.{ℕ}
-use Rattle.mont_base.specs.declared.constants.TheConstants.{TEXT_BYTES}
-use Rattle.mont_base.specs.State.{Key, Value, Ends}
-use Rattle.job_text.specs.Ranks.{texts_behind, numbers_behind, edges_behind}
+use Rattle.mont_base.specs.State.{Ends}
+use Rattle.job_text.specs.Ranks.{edges_behind}
 use Rattle.job_text.specs.ReportText.{edge_words}
 use Rattle.job_text.specs.ReportRanges.{IsEdge}
-use Rattle.job_text.specs.ReportRows.{behind_last, all_pairs, all_vertices, all_edges}
+use Rattle.job_text.specs.ReportRows.{behind_last, all_edges}
 use Rattle.job_text.proofs.RowParts.{edge_once}
 use Rattle.job_text.proofs.KeyRanks.{none_follows, it_follows}
 use Rattle.job_text.proofs.row_reader.edge_of.Goals as goal

@@ -1,6 +1,6 @@
 use Rattle.job_text.specs.Ranks.{IsNext, texts_behind}
 use Rattle.job_text.specs.ReportRanges.{IsPair}
-use Rattle.job_text.specs.ReportText.{pair_words}
+use Rattle.job_text.specs.Spelling.{pair_words}
 use Rattle.job_text.specs.ReportRows.{line_of_row, pair_behind, behind_last, all_pairs}
 use Rattle.job_text.proofs.KeyRanks.{pair_part, pairs_left}
 use Rattle.mont_base.specs.declared.constants.TheConstants.{TEXT_BYTES}

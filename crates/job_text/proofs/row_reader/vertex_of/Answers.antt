@@ -1,10 +1,8 @@
 use Rattle.std.proofs.Common.{ℕ}
-use Rattle.mont_base.specs.declared.constants.TheConstants.{TEXT_BYTES}
-use Rattle.mont_base.specs.State.{Key, Value, Ends}
-use Rattle.job_text.specs.Ranks.{texts_behind, numbers_behind, edges_behind}
+use Rattle.job_text.specs.Ranks.{numbers_behind}
 use Rattle.job_text.specs.ReportText.{vertex_words}
 use Rattle.job_text.specs.ReportRanges.{IsVertex}
-use Rattle.job_text.specs.ReportRows.{behind_last, all_pairs, all_vertices, all_edges}
+use Rattle.job_text.specs.ReportRows.{behind_last, all_vertices}
 use Rattle.job_text.proofs.RowParts.{vertex_once}
 use Rattle.job_text.proofs.KeyRanks.{none_follows, it_follows}
 use Rattle.job_text.proofs.row_reader.vertex_of.Goals as goal

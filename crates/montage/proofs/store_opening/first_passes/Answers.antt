@@ -1,8 +1,7 @@
-use Rattle.std.proofs.Common.{◌≡◌, [], ◌∷◌, ◌++◌, length, map, ◌∙◌, subst, arith}
+use Rattle.std.proofs.Common.{◌≡◌, [], ◌∷◌, ◌++◌, length, map, sym, ◌∙◌, subst, arith}
 use Rattle.std.specs.Prelude.{All, vec_len}
 use Rattle.std.specs.Vec.Iter.{into_iter_items}
-use Rattle.std.proofs.lemmas.List.Elements.{All-tail}
-use Rattle.heap.specs.HeapShown.{CallerShown}
+use Rattle.std.proofs.lemmas.List.Elements.{All-push}
 use Rattle.montage.proofs.Passed.{one_more_passed, none_left, one_less_each, one_is_left, one_more_mapped, has_place, has_room}
 use Rattle.montage.proofs.store_opening.first_passes.Goals as goal
 
@@ -27,8 +26,8 @@ loop-ticket-preserved g c =
     let mapped = one_more_mapped old new c.new.result c.next_gate-gate.result (λ p. p.gate) push c.new.ensures.gate in
     record {
       callers = one_more_passed _ c.loop-ticket.yielded _ _ c.in-Some.ticket i.callers next;
-      unanswered = All-tail (λ (s : CallerShown). s.held.part.receipts ≡ []) c.in-Some.ticket _
-          (subst (All (λ (s : CallerShown). s.held.part.receipts ≡ [])) next i.unanswered);
+      empty = subst (All (λ p. p.receipts.items ≡ [])) (sym push)
+          (All-push (λ p. p.receipts.items ≡ []) old c.new.result i.empty c.new.ensures.receipts);
       tickets = one_more_mapped old new c.new.result c.in-Some.ticket (λ p. p.ticket) push c.new.ensures.ticket
           ∙ (λ j. i.tickets j ++ c.in-Some.ticket ∷ []);
       gates = (λ j. mapped j ++ after)
@@ -43,6 +42,7 @@ returns g c =
     let many = i.as_many in
     let none : length c.loop-ticket.ticket-iterator.rest.items ≡ 0 = omega (arith, c.in-None.ensures.steps.0) in
     record {
+      empty = i.empty;
       tickets = i.tickets ∙ none_left _ c.loop-ticket.yielded _ i.callers none;
       gates = none_left _ (map (λ p. p.gate) c.loop-ticket.passes.items) (into_iter_items c.loop-ticket.gates) i.gates
           (omega (arith, many, none));

@@ -10,6 +10,7 @@ use Rattle.montage.specs.declared.unit_at.Structure.TheVariants.{Map, Queue, Gra
 use Rattle.montage.proofs.FirstSeats.{seat_begins, first_is_empty, first_stands_at}
 use Rattle.montage.specs.MapBoxes.{RefusesBox}
 use Rattle.montage.proofs.BoxesGiven.{gives_next, gives_to_other, refuses_next}
+use Rattle.montage.proofs.Served.{none_ordered}
 use Rattle.montage.proofs.store_opening.open_structure.Goals as goal
 
 at_exit : {X E : Type 0} (r : Result X E) (e : E) (Q : E → Type 0) → IsErrAnd r (λ d. d ≡ e) → Q e → IfErr r Q
@@ -45,6 +46,10 @@ fresh-requires-in-Graph-clause-none g c =
     let books = c.in_ok-region.ensures.books ∙ ap (λ (l : Shape). fresh_books l c.args.unit) c.requires.layout in
     first_is_empty heap c.args.unit c.args.seat c.requires.unused c.requires.seat layout c.in_ok-region.region
     c.in_ok-region.ensures.seat books
+
+pub unreachable-requires : goal.unreachable-requires
+unreachable-requires g c =
+    none_ordered c.args.layout c.args.unit c.requires.kinds (c.kind.ensures ∙ ap Some c.in-Ordered.is)
 
 pub returns-in_err-index-in-Map-clause-lacks : goal.returns-in_err-index-in-Map-clause-lacks
 returns-in_err-index-in-Map-clause-lacks g c =

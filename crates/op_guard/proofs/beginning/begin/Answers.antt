@@ -45,4 +45,4 @@ returns-clause-begun g c =
     begun_as heap old r c.or_halt.new.region p need epoch c.unit.result c.number.result seat kept.0
     (c.unit.ensures ∙ ap (λ (x : RegionShown). x.books.unit) kept.0)
     (c.number.ensures ∙ ap (λ (x : CallerShown). x.held.caller) (kept.1 ∙ room.caller))
-    (has_begun heap old r p need epoch seat room.ready room.keeps room.learnt room.room room.enough registered clock)
+    (has_begun heap old r p need epoch seat room.ready room.keeps room.learnt room.room room.made registered clock)

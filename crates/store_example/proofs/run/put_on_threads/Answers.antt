@@ -1,12 +1,19 @@
-use Rattle.store_example.proofs.Kept.{all_of_heap, still_all}
+use Rattle.std.proofs.lemmas.List.Elements.{All-weaker}
+use Rattle.job_run.specs.Run.{IsFresh}
+use Rattle.montage.specs.Store.{IsWholePass}
+use Rattle.store_example.proofs.Kept.{still_all, still_whole}
 use Rattle.store_example.proofs.run.put_on_threads.Goals as goal
 
 pub put_beside-passes-requires-after_bounds : goal.put_beside-passes-requires-after_bounds
 put_beside-passes-requires-after_bounds g c κs within =
-    all_of_heap g.N.HeapName.heap (λ p. p.ticket) c.in_ok-store.passes.items c.in_ok-store.ensures.callers
+    All-weaker (IsFresh (λ p. IsWholePass g.N.HeapName.heap p.ticket p.receipts.items) (λ p. p.ticket.held))
+    (λ p. IsWholePass g.N.HeapName.heap p.ticket p.receipts.items) (λ p fresh. fresh.own) c.in_ok-store.passes.items
+    c.in_ok-store.ensures.fresh
 
 pub stop-requires : goal.stop-requires
 stop-requires g c = record {
-  passes = still_all g.N.HeapName.heap (λ p. p.ticket) c.in_ok-store.passes.items c.put_beside-passes.result.items
+  passes = still_all g.N.HeapName.heap (λ p. p.ticket) (λ p. p.receipts.items) c.in_ok-store.passes.items c.put_beside-passes.result.items
       c.put_beside-passes.ensures c.in_ok-store.ensures.callers;
+  whole = still_whole g.N.HeapName.heap (λ p. p.ticket) (λ p. p.receipts.items) c.in_ok-store.passes.items
+      c.put_beside-passes.result.items c.put_beside-passes.ensures;
 }

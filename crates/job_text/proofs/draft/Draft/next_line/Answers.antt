@@ -1,4 +1,4 @@
-use Rattle.std.proofs.Common.{◌≡◌, ◌^◌, ◌<◌, Bool, true, subst, sym, ◌∙◌, arith}
+use Rattle.std.proofs.Common.{◌≡◌, true, subst, sym, ◌∙◌, arith}
 use Rattle.job_text.specs.declared.job.Line.{Line}
 use Rattle.job_text.specs.Draft.{MayAsk}
 use Rattle.job_text.proofs.Once.{line_once}

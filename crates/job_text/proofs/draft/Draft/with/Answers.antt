@@ -1,11 +1,6 @@
-use Rattle.std.proofs.Common.{◌≡◌, ◌≢◌, ℕ, ◌∷◌, List, decimal, true, false, ◌+◌, sym, ap, ◌∙◌, arith}
-use Rattle.job_text.specs.Lines.{spaced}
-use Rattle.job_text.specs.declared.draft.Draft.{Draft}
-use Rattle.job_text.specs.declared.job.Line.{Line}
-use Rattle.job_text.specs.declared.job.Stop.{Stop}
-use Rattle.job_text.specs.Draft.{MayAsk, MayStop, IsDraft}
-use Rattle.job_text.specs.JobText.{BeginsStop, line_words, stop_words}
-use Rattle.job_text.proofs.Drafts.{none_goes_on, draft_job, line_no_stop, stop_begins}
+use Rattle.std.proofs.Common.{◌≡◌, ℕ, true, false, ◌+◌, sym, ap, ◌∙◌}
+use Rattle.job_text.specs.JobText.{BeginsStop}
+use Rattle.job_text.proofs.Drafts.{none_goes_on, line_no_stop, stop_begins}
 use Rattle.job_text.proofs.draft.Draft.with.Goals as goal
 
 pub returns-in-None-clause-refused : goal.returns-in-None-clause-refused

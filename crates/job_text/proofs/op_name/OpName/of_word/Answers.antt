@@ -1,4 +1,4 @@
-use Rattle.std.proofs.Common.{◌≡◌, ℕ, ◌<◌, ◌≤◌, List, ◌∷◌, [], get_or, sym, ap, ◌∙◌, refl, arith, lit<}
+use Rattle.std.proofs.Common.{◌≡◌, ℕ, ◌<◌, get_or, sym, ap, ◌∙◌, refl, arith, lit<}
 use Rattle.job_text.specs.declared.op_name.OpName.{OpName}
 use Rattle.job_text.specs.declared.op_name.OpName.TheVariants as names
 use Rattle.job_text.specs.Operations.{name_word}
@@ -6,7 +6,7 @@ use Rattle.job_text.specs.declared.op_name.TheConstants.{ALL}
 use Rattle.job_text.proofs.op_name.OpName.of_word.Goals as goal
 
 -- each name stands at its place
-named : (n : OpName) → (k : ℕ) × (k < 12) × (get_or ALL k names.Put ≡ n)
+named : (n : OpName) → (k : ℕ) × (k < 18) × (get_or ALL k names.Put ≡ n)
 named names.Put = (0, lit< tt, refl)
 named names.Get = (1, lit< tt, refl)
 named names.Del = (2, lit< tt, refl)
@@ -19,6 +19,12 @@ named names.AddE = (8, lit< tt, refl)
 named names.DelE = (9, lit< tt, refl)
 named names.Vertex = (10, lit< tt, refl)
 named names.Degree = (11, lit< tt, refl)
+named names.OPut = (12, lit< tt, refl)
+named names.OGet = (13, lit< tt, refl)
+named names.ODel = (14, lit< tt, refl)
+named names.OFloor = (15, lit< tt, refl)
+named names.ORank = (16, lit< tt, refl)
+named names.ORange = (17, lit< tt, refl)
 
 pub returns : goal.returns
 returns c = λ n is.

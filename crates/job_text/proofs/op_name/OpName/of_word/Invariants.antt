@@ -1,4 +1,4 @@
-use Rattle.std.proofs.Common.{◌≡◌, ◌≢◌, ℕ, ◌<◌, get_or}
+use Rattle.std.proofs.Common.{◌≢◌, ℕ, ◌<◌, get_or}
 use Rattle.job_text.specs.declared.op_name.OpName.{OpName}
 use Rattle.job_text.specs.Operations.{name_word}
 use Rattle.job_text.proofs.op_name.OpName.of_word.Given as goal

@@ -1,4 +1,4 @@
-use Rattle.std.proofs.Common.{map, subst, sym}
+use Rattle.std.proofs.Common.{subst, sym}
 use Rattle.job_text.specs.Readings.{HasNoRow}
 use Rattle.job_text.proofs.ReadLines.{takes_row, no_row, long_row, at_exit}
 use Rattle.job_text.proofs.unread.Unread.words.Goals as goal

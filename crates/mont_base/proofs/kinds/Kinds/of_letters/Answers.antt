@@ -3,7 +3,7 @@ use Rattle.std.proofs.lemmas.List.{take_all}
 use Rattle.mont_base.specs.declared.constants.TheConstants.{MOST_UNITS}
 use Rattle.mont_base.specs.declared.kinds.UnitKind.TheVariants as kinds
 use Rattle.mont_base.specs.Layout.{letters_of}
-use Rattle.mont_base.proofs.Units.{letters_more, no_letter, behind_more, filled}
+use Rattle.mont_base.proofs.Units.{letters_more, no_letter, maps_behind, filled}
 use Rattle.mont_base.proofs.kinds.Kinds.of_letters.Goals as goal
 
 pub returns-in-None : goal.returns-in-None
@@ -15,7 +15,7 @@ loop-unit-preserved c = record {
   spelled =
       letters_more c.loop-unit.of_units c.args.letters.now c.loop-unit.unit c.in-Some.kind (omega arith) (omega arith)
       c.loop-unit.invariant.spelled c.in-Some.ensures;
-  behind = behind_more c.loop-unit.of_units c.loop-unit.unit c.in-Some.kind (omega arith) (omega arith) c.loop-unit.invariant.behind;
+  behind = maps_behind c.loop-unit.of_units c.loop-unit.unit c.in-Some.kind (omega arith) (omega arith) c.loop-unit.invariant.behind;
 }
 
 pub invariant_of-result : goal.invariant_of-result

@@ -2,7 +2,8 @@ use Rattle.std.proofs.Common.{sym, subst}
 use Rattle.std.specs.Prelude.{IfOk, IfErr}
 use Rattle.heap.specs.HeapShown.{HeapShown}
 use Rattle.job_worker.specs.Asking.{HasContinued, HasLearntWhy}
-use Rattle.montage.proofs.CallsAsked.{if_continued, if_learnt_why}
+use Rattle.montage.specs.Store.{IsWholePass}
+use Rattle.montage.proofs.CallsAsked.{if_continued, if_learnt_why, stays_whole}
 use Rattle.montage.proofs.asking.StoreAsksPass.call.Goals as goal
 
 pub returns-clause-answered : goal.returns-clause-answered
@@ -21,3 +22,12 @@ returns-clause-refused g c =
     subst (λ (h : HeapShown). IfErr c.call_unit.result (λ why. HasLearntWhy h.opening q.held r.held c.args.op.now why))
     (sym c.heap-heap.ensures.named)
     (if_learnt_why g.N.HeapName.heap q r c.args.op.now c.call_unit.result c.call_unit.ensures.refused)
+
+pub returns-clause-pass : goal.returns-clause-pass
+returns-clause-pass g c =
+    let q = c.args.pass.now.ticket in
+    let r = c.call_unit.new.pass.ticket in
+    subst (λ (h : HeapShown). IsWholePass h r c.call_unit.new.pass.receipts.items) (sym c.heap-heap.ensures.named)
+    (stays_whole g.N.HeapName.heap q r c.args.op.now c.args.pass.now.receipts.items c.call_unit.new.pass.receipts.items
+    c.call_unit.result c.call_unit.ensures.answered c.call_unit.ensures.refused c.call_unit.ensures.receipts c.call_unit.ensures.kept
+    (subst (λ (h : HeapShown). IsWholePass h q c.args.pass.now.receipts.items) c.heap-heap.ensures.named c.requires.pass))

@@ -12,22 +12,18 @@ use Rattle.heap_pass.specs.OfLayout.{IsOfLayout}
 use Rattle.montage.specs.FreshStore.{AreUnitsFrom}
 use Rattle.montage.specs.MapBoxes.{HaveEmptyBoxes, LacksBox}
 use Rattle.montage.specs.Store.{AreAllCallers}
-use Rattle.montage.proofs.FirstSeats.{IsFirstTicket, fresh_passes, uncut_passes, tickets_are_first, seats_are_first, none_answered, never_used, as_many_callers, all_callers, advancer_fits, advancer_rests, advancer_clock, is_base}
+use Rattle.montage.proofs.FirstSeats.{IsFirstTicket, fresh_passes, uncut_passes, tickets_are_first, seats_are_first, never_used, as_many_callers, all_callers, advancer_fits, advancer_rests, advancer_clock, is_base}
 use Rattle.montage.proofs.store.Store.fresh.Goals as goal
 
 at_exit : {X E : Type 0} (r : Result X E) (e : E) (Q : E → Type 0) → IsErrAnd r (λ d. d ≡ e) → Q e → IfErr r Q
 at_exit (Ok x) e Q is h = absurd is
 at_exit (Err d) e Q is h = subst Q (sym is) h
 
-pub first_passes-requires-clause-as_many : goal.first_passes-requires-clause-as_many
-first_passes-requires-clause-as_many g c =
+pub first_passes-requires : goal.first_passes-requires
+first_passes-requires g c =
     let s = c.args.seats in
     let many = as_many_callers g.N.HeapName.heap s.units.items s.advancer s.callers.items c.requires.opens in
     omega (arith, many, c.requires.gates, s.callers.ok.0)
-
-pub first_passes-requires-clause-unanswered : goal.first_passes-requires-clause-unanswered
-first_passes-requires-clause-unanswered g c =
-    let s = c.args.seats in none_answered g.N.HeapName.heap s.units.items s.advancer s.callers.items c.requires.opens
 
 pub open_structures-requires-clause-layout : goal.open_structures-requires-clause-layout
 open_structures-requires-clause-layout g c =
@@ -123,6 +119,7 @@ invariant_of-store g c =
       opened = is_base g.N.HeapName.heap s.units.items s.advancer s.callers.items c.requires.opens
           (subst IsLayout same c.units.ensures.layout) FIRST_CLOCK (states_of c.in_ok-base.base) refl
           (c.in_ok-base.ensures ∙ ap empty_states same);
+      kinds = c.requires.kinds;
     }
 
 pub returns : goal.returns
@@ -135,8 +132,9 @@ returns g c =
       tickets = c.in_ok-passes.ensures.tickets;
       callers = subst (λ (cs : List CallerShown). AreAllCallers g.N.HeapName.heap cs) (sym c.in_ok-passes.ensures.tickets)
           (all_callers g.N.HeapName.heap s.units.items s.advancer s.callers.items c.requires.opens);
-      fresh = fresh_passes g.N.HeapName.heap (λ p. p.ticket) c.in_ok-passes.passes.items first;
-      uncut = uncut_passes g.N.HeapName.heap (λ p. p.ticket) c.in_ok-passes.passes.items first;
+      fresh = fresh_passes g.N.HeapName.heap (λ p. p.ticket) (λ p. p.receipts.items) c.in_ok-passes.passes.items first
+          c.in_ok-passes.ensures.empty;
+      uncut = uncut_passes g.N.HeapName.heap (λ p. p.ticket) (λ p. p.receipts.items) c.in_ok-passes.passes.items first;
       gates = c.in_ok-passes.ensures.gates;
       boxes = subst (λ (l : Shape). HaveEmptyBoxes l (map (λ b. finite.len (g.I.Index.places b)) c.args.indexes.items)) same
           c.in_ok-structures.ensures.boxes;

@@ -55,7 +55,7 @@ returns-clause-ticked g c =
     let named = c.deref_mut-named.result.now in
     let e = c.advance-answer.ensures in
     ticked_by g.N.HeapName.heap named.part c.show.new.self c.advance-answer.new.self c.args.pass.now.ticket c.show.new.ticket
-    c.take_note.new.pass.ticket c.advance-answer.result named.of_heap c.show.ensures.advancer c.show.ensures.caller
+    c.take_note.new.pass.ticket c.advance-answer.result named.of_heap c.show.ensures.advancer e.same c.show.ensures.caller
     c.take_note.ensures.caller e.ok e.refused e.reason e.clock_end
     (subst (λ (h : HeapShown). IfOk c.advance-answer.result (λ clock. clock_of h.opening.words < clock))
     c.self.invariant.of_heap e.begun)
