@@ -6,7 +6,7 @@ use Rattle.std.proofs.lemmas.Bool.Decides.{nat_tests}
 use Rattle.std.proofs.lemmas.List.Folds.{list_any-append}
 use Rattle.core_steps.specs.declared.parts.AdvPart.TheVariants as parts
 use Rattle.core_steps.specs.Advancing.{unit_at_hand, lets_pass, past_unit, is_odd, with_odd}
-use Rattle.heap_rule.specs.declared.views.AdvHeld.{AdvHeld}
+use Rattle.heap_rule.specs.declared.views.AdvKnown.{AdvKnown}
 use Rattle.heap_rule.specs.Plays.{IsEpoch, IsAnnouncement}
 use Rattle.heap_rule.specs.Views.{is_among, advancer_checked}
 use Rattle.advance.specs.Advance.{HasShown}
@@ -41,11 +41,11 @@ holds_announced now word e = (
     by false h = grind (arith, nat_tests)
 
 -- ---- an announcement that holds the advancer
-pub shows : (a b : AdvHeld) (word unit : ℕ) (list : List ℕ) → b ≡ advancer_checked a word list → unit ≡ unit_at_hand a.part
+pub shows : (a b : AdvKnown) (word unit : ℕ) (list : List ℕ) → b ≡ advancer_checked a word list → unit ≡ unit_at_hand a.part
     → lets_pass a.clock word ≡ false → IsAnnouncement word → b.durable ≡ b.clock → HasShown unit (word / 2) (is_odd word) a b
 shows a b word unit list made at holds announces kept =
     let told = holds_announced a.clock word holds in
-    subst (λ (z : ℕ × AdvHeld). HasShown z.0 (word / 2) (is_odd word) a z.1) (λ i. (sym at i, sym made i)) (record {
+    subst (λ (z : ℕ × AdvKnown). HasShown z.0 (word / 2) (is_odd word) a z.1) (λ i. (sym at i, sym made i)) (record {
       loads = omega arith;
       holds = holds;
       epoch_is = refl;
@@ -53,7 +53,7 @@ shows a b word unit list made at holds announces kept =
       below = told.1;
       below_durable =
           subst (λ (n : ℕ). word / 2 < n)
-          (sym (ap (λ (x : AdvHeld). x.durable) (sym made) ∙ (kept ∙ ap (λ (x : AdvHeld). x.clock) made))) told.1;
+          (sym (ap (λ (x : AdvKnown). x.durable) (sym made) ∙ (kept ∙ ap (λ (x : AdvKnown). x.clock) made))) told.1;
       cut_is = refl;
       stays = ap (λ (b : Bool). cond b (past_unit a.units (unit_at_hand a.part)) (parts.Checking (unit_at_hand a.part))) holds;
       marked = λ e. marked a.odd (unit_at_hand a.part) word e;

@@ -9,13 +9,13 @@ use Rattle.core_steps.specs.declared.parts.AdvPart.{AdvPart}
 use Rattle.core_steps.specs.declared.parts.AdvPart.TheVariants as parts
 use Rattle.core_steps.specs.Advancing.{can_check, unit_at_hand, past_unit, is_clocked}
 use Rattle.heap_rule.specs.declared.rule.Opening.{Opening}
-use Rattle.heap_rule.specs.declared.views.AdvHeld.{AdvHeld}
+use Rattle.heap_rule.specs.declared.views.AdvKnown.{AdvKnown}
 use Rattle.heap_rule.specs.Plays.{IsAhead}
 use Rattle.heap_rule.specs.Views.{full_rest, advancer_rested}
 use Rattle.heap.specs.HeapShown.{AdvShown}
 use Rattle.heap_pass.specs.OfLayout.{IsOfLayout}
-use Rattle.advance.specs.declared.refusal.AdvanceRefusal.{AdvanceRefusal}
-use Rattle.advance.specs.declared.refusal.AdvanceRefusal.TheVariants.{NotYet, Cut, ClockEnd}
+use Rattle.advance.specs.declared.advance_refusal.AdvanceRefusal.{AdvanceRefusal}
+use Rattle.advance.specs.declared.advance_refusal.AdvanceRefusal.TheVariants.{NotYet, Cut, ClockEnd}
 use Rattle.advance.specs.Advance.{IsSameSeat, HasChecked, clock_ahead, IsAdvanced, IsUnderWay, HasReason}
 
 -- ---- the same seat
@@ -30,7 +30,7 @@ same_more x y z h j = record {
   odd = λ u e. j.odd u (h.odd u e);
 }
 
-pub same_layout : (l : Shape) (x y : AdvShown) → IsSameSeat x y → IsOfLayout l x.held → IsOfLayout l y.held
+pub same_layout : (l : Shape) (x y : AdvShown) → IsSameSeat x y → IsOfLayout l x.known → IsOfLayout l y.known
 same_layout l x y h o = record {
   units = h.units ∙ o.units;
   room = h.room ∙ o.room;
@@ -38,7 +38,7 @@ same_layout l x y h o = record {
 }
 
 -- ---- the same advance
-pub checked_more : (a b c : AdvHeld) → HasChecked a b → HasChecked b c → HasChecked a c
+pub checked_more : (a b c : AdvKnown) → HasChecked a b → HasChecked b c → HasChecked a c
 checked_more a b c h j =
     let first = h.steps in
     let then = j.steps in record {
@@ -48,20 +48,20 @@ checked_more a b c h j =
       steps = omega arith;
     }
 
-ahead_waits : (a : AdvHeld) → is_clocked a.part ≡ false → clock_ahead a ≡ a.clock + 1
+ahead_waits : (a : AdvKnown) → is_clocked a.part ≡ false → clock_ahead a ≡ a.clock + 1
 ahead_waits a e = ap (λ (b : Bool). cond b a.clock (a.clock + 1)) e
 
-ahead_moved : (a : AdvHeld) → is_clocked a.part ≡ true → clock_ahead a ≡ a.clock
+ahead_moved : (a : AdvKnown) → is_clocked a.part ≡ true → clock_ahead a ≡ a.clock
 ahead_moved a e = ap (λ (b : Bool). cond b a.clock (a.clock + 1)) e
 
-pub checked_way : (a b : AdvHeld) → is_clocked a.part ≡ false → HasChecked a b → IsUnderWay a b
+pub checked_way : (a b : AdvKnown) → is_clocked a.part ≡ false → HasChecked a b → IsUnderWay a b
 checked_way a b waits h = record {
   durable = h.durable;
   ahead = ahead_waits b h.waits ∙ (ap (λ (n : ℕ). n + 1) h.current ∙ sym (ahead_waits a waits));
 }
 
 -- ---- reasons
-pub reason_more : (why : AdvanceRefusal) (a b c : AdvHeld) → a.steps ≤ b.steps → why ≢ ClockEnd → HasReason why b c → HasReason why a c
+pub reason_more : (why : AdvanceRefusal) (a b c : AdvKnown) → a.steps ≤ b.steps → why ≢ ClockEnd → HasReason why b c → HasReason why a c
 reason_more (NotYet unit epoch cut) a b c l not h =
     let loads = h.loads in record {
       loads = omega arith;
@@ -78,10 +78,10 @@ reason_more Cut a b c l not h = tt
 reason_more ClockEnd a b c l not h = absurd (not refl)
 
 -- ---- the end
-pub rested_advanced : (o : Opening) (a b : AdvHeld) (n : ℕ) → b ≡ advancer_rested a → n ≡ a.clock → is_clocked a.part ≡ true
+pub rested_advanced : (o : Opening) (a b : AdvKnown) (n : ℕ) → b ≡ advancer_rested a → n ≡ a.clock → is_clocked a.part ≡ true
     → a.turn ≡ full_rest → IsAhead o a → IsAdvanced a n b
 rested_advanced o a b n made now moved turn h =
-    subst (λ (z : ℕ × AdvHeld). IsAdvanced a z.0 z.1) (λ i. (sym now i, sym made i)) (record {
+    subst (λ (z : ℕ × AdvKnown). IsAdvanced a z.0 z.1) (λ i. (sym now i, sym made i)) (record {
       ahead = sym (ahead_moved a moved);
       current = refl;
       durable = refl;

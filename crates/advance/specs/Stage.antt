@@ -4,7 +4,7 @@ use Rattle.mont_base.specs.declared.constants.TheConstants.{LAST}
 use Rattle.core_steps.specs.declared.parts.AdvPart.{AdvPart}
 use Rattle.core_steps.specs.declared.parts.AdvPart.TheVariants as parts
 use Rattle.core_steps.specs.Advancing.{can_check, unit_at_hand, is_clocked}
-use Rattle.heap_rule.specs.declared.views.AdvHeld.{AdvHeld}
+use Rattle.heap_rule.specs.declared.views.AdvKnown.{AdvKnown}
 use Rattle.heap_rule.specs.Views.{full_rest}
 use Rattle.write_back.specs.declared.flush.Flush.{Flush}
 use Rattle.write_back.specs.Flush.{StandsAt, IsFlushed, flush_start, is_flushing}
@@ -28,11 +28,11 @@ abbrev pub past_stage : ℕ → ℕ → AdvStage
 past_stage n j = if nat_lt (j + 1) n then Checking (j + 1) else Flushing
 
 -- the stage of an advancer whose seat shows this
-abbrev pub stage_of : AdvHeld → AdvStage
+abbrev pub stage_of : AdvKnown → AdvStage
 stage_of a = stage_at a.part (a.turn.emptied == a.units)
 
 -- no advance is under way, and no list was taken
-pub record IsAtRest (a : AdvHeld) : Type 0 where
+pub record IsAtRest (a : AdvKnown) : Type 0 where
   pub part : a.part ≡ parts.Rest
   pub turn : a.turn ≡ full_rest
 
@@ -44,27 +44,27 @@ has_passed (parts.Checking j) = false
 has_passed _ = true
 
 -- this unit is to be passed next
-pub record IsWaitingAt (a : AdvHeld) (unit : ℕ) : Type 0 where
+pub record IsWaitingAt (a : AdvKnown) (unit : ℕ) : Type 0 where
   pub hand : unit ≡ unit_at_hand a.part
   pub inside : unit < a.units
   pub may : can_check a.clock a.part ≡ true
 
 -- all is written back, or the clock has moved already
-abbrev pub IsReady : AdvHeld → Type 0
+abbrev pub IsReady : AdvKnown → Type 0
 IsReady a = is_clocked a.part ≡ false → IsFlushed a
 
 -- ---- what an advancer keeps beside its seat
 -- the flush has not begun
-pub record HasNotBegun (flush : Flush) (a : AdvHeld) : Type 0 where
+pub record HasNotBegun (flush : Flush) (a : AdvKnown) : Type 0 where
   pub is_start : flush ≡ flush_start
   pub turn : a.turn ≡ full_rest
 
-abbrev pub FlushFitsPart : Bool → Flush → AdvHeld → Type 0
+abbrev pub FlushFitsPart : Bool → Flush → AdvKnown → Type 0
 FlushFitsPart true flush a = StandsAt flush a
 FlushFitsPart false flush a = HasNotBegun flush a
 
 pub record FitsSeat
-    (units clock : ℕ) (stage : AdvStage) (flush : Flush) (a : AdvHeld) : Type 0 where
+    (units clock : ℕ) (stage : AdvStage) (flush : Flush) (a : AdvKnown) : Type 0 where
   pub units_are : units ≡ a.units
   pub hand : unit_at_hand a.part < units
   pub clock_is : clock ≡ a.clock

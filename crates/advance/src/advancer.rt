@@ -8,11 +8,11 @@ ghost use Rattle.core_steps.specs.Advancing.{can_check, unit_at_hand, lets_pass,
 ghost use Rattle.heap_rule.specs.Views.{are_clean, advancer_shown, caller_heard, note_of_advancer};
 ghost use Rattle.heap.specs.GateAsked.{IsAskedOften};
 ghost use Rattle.heap_pass.specs.OfLayout.{IsOfLayout};
-ghost use Rattle.advance.specs.declared.refusal.AdvanceRefusal.TheVariants.{Cut, ClockEnd};
+ghost use Rattle.advance.specs.declared.advance_refusal.AdvanceRefusal.TheVariants.{Cut, ClockEnd};
 ghost use Rattle.advance.specs.Stage.{stage_of, IsAtRest, IsWaitingAt, has_passed, IsReady};
 ghost use Rattle.advance.specs.Advance.{IsSameSeat, HasChecked, IsAdvanced, IsUnderWay, HasReason, IsAtEnd, was_cut};
 
-use crate::refusal::AdvanceRefusal;
+use crate::advance_refusal::AdvanceRefusal;
 use crate::stage::AdvStage;
 use heap::{AdvSeat, Heap, Ticket};
 use heap_pass::OfHeap;
@@ -40,7 +40,7 @@ impl Model for Advancer {
 
     ghost view = { λ a. a.seat };
 
-    ghost invariant = { λ a. FitsSeat a.units a.clock a.stage a.flush a.seat.held };
+    ghost invariant = { λ a. FitsSeat a.units a.clock a.stage a.flush a.seat.known };
 }
 
 // It fits a heap where its seat does.
@@ -55,9 +55,9 @@ impl OfHeap for Advancer {
 impl Advancer {
     /// An advancer with this seat of a heap, whose current clock is `clock`.
     pub fn new(layout: Layout, seat: AdvSeat, clock: Epoch) -> Advancer
-        requires layout { IsOfLayout layout seat.held }
-        requires rest { IsAtRest seat.held }
-        requires clock { clock ≡ seat.held.clock }
+        requires layout { IsOfLayout layout seat.known }
+        requires rest { IsAtRest seat.known }
+        requires clock { clock ≡ seat.known.clock }
         requires last { clock ≤ LAST }
         ensures { result ≡ seat }
     {
@@ -86,14 +86,14 @@ impl Advancer {
 
     /// The current clock.
     pub fn clock(&self) -> Epoch
-        ensures { result ≡ self.now.held.clock }
+        ensures { result ≡ self.now.known.clock }
     {
         self.clock
     }
 
     /// How far its advance is.
     pub fn stage(&self) -> AdvStage
-        ensures { result ≡ stage_of self.now.held }
+        ensures { result ≡ stage_of self.now.known }
     {
         self.stage
     }
@@ -104,7 +104,7 @@ impl Advancer {
         requires ticket { ticket.old.table ≡ heap.now.table }
         ensures advancer { self.new ≡ record {
           table = self.old.table;
-          held = advancer_shown self.old.held ticket.old.held;
+          known = advancer_shown self.old.known ticket.old.known;
         } }
         ensures caller { ticket.new ≡ ticket.old }
     {
@@ -118,8 +118,8 @@ impl Advancer {
         ensures advancer { self.new ≡ self.old }
         ensures caller { ticket.new ≡ record {
           table = ticket.old.table;
-          held = caller_heard ticket.old.held
-              (note_of_advancer (length ticket.old.held.part.fronts) self.old.held);
+          known = caller_heard ticket.old.known
+              (note_of_advancer (length ticket.old.known.part.fronts) self.old.known);
         } }
     {
         heap.hear_advancer(ticket, &mut self.seat);
@@ -130,16 +130,16 @@ impl Advancer {
     /// refusal the next call goes on from where it stands.
     pub fn advance<G: Gate>(&mut self, heap: &Heap, gate: &mut G) -> Result<Epoch, AdvanceRefusal>
         requires heap { self.old.table ≡ heap.now.table }
-        requires layout { IsOfLayout heap.now.opening.layout self.old.held }
-        requires clean { self.old.held.part ≡ Rest
-            → IsTrue (are_clean (units_of heap.now.opening.layout) self.old.held.clean) }
+        requires layout { IsOfLayout heap.now.opening.layout self.old.known }
+        requires clean { self.old.known.part ≡ Rest
+            → IsTrue (are_clean (units_of heap.now.opening.layout) self.old.known.clean) }
         ensures gate { IsAskedOften G.cuts G.endless gate.old gate.new (was_cut result) }
         ensures same { IsSameSeat self.old self.new }
-        ensures ok { IfOk result (λ clock. IsAdvanced self.old.held clock self.new.held) }
+        ensures ok { IfOk result (λ clock. IsAdvanced self.old.known clock self.new.known) }
         ensures begun { IfOk result (λ clock. clock_of heap.now.opening.words < clock) }
-        ensures refused { OnErr result (IsUnderWay self.old.held self.new.held) }
-        ensures reason { IfErr result (λ why. HasReason why self.old.held self.new.held) }
-        ensures clock_end { IsAtEnd self.old.held → result ≡ Err ClockEnd }
+        ensures refused { OnErr result (IsUnderWay self.old.known self.new.known) }
+        ensures reason { IfErr result (λ why. HasReason why self.old.known self.new.known) }
+        ensures clock_end { IsAtEnd self.old.known → result ≡ Err ClockEnd }
     {
         if self.is_at_end() {
             return Err(AdvanceRefusal::ClockEnd);
@@ -152,10 +152,10 @@ impl Advancer {
 
     // Whether no clock is ahead.
     fn is_at_end(&self) -> bool
-        ensures end { IsTrue result ↔ IsAtEnd self.now.held }
-        ensures durable { IsTrue result → self.now.held.durable ≡ LAST }
+        ensures end { IsTrue result ↔ IsAtEnd self.now.known }
+        ensures durable { IsTrue result → self.now.known.durable ≡ LAST }
         ensures ahead { result ≡ false
-            → self.now.held.part ≡ Rest → self.now.held.clock < LAST }
+            → self.now.known.part ≡ Rest → self.now.known.clock < LAST }
     {
         match self.stage {
             AdvStage::Rest => self.seat.durable() == LAST,
@@ -166,16 +166,16 @@ impl Advancer {
     // Passes the units in order from the one at hand on, unless all are passed.
     fn pass_units<G: Gate>(&mut self, heap: &Heap, gate: &mut G) -> Result<(), AdvanceRefusal>
         requires heap { self.old.table ≡ heap.now.table }
-        requires layout { IsOfLayout heap.now.opening.layout self.old.held }
-        requires clean { self.old.held.part ≡ Rest
-            → IsTrue (are_clean (units_of heap.now.opening.layout) self.old.held.clean) }
-        requires ahead { self.old.held.part ≡ Rest → self.old.held.clock < LAST }
+        requires layout { IsOfLayout heap.now.opening.layout self.old.known }
+        requires clean { self.old.known.part ≡ Rest
+            → IsTrue (are_clean (units_of heap.now.opening.layout) self.old.known.clean) }
+        requires ahead { self.old.known.part ≡ Rest → self.old.known.clock < LAST }
         ensures gate { IsAskedOften G.cuts G.endless gate.old gate.new (was_cut result) }
         ensures same { IsSameSeat self.old self.new }
-        ensures way { IsUnderWay self.old.held self.new.held }
-        ensures reason { IfErr result (λ why. HasReason why self.old.held self.new.held) }
+        ensures way { IsUnderWay self.old.known self.new.known }
+        ensures reason { IfErr result (λ why. HasReason why self.old.known self.new.known) }
         ensures going { result ≢ Err ClockEnd }
-        ensures ok { OnOk result (has_passed self.new.held.part ≡ true) }
+        ensures ok { OnOk result (has_passed self.new.known.part ≡ true) }
     {
         let Some(first) = self.unit_to_pass() else {
             return Ok(());
@@ -188,9 +188,9 @@ impl Advancer {
 
     // The unit at hand, unless all are passed.
     fn unit_to_pass(&self) -> Option<Unit>
-        requires ahead { self.now.held.part ≡ Rest → self.now.held.clock < LAST }
-        ensures waits { IfSome result (IsWaitingAt self.now.held) }
-        ensures passed { IfNone result (has_passed self.now.held.part ≡ true) }
+        requires ahead { self.now.known.part ≡ Rest → self.now.known.clock < LAST }
+        ensures waits { IfSome result (IsWaitingAt self.now.known) }
+        ensures passed { IfNone result (has_passed self.now.known.part ≡ true) }
     {
         match self.stage {
             AdvStage::Rest => Some(0),
@@ -207,17 +207,17 @@ impl Advancer {
         gate: &mut G,
     ) -> Result<(), AdvanceRefusal>
         requires heap { self.old.table ≡ heap.now.table }
-        requires layout { IsOfLayout heap.now.opening.layout self.old.held }
-        requires clean { self.old.held.part ≡ Rest
-            → IsTrue (are_clean (units_of heap.now.opening.layout) self.old.held.clean) }
-        requires may { IsTrue (can_check self.old.held.clock self.old.held.part) }
-        requires unit { unit ≡ unit_at_hand self.old.held.part }
+        requires layout { IsOfLayout heap.now.opening.layout self.old.known }
+        requires clean { self.old.known.part ≡ Rest
+            → IsTrue (are_clean (units_of heap.now.opening.layout) self.old.known.clean) }
+        requires may { IsTrue (can_check self.old.known.clock self.old.known.part) }
+        requires unit { unit ≡ unit_at_hand self.old.known.part }
         ensures gate { IsAskedOften G.cuts G.endless gate.old gate.new (was_cut result) }
         ensures same { IsSameSeat self.old self.new }
-        ensures checked { HasChecked self.old.held self.new.held }
-        ensures reason { IfErr result (λ why. HasReason why self.old.held self.new.held) }
+        ensures checked { HasChecked self.old.known self.new.known }
+        ensures reason { IfErr result (λ why. HasReason why self.old.known self.new.known) }
         ensures going { result ≢ Err ClockEnd }
-        ensures ok { OnOk result (self.new.held.part ≡ past_unit self.old.held.units unit) }
+        ensures ok { OnOk result (self.new.known.part ≡ past_unit self.old.known.units unit) }
     {
         let word = heap.load_told(&mut self.seat, gate)?;
         if !may_pass(self.clock, word) {
@@ -235,13 +235,13 @@ impl Advancer {
     // Writes back what the units have listed, unless it is written back.
     fn write_back<G: Gate>(&mut self, heap: &Heap, gate: &mut G) -> Result<(), AdvanceRefusal>
         requires heap { self.old.table ≡ heap.now.table }
-        requires layout { IsOfLayout heap.now.opening.layout self.old.held }
-        requires passed { has_passed self.old.held.part ≡ true }
+        requires layout { IsOfLayout heap.now.opening.layout self.old.known }
+        requires passed { has_passed self.old.known.part ≡ true }
         ensures gate { IsAskedOften G.cuts G.endless gate.old gate.new (was_cut result) }
         ensures same { IsSameSeat self.old self.new }
-        ensures way { IsUnderWay self.old.held self.new.held }
+        ensures way { IsUnderWay self.old.known self.new.known }
         ensures reason { IfErr result (λ why. why ≡ Cut) }
-        ensures ok { OnOk result (IsReady self.new.held) }
+        ensures ok { OnOk result (IsReady self.new.known) }
     {
         match self.stage {
             AdvStage::Flushing => {}
@@ -255,12 +255,12 @@ impl Advancer {
     // Moves the clock, unless it has moved.
     fn move_clock<G: Gate>(&mut self, heap: &Heap, gate: &mut G) -> Result<(), AdvanceRefusal>
         requires heap { self.old.table ≡ heap.now.table }
-        requires ready { IsReady self.old.held }
+        requires ready { IsReady self.old.known }
         ensures gate { IsAskedOften G.cuts G.endless gate.old gate.new (was_cut result) }
         ensures same { IsSameSeat self.old self.new }
-        ensures way { IsUnderWay self.old.held self.new.held }
+        ensures way { IsUnderWay self.old.known self.new.known }
         ensures reason { IfErr result (λ why. why ≡ Cut) }
-        ensures ok { OnOk result (is_clocked self.new.held.part ≡ true) }
+        ensures ok { OnOk result (is_clocked self.new.known.part ≡ true) }
     {
         match self.stage {
             AdvStage::Clocked => return Ok(()),
@@ -276,10 +276,10 @@ impl Advancer {
     // Makes the clock durable.
     fn persist_clock<G: Gate>(&mut self, heap: &Heap, gate: &mut G) -> Result<Epoch, AdvanceRefusal>
         requires heap { self.old.table ≡ heap.now.table }
-        requires moved { is_clocked self.old.held.part ≡ true }
+        requires moved { is_clocked self.old.known.part ≡ true }
         ensures gate { IsAskedOften G.cuts G.endless gate.old gate.new (was_cut result) }
         ensures same { IsSameSeat self.old self.new }
-        ensures ok { IfOk result (λ clock. IsAdvanced self.old.held clock self.new.held) }
+        ensures ok { IfOk result (λ clock. IsAdvanced self.old.known clock self.new.known) }
         ensures begun { IfOk result (λ clock. clock_of heap.now.opening.words < clock) }
         ensures refused { OnErr result (self.new ≡ self.old) }
         ensures reason { IfErr result (λ why. why ≡ Cut) }

@@ -2,10 +2,10 @@
 //! the clock and makes it durable. An advance that was refused goes on where it stood.
 #![tactic(auto)]
 
+mod advance_refusal;
 mod advancer;
-mod refusal;
 mod stage;
 
+pub use advance_refusal::AdvanceRefusal;
 pub use advancer::Advancer;
-pub use refusal::AdvanceRefusal;
 pub use stage::AdvStage;

@@ -23,11 +23,11 @@ pub fn register<R: Wait, G: Gate>(
     gate: &mut G,
 ) -> Result<Epoch, Cut>
     requires heap { seat.old.table ≡ heap.now.table }
-    requires may { IsTrue (can_look seat.old.held.part) }
-    requires clean { IsTrue (are_clean (units_of heap.now.opening.layout) seat.old.held.clean) }
+    requires may { IsTrue (can_look seat.old.known.part) }
+    requires clean { IsTrue (are_clean (units_of heap.now.opening.layout) seat.old.known.clean) }
     ensures gate { IsAskedOften G.cuts G.endless gate.old gate.new (is_err result) }
     ensures ok { IfOk result (λ epoch. IsRegistered seat.old seat.new epoch) }
-    ensures clock { IfOk result (λ epoch. IsClock seat.old.held.learnt seat.old.held.part epoch) }
+    ensures clock { IfOk result (λ epoch. IsClock seat.old.known.learnt seat.old.known.part epoch) }
     ensures cut { OnErr result (IsOut seat.old seat.new) }
 {
     let mut epoch = heap.load_clock(seat, gate)?;
@@ -50,10 +50,10 @@ pub fn register_at<G: Gate>(
     gate: &mut G,
 ) -> Result<(), RegisterRefusal>
     requires heap { seat.old.table ≡ heap.now.table }
-    requires may { IsTrue (can_look seat.old.held.part) }
+    requires may { IsTrue (can_look seat.old.known.part) }
     requires first { FIRST_CLOCK ≤ epoch }
     requires last { epoch ≤ LAST }
-    requires clean { IsTrue (are_clean (units_of heap.now.opening.layout) seat.old.held.clean) }
+    requires clean { IsTrue (are_clean (units_of heap.now.opening.layout) seat.old.known.clean) }
     ensures gate { IsAskedOften G.cuts G.endless gate.old gate.new (was_cut result) }
     ensures ok { OnOk result (IsRegisteredAt seat.old seat.new epoch) }
     ensures refused { IfErr result (λ refusal. LeavesOut seat.old seat.new epoch refusal) }
@@ -75,11 +75,11 @@ fn announce<G: Gate>(
     gate: &mut G,
 ) -> Result<Epoch, Cut>
     requires heap { seat.old.table ≡ heap.now.table }
-    requires may { IsTrue (can_tell seat.old.held.part epoch) }
-    requires clean { IsTrue (are_clean (units_of heap.now.opening.layout) seat.old.held.clean) }
+    requires may { IsTrue (can_tell seat.old.known.part epoch) }
+    requires clean { IsTrue (are_clean (units_of heap.now.opening.layout) seat.old.known.clean) }
     ensures gate { IsAskedOften G.cuts G.endless gate.old gate.new (is_err result) }
     ensures ok { IfOk result (λ clock. HasTried seat.old seat.new epoch clock) }
-    ensures clock { IfOk result (λ clock. IsClock seat.old.held.learnt seat.old.held.part clock) }
+    ensures clock { IfOk result (λ clock. IsClock seat.old.known.learnt seat.old.known.part clock) }
     ensures cut { OnErr result (IsOut seat.old seat.new) }
 {
     heap.tell(seat, epoch, gate)?;

@@ -3,7 +3,7 @@
 #![tactic(auto)]
 
 mod bank;
-mod caller_words;
+mod bank_words;
 mod shifts;
 
 pub use bank::{ATTEMPTS, CALLERS, bank_layout, opening_puts};

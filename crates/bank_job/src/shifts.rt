@@ -3,7 +3,7 @@ ghost use Rattle.std.specs.Prelude.{◌≡◌, ◌<◌, All, IfOk};
 ghost use Rattle.bank_job.specs.Shifts.{first_shifts, shift_of, IsBetweenUnits};
 
 use crate::bank::{ACCOUNTS, CALLERS};
-use crate::caller_words::{first_word, next_word};
+use crate::bank_words::{first_word, next_word};
 use mont_base::Text;
 use std::alloc::{AllocError, Global};
 

@@ -16,7 +16,7 @@ use Rattle.core_steps.specs.declared.parts.CallerPart.{CallerPart}
 use Rattle.core_steps.specs.declared.parts.UnitPart.{UnitPart}
 use Rattle.core_steps.specs.declared.parts.UnitStage.TheVariants.{Idle}
 use Rattle.core_steps.specs.Fresh.{fresh_unit}
-use Rattle.core_steps.specs.Answering.{CanRead}
+use Rattle.core_steps.specs.CallAnswers.{CanRead}
 use Rattle.heap_rule.specs.declared.rule.Opening.{Opening}
 use Rattle.heap_rule.specs.Views.{first_unit}
 use Rattle.heap.specs.FreshOpening.{fresh_opening, OpensEmpty}
@@ -26,10 +26,10 @@ use Rattle.heap.specs.Opens.{dealt_units}
 -- ---- seats
 -- the last of those that were dealt
 last_unit : (heap : HeapShown) (o : Opening) (n : ℕ) (rest : List UnitShown) (s : UnitShown) → dealt_units heap.table o n ≡ rest ++ s ∷ []
-    → (m : ℕ) × (m < n) × (dealt_units heap.table o m ≡ rest) × (s ≡ record { table = heap.table; held = first_unit o m })
+    → (m : ℕ) × (m < n) × (dealt_units heap.table o m ≡ rest) × (s ≡ record { table = heap.table; known = first_unit o m })
 last_unit heap o zero rest s e = let long = ap length e in absurd (omega (arith, long, length_push rest s))
 last_unit heap o (suc n) rest s e =
-    let parts = same_from_push (dealt_units heap.table o n) rest (record { table = heap.table; held = first_unit o n }) s e in
+    let parts = same_from_push (dealt_units heap.table o n) rest (record { table = heap.table; known = first_unit o n }) s e in
     (n, omega arith, parts.0, sym parts.1)
 
 -- ---- a queue
@@ -54,7 +54,7 @@ may_count s u v p q same named unfrozen idle empty few =
 -- ---- the seat of the last unit but one
 pub second_last_unit : (heap : HeapShown) (s : Shape) (callers : ℕ) (rest mid units : List UnitShown) (q g : UnitShown)
     → OpensEmpty s callers → units ≡ dealt_units heap.table (fresh_opening s callers) (units_of s) → units ≡ mid ++ g ∷ []
-    → mid ≡ rest ++ q ∷ [] → (q.table ≡ heap.table) × (q.held.part ≡ fresh_unit)
+    → mid ≡ rest ++ q ∷ [] → (q.table ≡ heap.table) × (q.known.part ≡ fresh_unit)
 second_last_unit heap s callers rest mid units q g empty dealt last next =
     let o = fresh_opening s callers in
     let first = last_unit heap o (units_of s) mid g (sym dealt ∙ last) in
@@ -63,5 +63,5 @@ second_last_unit heap s callers rest mid units q g empty dealt last next =
     let lower = second.1 in
     let is = second.3 in (
       ap (λ (v : UnitShown). v.table) is,
-      ap (λ (v : UnitShown). v.held.part) is ∙ empty.each_unit second.0 (omega arith),
+      ap (λ (v : UnitShown). v.known.part) is ∙ empty.each_unit second.0 (omega arith),
     )

@@ -8,8 +8,8 @@ use Rattle.heap_rule.specs.Plays.{IsDurable}
 use Rattle.heap_rule.specs.Views.{caller_saw}
 use Rattle.heap_rule.proofs.SeenFronts.{longer_none}
 use Rattle.heap.specs.HeapShown.{HeapShown, CallerShown}
-use Rattle.advance.specs.declared.refusal.AdvanceRefusal.{AdvanceRefusal}
-use Rattle.advance.specs.declared.refusal.AdvanceRefusal.TheVariants as advances
+use Rattle.advance.specs.declared.advance_refusal.AdvanceRefusal.{AdvanceRefusal}
+use Rattle.advance.specs.declared.advance_refusal.AdvanceRefusal.TheVariants as advances
 use Rattle.caller.specs.declared.sync_refusal.SyncRefusal.{SyncRefusal}
 use Rattle.caller.specs.declared.sync_refusal.SyncRefusal.TheVariants.{Stuck, Cut, ClockEnd}
 use Rattle.caller.specs.Telling.{has_mark}
@@ -21,15 +21,15 @@ use Rattle.caller.proofs.TakenNotes.{or_left, or_right, joined_has, odd_has, gre
 abbrev loaded_by : CallerShown → ℕ → ℕ → List ℕ → CallerShown
 loaded_by q steps clock synced = record {
   table = q.table;
-  held = record q.held { part = record q.held.part { durable = clock; synced = synced }; steps = steps; loaded = clock };
+  known = record q.known { part = record q.known.part { durable = clock; synced = synced }; steps = steps; loaded = clock };
 }
 
 abbrev saw : CallerShown → ℕ → CallerShown
-saw q clock = record { table = q.table; held = caller_saw q.held clock }
+saw q clock = record { table = q.table; known = caller_saw q.known clock }
 
 -- one load more that was short
-waits_more : (x y z : CallerShown) (clock : ℕ) → HasWaited x y → z ≡ saw y clock → IsDurable y.held.part.durable clock
-    → clock < y.held.part.newest + 2 → HasWaited x z
+waits_more : (x y z : CallerShown) (clock : ℕ) → HasWaited x y → z ≡ saw y clock → IsDurable y.known.part.durable clock
+    → clock < y.known.part.newest + 2 → HasWaited x z
 waits_more x y z clock w made d short =
     let steps = w.steps in
     let durable = w.durable in
@@ -39,21 +39,21 @@ waits_more x y z clock w made d short =
       durable = omega arith;
       short = λ more. record { found = refl; below = short };
       only =
-          ap (λ (b : Bool). loaded_by y (y.held.steps + 1) clock (cond b y.held.part.fronts y.held.part.synced))
-          (lt-leb (y.held.part.newest + 2) clock short)
-          ∙ ap (λ (v : CallerShown). loaded_by v (y.held.steps + 1) clock v.held.part.synced) w.only;
+          ap (λ (b : Bool). loaded_by y (y.known.steps + 1) clock (cond b y.known.part.fronts y.known.part.synced))
+          (lt-leb (y.known.part.newest + 2) clock short)
+          ∙ ap (λ (v : CallerShown). loaded_by v (y.known.steps + 1) clock v.known.part.synced) w.only;
     })
 
 -- one by which the newest epoch is seen to be too new, and it was made
-pub waits_on : (x y z : CallerShown) (clock newest : ℕ) → HasWaited x y → z ≡ saw y clock → IsDurable y.held.part.durable clock
-    → newest ≡ z.held.part.newest → clock - 2 < newest
-    → HasWaited x z × (x.held.steps < z.held.steps) × (z.held.part.durable ≤ LAST)
+pub waits_on : (x y z : CallerShown) (clock newest : ℕ) → HasWaited x y → z ≡ saw y clock → IsDurable y.known.part.durable clock
+    → newest ≡ z.known.part.newest → clock - 2 < newest
+    → HasWaited x z × (x.known.steps < z.known.steps) × (z.known.part.durable ≤ LAST)
 waits_on x y z clock newest w made d is new =
     let low = d.low in
     let before = w.steps in
-    let same = ap (λ (v : CallerShown). v.held.part.newest) {x = z} {y = saw y clock} made in
-    let steps = ap (λ (v : CallerShown). v.held.steps) {x = z} {y = saw y clock} made in
-    let durable = ap (λ (v : CallerShown). v.held.part.durable) {x = z} {y = saw y clock} made in
+    let same = ap (λ (v : CallerShown). v.known.part.newest) {x = z} {y = saw y clock} made in
+    let steps = ap (λ (v : CallerShown). v.known.steps) {x = z} {y = saw y clock} made in
+    let durable = ap (λ (v : CallerShown). v.known.part.durable) {x = z} {y = saw y clock} made in
     let high = d.high in
     (waits_more x y z clock w made d (omega arith), omega arith, omega arith)
 
@@ -61,15 +61,15 @@ waits_on x y z clock newest w made d is new =
 pub keeps_waited : (x y : CallerShown) → HasWaited x y → KeepsSeen x y
 keeps_waited x y w = record {
   table = ap (λ (v : CallerShown). v.table) w.only;
-  caller = ap (λ (v : CallerShown). v.held.caller) w.only;
-  calls = ap (λ (v : CallerShown). v.held.part.calls) w.only;
-  receipts = ap (λ (v : CallerShown). v.held.part.receipts) w.only;
-  fronts = ap (λ (v : CallerShown). v.held.part.fronts) w.only;
-  newest = ap (λ (v : CallerShown). v.held.part.newest) w.only;
-  cuts = ap (λ (v : CallerShown). v.held.part.cuts) w.only;
-  entries = ap (λ (v : CallerShown). v.held.entries) w.only;
+  caller = ap (λ (v : CallerShown). v.known.caller) w.only;
+  calls = ap (λ (v : CallerShown). v.known.part.calls) w.only;
+  receipts = ap (λ (v : CallerShown). v.known.part.receipts) w.only;
+  fronts = ap (λ (v : CallerShown). v.known.part.fronts) w.only;
+  newest = ap (λ (v : CallerShown). v.known.part.newest) w.only;
+  cuts = ap (λ (v : CallerShown). v.known.part.cuts) w.only;
+  entries = ap (λ (v : CallerShown). v.known.entries) w.only;
   durable = w.durable;
-  marks = λ m has. ap (λ (v : CallerShown). has_mark v.held.part.marks m) w.only ∙ has;
+  marks = λ m has. ap (λ (v : CallerShown). has_mark v.known.part.marks m) w.only ∙ has;
 }
 
 -- ---- a note of the advancer
@@ -79,27 +79,27 @@ same_newest n = omega arith
 module _ (heap : HeapShown) (x y : CallerShown) (why : AdvanceRefusal) (h : HasHeard heap x y why) where
   pub keeps_heard : KeepsSeen x y
   keeps_heard =
-      let durable = ap (λ (v : CallerShown). v.held.part.durable) h.noted in record {
+      let durable = ap (λ (v : CallerShown). v.known.part.durable) h.noted in record {
         table = ap (λ (v : CallerShown). v.table) h.noted;
-        caller = ap (λ (v : CallerShown). v.held.caller) h.noted;
-        calls = ap (λ (v : CallerShown). v.held.part.calls) h.noted;
-        receipts = ap (λ (v : CallerShown). v.held.part.receipts) h.noted;
-        fronts = ap (λ (v : CallerShown). v.held.part.fronts) h.noted ∙ greater_none x.held.part.fronts;
-        newest = ap (λ (v : CallerShown). v.held.part.newest) h.noted ∙ same_newest x.held.part.newest;
-        cuts = ap (λ (v : CallerShown). v.held.part.cuts) h.noted;
-        entries = ap (λ (v : CallerShown). v.held.entries) h.noted ∙ longer_none x.held.entries (length x.held.part.fronts);
+        caller = ap (λ (v : CallerShown). v.known.caller) h.noted;
+        calls = ap (λ (v : CallerShown). v.known.part.calls) h.noted;
+        receipts = ap (λ (v : CallerShown). v.known.part.receipts) h.noted;
+        fronts = ap (λ (v : CallerShown). v.known.part.fronts) h.noted ∙ greater_none x.known.part.fronts;
+        newest = ap (λ (v : CallerShown). v.known.part.newest) h.noted ∙ same_newest x.known.part.newest;
+        cuts = ap (λ (v : CallerShown). v.known.part.cuts) h.noted;
+        entries = ap (λ (v : CallerShown). v.known.entries) h.noted ∙ longer_none x.known.entries (length x.known.part.fronts);
         durable = omega arith;
-        marks = λ m has. ap (λ (v : CallerShown). has_mark v.held.part.marks m) h.noted
-            ∙ joined_has x.held.part.marks _ m (or_left (has_mark x.held.part.marks m) _ has);
+        marks = λ m has. ap (λ (v : CallerShown). has_mark v.known.part.marks m) h.noted
+            ∙ joined_has x.known.part.marks _ m (or_left (has_mark x.known.part.marks m) _ has);
       }
 
 pub marked_heard : (heap : HeapShown) (x y : CallerShown) (unit epoch : ℕ) → HasHeard heap x y (advances.NotYet unit epoch true)
-    → has_mark y.held.part.marks (record { unit = unit; by = None }) ≡ true
+    → has_mark y.known.part.marks (record { unit = unit; by = None }) ≡ true
 marked_heard heap x y unit epoch h =
     let m : Mark = record { unit = unit; by = None } in
-    ap (λ (v : CallerShown). has_mark v.held.part.marks m) h.noted
-    ∙ joined_has x.held.part.marks _ m
-    (or_right (has_mark x.held.part.marks m) _ (odd_has h.behind.held.odd unit (h.reason.marked refl)))
+    ap (λ (v : CallerShown). has_mark v.known.part.marks m) h.noted
+    ∙ joined_has x.known.part.marks _ m
+    (or_right (has_mark x.known.part.marks m) _ (odd_has h.behind.known.odd unit (h.reason.marked refl)))
 
 pub keeps_more : (x y z : CallerShown) → KeepsSeen x y → KeepsSeen y z → KeepsSeen x z
 keeps_more x y z h j =
@@ -122,10 +122,10 @@ last_heard : (known durable heard : ℕ) → heard ≡ max known durable → dur
 last_heard known durable heard is last high = omega arith
 
 -- ---- refusals
-pub leaves_held_up : (heap : HeapShown) (x y z : CallerShown) (why : SyncRefusal) → HasWaited x y → x.held.steps < y.held.steps
-    → y.held.part.durable ≤ LAST → HasHeard heap y z (refusal_of_advance why) → LeavesUnsynced heap x z why
+pub leaves_held_up : (heap : HeapShown) (x y z : CallerShown) (why : SyncRefusal) → HasWaited x y → x.known.steps < y.known.steps
+    → y.known.part.durable ≤ LAST → HasHeard heap y z (refusal_of_advance why) → LeavesUnsynced heap x z why
 leaves_held_up heap x y z (Stuck unit epoch) w more high h =
-    let durable = ap (λ (v : CallerShown). v.held.part.durable) h.noted in
+    let durable = ap (λ (v : CallerShown). v.known.part.durable) h.noted in
     let below = h.reason.below_durable in record {
       held_up = record { waiting = y; waited = w; loads = more; heard = h };
       marked = marked_heard heap y z unit epoch h;
@@ -134,6 +134,6 @@ leaves_held_up heap x y z (Stuck unit epoch) w more high h =
 leaves_held_up heap x y z Cut w more high h = inr (record { waiting = y; waited = w; loads = more; heard = h })
 leaves_held_up heap x y z ClockEnd w more high h = record {
   held_up = record { waiting = y; waited = w; loads = more; heard = h };
-  last = last_heard y.held.part.durable h.behind.held.durable z.held.part.durable
-      (ap (λ (v : CallerShown). v.held.part.durable) h.noted) h.reason.durable high;
+  last = last_heard y.known.part.durable h.behind.known.durable z.known.part.durable
+      (ap (λ (v : CallerShown). v.known.part.durable) h.noted) h.reason.durable high;
 }

@@ -1,6 +1,6 @@
 // Why what a caller has seen did not become durable.
 ghost use Rattle.std.specs.Prelude.{◌≡◌, ℕ, false, IfNone, IfSome};
-ghost use Rattle.advance.specs.declared.refusal.AdvanceRefusal.TheVariants.{NotYet};
+ghost use Rattle.advance.specs.declared.advance_refusal.AdvanceRefusal.TheVariants.{NotYet};
 ghost use Rattle.caller.specs.declared.sync_refusal.SyncRefusal.TheVariants as refusals;
 
 use advance::AdvanceRefusal;

@@ -26,8 +26,8 @@ pub fn sync<R: Wait, N: HeapName, G: Gate>(
     ensures receipts { pass.new.receipts ≡ pass.old.receipts }
     ensures seen { KeepsSeen pass.old.ticket pass.new.ticket }
     ensures synced { IfOk result (λ clock. HasSynced pass.old.ticket pass.new.ticket clock) }
-    ensures unsynced { OnErr result (pass.new.ticket.held.part.synced
-        ≡ pass.old.ticket.held.part.synced) }
+    ensures unsynced { OnErr result (pass.new.ticket.known.part.synced
+        ≡ pass.old.ticket.known.part.synced) }
     ensures refused { IfErr result (λ why. LeavesUnsynced heap.now pass.old.ticket
         pass.new.ticket why) }
 {

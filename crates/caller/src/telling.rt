@@ -13,7 +13,7 @@ pub fn tell<G: Gate>(alloc: Global, heap: &Heap, pass: &mut Pass<G>) -> Result<N
     requires { pass.old.ticket.table ≡ heap.now.table }
     ensures news { IfOk result (λ news. news ≡ record {
       table = heap.now.table;
-      held = note_of_caller pass.old.ticket.held;
+      known = note_of_caller pass.old.ticket.known;
     }) }
     ensures ticket { pass.new.ticket ≡ pass.old.ticket }
     ensures gate { pass.new.gate ≡ pass.old.gate }
@@ -28,10 +28,10 @@ pub fn hear<G: Gate>(heap: &Heap, pass: &mut Pass<G>, news: News)
     requires news { news.table ≡ heap.now.table }
     ensures caller { pass.new.ticket ≡ record {
       table = pass.old.ticket.table;
-      held = caller_heard pass.old.ticket.held news.held;
+      known = caller_heard pass.old.ticket.known news.known;
     } }
-    ensures greater { TakesGreater pass.old.ticket.held.part news.held.note
-        pass.new.ticket.held.part }
+    ensures greater { TakesGreater pass.old.ticket.known.part news.known.note
+        pass.new.ticket.known.part }
     ensures gate { pass.new.gate ≡ pass.old.gate }
     ensures receipts { pass.new.receipts ≡ pass.old.receipts }
 {

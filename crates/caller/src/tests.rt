@@ -26,17 +26,17 @@ use std::test::Fail;
 fn count<G: Gate>(heap: &Heap, queue: &mut UnitSeat, pass: &mut Pass<G>) -> Result<(), Fail>
     requires heap { queue.old.table ≡ heap.now.table }
     requires ticket { pass.old.ticket.table ≡ heap.now.table }
-    requires clean { IsTrue (are_clean (units_of heap.now.opening.layout) queue.old.held.clean) }
-    requires idle { (queue.old.held.part.frozen ≡ None) × (queue.old.held.part.stage ≡ Idle) }
-    requires empty { queue.old.held.part.records ≡ [] }
-    requires few { length queue.old.held.part.history + pass.old.ticket.held.part.calls < 9 }
+    requires clean { IsTrue (are_clean (units_of heap.now.opening.layout) queue.old.known.clean) }
+    requires idle { (queue.old.known.part.frozen ≡ None) × (queue.old.known.part.stage ≡ Idle) }
+    requires empty { queue.old.known.part.records ≡ [] }
+    requires few { length queue.old.known.part.history + pass.old.ticket.known.part.calls < 9 }
     requires room { 1 ≤ spare_of pass.old.receipts }
     ensures tables { (queue.new.table ≡ queue.old.table)
         × (pass.new.ticket.table ≡ pass.old.ticket.table) }
-    ensures seat { OnOk result ((queue.new.held.clean ≡ queue.old.held.clean)
-        × (queue.new.held.part.frozen ≡ None) × (queue.new.held.part.stage ≡ Idle)
-        × (queue.new.held.part.records ≡ [])
-        × (length queue.new.held.part.history ≡ length queue.old.held.part.history + 1)) }
+    ensures seat { OnOk result ((queue.new.known.clean ≡ queue.old.known.clean)
+        × (queue.new.known.part.frozen ≡ None) × (queue.new.known.part.stage ≡ Idle)
+        × (queue.new.known.part.records ≡ [])
+        × (length queue.new.known.part.history ≡ length queue.old.known.part.history + 1)) }
 {
     let unit = queue.unit();
     let op = Op::Len { unit };
@@ -54,8 +54,8 @@ fn count<G: Gate>(heap: &Heap, queue: &mut UnitSeat, pass: &mut Pass<G>) -> Resu
 fn die(heap: &Heap, queue: &mut UnitSeat, ticket: &mut Ticket) -> Result<u64, Fail>
     requires heap { queue.old.table ≡ heap.now.table }
     requires ticket { ticket.old.table ≡ heap.now.table }
-    requires clean { IsTrue (are_clean (units_of heap.now.opening.layout) queue.old.held.clean) }
-    requires idle { (queue.old.held.part.frozen ≡ None) × (queue.old.held.part.stage ≡ Idle) }
+    requires clean { IsTrue (are_clean (units_of heap.now.opening.layout) queue.old.known.clean) }
+    requires idle { (queue.old.known.part.frozen ≡ None) × (queue.old.known.part.stage ≡ Idle) }
 {
     let clock = heap.load_clock(queue, &mut Steady)?;
     heap.tell(queue, clock, &mut Steady)?;
@@ -74,13 +74,13 @@ fn work<N: HeapName>(
     second: Ticket,
 ) -> Result<(), Fail>
     requires heap { heap.now ≡ N.heap }
-    requires queue { (queue.table ≡ N.heap.table) × (queue.held.part ≡ fresh_unit) }
-    requires clean { IsTrue (are_clean (units_of N.heap.opening.layout) queue.held.clean) }
+    requires queue { (queue.table ≡ N.heap.table) × (queue.known.part ≡ fresh_unit) }
+    requires clean { IsTrue (are_clean (units_of N.heap.opening.layout) queue.known.clean) }
     requires advancer { IsAdvancerOf N.heap advancer }
-    requires rests { IsAtRest advancer.held × (advancer.held.clock ≡ FIRST_CLOCK) }
+    requires rests { IsAtRest advancer.known × (advancer.known.clock ≡ FIRST_CLOCK) }
     requires callers { (first.table ≡ N.heap.table) × (second.table ≡ N.heap.table) }
-    requires first { first.held.part ≡ fresh_caller (units_of N.heap.opening.layout) }
-    requires second { second.held.part ≡ fresh_caller (units_of N.heap.opening.layout) }
+    requires first { first.known.part ≡ fresh_caller (units_of N.heap.opening.layout) }
+    requires second { second.known.part ≡ fresh_caller (units_of N.heap.opening.layout) }
 {
     let advancer = Advancer::new(heap.layout(), advancer, FIRST_CLOCK);
     let advancer = Mutex::new(Named::<N, Advancer>::new(advancer));

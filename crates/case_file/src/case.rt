@@ -1,5 +1,5 @@
 // A worked case.
-use crate::refusal::Unanswered;
+use crate::case_refusal::Unanswered;
 
 /// A part of a case: what it is, and its text.
 #[derive(Debug, Drop)]

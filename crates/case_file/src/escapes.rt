@@ -4,8 +4,8 @@
 // `\{N TEXT}` is TEXT N times. A backslash at the end takes the line feed away.
 ghost use Rattle.std.specs.Prelude.{◌<◌, length, IfOk};
 
-use crate::numbers::number_of;
-use crate::refusal::CaseFault;
+use crate::case_numbers::number_of;
+use crate::case_refusal::CaseFault;
 
 // How often a text is repeated at most.
 const MOST_TIMES: u64 = 1_000_000;

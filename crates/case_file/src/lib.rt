@@ -3,20 +3,20 @@
 #![tactic(auto)]
 
 mod case;
+mod case_numbers;
+mod case_reader;
+mod case_refusal;
 mod escapes;
-mod lines;
-mod numbers;
 mod other_lines;
-mod reader;
-mod refusal;
 mod row;
+mod text_lines;
 mod trial;
 mod wanted;
 
 pub use case::{Case, Part};
-pub use numbers::numbers_in;
+pub use case_numbers::numbers_in;
+pub use case_reader::read_cases;
+pub use case_refusal::{CaseFault, CaseRefusal, Unanswered};
 pub use other_lines::with_other_lines;
-pub use reader::read_cases;
-pub use refusal::{CaseFault, CaseRefusal, Unanswered};
 pub use trial::{Subject, try_cases};
-pub use wanted::{is_wanted, told};
+pub use wanted::{is_wanted, said};

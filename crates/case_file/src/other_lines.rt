@@ -1,7 +1,7 @@
 // A text with other lines in the place of some of its own.
-use crate::lines::without_last_feed;
-use crate::numbers::number_of;
-use crate::refusal::Unanswered;
+use crate::case_numbers::number_of;
+use crate::case_refusal::Unanswered;
+use crate::text_lines::without_last_feed;
 use std::alloc::{AllocError, Global};
 
 const HEAD: &str = "other lines";

@@ -1,8 +1,8 @@
 // The trial of all cases of some files.
 use crate::case::Case;
-use crate::reader::read_cases;
-use crate::refusal::Unanswered;
-use crate::wanted::{is_wanted, told};
+use crate::case_reader::read_cases;
+use crate::case_refusal::Unanswered;
+use crate::wanted::{is_wanted, said};
 use anyhow::{Context, Result, anyhow};
 use std::alloc::Global;
 use std::process::ExitCode;
@@ -82,7 +82,7 @@ fn try_case<R: Print, S: Subject>(
     if !is_wanted(case, got.as_slice()) {
         tally.differing = tally.differing.saturating_add(1);
     }
-    let line = told(alloc, case, got.as_slice())?;
+    let line = said(alloc, case, got.as_slice())?;
     println!(rt; "{line}")?;
     Ok(())
 }

@@ -29,7 +29,7 @@ pub fn is_wanted(case: &Case, got: &[u8]) -> bool
 
 /// A line on what came of a case: its name and `ok`, or where the text first differs from the one
 /// that is wanted.
-pub fn told(alloc: Global, case: &Case, got: &[u8]) -> Result<String, AllocError>
+pub fn said(alloc: Global, case: &Case, got: &[u8]) -> Result<String, AllocError>
     ensures { IfOk result (λ line. (string_bytes line ≡ string_bytes case.now.name ++ codes ": ok")
         ↔ IsWanted case.now got.now) }
 {
@@ -37,12 +37,12 @@ pub fn told(alloc: Global, case: &Case, got: &[u8]) -> Result<String, AllocError
         let name = case.name.as_str();
         format!(in alloc; "{name}: ok")
     } else {
-        told_apart(alloc, case, got)
+        said_apart(alloc, case, got)
     }
 }
 
 // Where the text differs from the one that is wanted.
-fn told_apart(alloc: Global, case: &Case, got: &[u8]) -> Result<String, AllocError>
+fn said_apart(alloc: Global, case: &Case, got: &[u8]) -> Result<String, AllocError>
     ensures { IfOk result (λ line. (rest : List ℕ)
         × (string_bytes line ≡ string_bytes case.now.name ++ (codes ": line " ++ rest))) }
 {

@@ -10,7 +10,7 @@ use Rattle.mont_laws.specs.Effects.{AreEffects}
 use Rattle.mont_laws.proofs.Shown.{one_state}
 use Rattle.core_steps.specs.declared.parts.UnitPart.{UnitPart}
 use Rattle.core_steps.specs.declared.parts.CallerPart.{CallerPart}
-use Rattle.core_steps.specs.Answering.{IsJudged, CanLeave, CanRead}
+use Rattle.core_steps.specs.CallAnswers.{IsJudged, CanLeave, CanRead}
 use Rattle.core_answer.specs.Answering.{IsReadyToLeave, IsReadyToRead}
 use Rattle.core_answer.specs.Judging.{Answers}
 use Rattle.core_answer.specs.Newest.{HaveSameNewest}

@@ -3,7 +3,7 @@ use Rattle.std.specs.Prelude.{◌≡◌, ◌≢◌, ℕ, ◌≤◌, [], None}
 use Rattle.core_steps.specs.declared.parts.UnitPart.{UnitPart}
 use Rattle.core_steps.specs.declared.parts.CallerPart.{CallerPart}
 use Rattle.core_steps.specs.declared.parts.UnitStage.TheVariants.{Idle, Within}
-use Rattle.core_steps.specs.Answering.{HasNumbers}
+use Rattle.core_steps.specs.CallAnswers.{HasNumbers}
 
 -- the unit has written all that it writes in its epoch, and the caller has seen nothing later
 pub record IsReadyToLeave (p : UnitPart) (q : CallerPart) (epoch : ℕ) : Type 0 where

@@ -1,7 +1,7 @@
 // How a unit answers a caller: by leaving the epoch in which it has written, or by a read.
 ghost use Rattle.std.specs.Prelude.{◌≡◌, ◌↔◌, [], length, IfOk, IsTrue, OnOk, OnErr};
 ghost use Rattle.core_steps.specs.Stages.{epoch_of};
-ghost use Rattle.core_steps.specs.Answering.{HasNumbers, CanLeave, CanRead, entry_of, after_leave, after_read, after_answer};
+ghost use Rattle.core_steps.specs.CallAnswers.{HasNumbers, CanLeave, CanRead, entry_of, after_leave, after_read, after_answer};
 ghost use Rattle.core_steps.specs.Events.{IsAllowed, after};
 ghost use Rattle.core_answer.specs.Answering.{IsReadyToLeave, IsReadyToRead};
 

@@ -14,7 +14,7 @@ use Rattle.core_steps.specs.declared.parts.AdvPart.{AdvPart}
 use Rattle.core_steps.specs.declared.parts.AdvPart.TheVariants.{Rest, Checking, Flushing, Holding, Clocked}
 use Rattle.core_steps.specs.Clock.{clock, durable_clock}
 use Rattle.core_steps.specs.Stages.{limit_of, is_announced, phase_of, passed_of}
-use Rattle.core_steps.specs.Answering.{CanLeave, CanRead, entry_of, after_answer, after_leave, after_read, leave, read}
+use Rattle.core_steps.specs.CallAnswers.{CanLeave, CanRead, entry_of, after_answer, after_leave, after_read, leave, read}
 use Rattle.core_steps.specs.Flushing.{unit_list, all_listed}
 use Rattle.core_steps.specs.Notes.{histories_of, cuts_of}
 use Rattle.core_steps.specs.WriteBack.{FlushFits}

@@ -12,7 +12,7 @@ use Rattle.mont_base.specs.declared.operation.Receipt.{Receipt}
 use Rattle.mont_base.specs.declared.operation.Reply.{Reply}
 use Rattle.mont_base.specs.Seen.{FrontFits, FitsHistories, IsEntryAt, IsReceiptOf, IsInOrder}
 use Rattle.core_steps.specs.declared.parts.CallerPart.{CallerPart}
-use Rattle.core_steps.specs.Answering.{entry_of, after_answer}
+use Rattle.core_steps.specs.CallAnswers.{entry_of, after_answer}
 use Rattle.core_steps.specs.CallerClauses.{view_of, IsBehind, IsSynced, CallerFits, HasReceipt, IsNamed, CallersFit}
 use Rattle.core_steps.specs.Notes.{Grows}
 use Rattle.core_steps.specs.Places.{RowHas}

@@ -19,7 +19,7 @@ use Rattle.core_steps.specs.declared.parts.UnitStage.{UnitStage}
 use Rattle.core_steps.specs.Clock.{clock, durable_clock, next_clock}
 use Rattle.core_steps.specs.Advancing.{set_clock, persist_clock}
 use Rattle.core_steps.specs.Announcing.{can_tell, can_confirm, can_withdraw, can_freeze, after_tell, after_confirm, after_withdraw, after_freeze, tell, confirm, withdraw, freeze}
-use Rattle.core_steps.specs.Answering.{CanLeave, entry_of, leave, read}
+use Rattle.core_steps.specs.CallAnswers.{CanLeave, entry_of, leave, read}
 use Rattle.core_steps.specs.Closing.{CanClose, CanPersistClose, after_load_durable, after_close_label, after_persist_close, load_durable, see_durable, close_label, persist_close}
 use Rattle.core_steps.specs.Events.{OfCaller, IsAllowed, closing_of, after}
 use Rattle.core_steps.specs.Flushing.{flush_list, words_persisted}

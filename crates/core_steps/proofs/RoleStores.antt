@@ -20,7 +20,7 @@ use Rattle.core_steps.specs.declared.parts.UnitStage.TheVariants.{Within}
 use Rattle.core_steps.specs.declared.parts.Writing.{Writing}
 use Rattle.core_steps.specs.Stages.{is_closing, epoch_of}
 use Rattle.core_steps.specs.Storing.{front_of, with_field, change_in, IsFreeSlot, IsTurn, CanStoreField, CanStoreLabel, after_store_field, after_store_label}
-use Rattle.core_steps.specs.Answering.{after_leave}
+use Rattle.core_steps.specs.CallAnswers.{after_leave}
 use Rattle.core_steps.specs.Roles.{Role, Free, Unfinished, Written, Kept, Lost, IsBegun, HasFields, IsUnfinished, IsWritten, SlotFits, Says, Shows, HasSlots}
 use Rattle.core_steps.proofs.Rows.{each_set}
 use Rattle.core_steps.proofs.RoleFronts.{same_fields, front_epoch, front_step, front_whole}

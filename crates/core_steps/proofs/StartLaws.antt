@@ -22,7 +22,7 @@ use Rattle.core_steps.specs.Stages.{is_announced}
 use Rattle.core_steps.specs.Notes.{histories_of, cuts_of}
 use Rattle.core_steps.specs.CallerClauses.{CallersFit}
 use Rattle.core_steps.specs.Opened.{IsRecoveredUnit, opened_at, RecoveredCoresAreSound}
-use Rattle.core_steps.specs.Runs.{FreshCoresAreSound}
+use Rattle.core_steps.specs.CoreRuns.{FreshCoresAreSound}
 use Rattle.core_steps.specs.UnitClauses.{UnitFits}
 use Rattle.core_steps.specs.Sound.{base_state, announcement, StageFits, IsSound}
 use Rattle.core_steps.proofs.Rows.{row_copy, copy_row}

@@ -15,12 +15,12 @@ use Rattle.core_steps.specs.Clock.{clock}
 use Rattle.core_steps.specs.Stages.{epoch_of}
 use Rattle.core_steps.specs.Announcing.{can_tell, tell, can_confirm, confirm, can_withdraw, withdraw, can_freeze, freeze}
 use Rattle.core_steps.specs.Storing.{LooksFree, IsFreeSlot, IsTurn, CanStore, store}
-use Rattle.core_steps.specs.Answering.{CanLeave, CanRead, entry_of, leave, read}
+use Rattle.core_steps.specs.CallAnswers.{CanLeave, CanRead, entry_of, leave, read}
 use Rattle.core_steps.specs.Closing.{can_load_durable, load_durable, see_durable, CanClose, close_label, CanPersistClose, persist_close}
 use Rattle.core_steps.specs.Notes.{IsTrueNote, hear, join}
 use Rattle.core_steps.specs.Events.{IsSettled, CanLoadDurable, closing_of, loaded_durable, after}
 use Rattle.core_steps.specs.Sound.{Base, IsSound}
-use Rattle.core_steps.specs.Runs.{StepsKeepSoundness, SoundnessLasts}
+use Rattle.core_steps.specs.CoreRuns.{StepsKeepSoundness, SoundnessLasts}
 use Rattle.core_steps.proofs.RoleFacts.{free_slot}
 use Rattle.core_steps.proofs.AnnounceLaws.{tell_law, confirm_law, withdraw_law, freeze_law, load_durable_law}
 use Rattle.core_steps.proofs.StoreLaws.{some_slots, some_clock, store_law}

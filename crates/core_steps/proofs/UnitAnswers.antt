@@ -27,7 +27,7 @@ use Rattle.core_steps.specs.declared.parts.UnitPart.{UnitPart}
 use Rattle.core_steps.specs.declared.parts.CallerPart.{CallerPart}
 use Rattle.core_steps.specs.declared.parts.UnitStage.{UnitStage}
 use Rattle.core_steps.specs.Stages.{limit_of}
-use Rattle.core_steps.specs.Answering.{IsJudged, CanLeave, CanRead, entry_of, after_leave, after_read}
+use Rattle.core_steps.specs.CallAnswers.{IsJudged, CanLeave, CanRead, entry_of, after_leave, after_read}
 use Rattle.core_steps.specs.UnitClauses.{IsOwnEpoch, RetiresBefore, HasVersions, ShowsCuts, AreReached, ClosesDue, UnitFits}
 use Rattle.core_steps.proofs.UnitQueues.{pairs_append, pairs_all, slot_record, retired_low, retired_at}
 use Rattle.core_steps.proofs.UnitFrames.{reached_later}

@@ -10,7 +10,7 @@ use Rattle.mont_base.specs.declared.operation.Entry.{Entry}
 use Rattle.mont_laws.specs.Records.{without_slot}
 use Rattle.mont_laws.proofs.Members.{first_element, later_element}
 use Rattle.core_steps.specs.declared.parts.UnitPart.{UnitPart}
-use Rattle.core_steps.specs.Answering.{after_leave}
+use Rattle.core_steps.specs.CallAnswers.{after_leave}
 use Rattle.core_steps.specs.Closing.{IsDueNow, after_persist_close}
 use Rattle.core_steps.specs.UnitClauses.{HasVersions}
 use Rattle.core_steps.proofs.UnitCloses.{due_lost, due_old}

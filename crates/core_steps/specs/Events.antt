@@ -15,7 +15,7 @@ use Rattle.core_steps.specs.Clock.{clock}
 use Rattle.core_steps.specs.Stages.{epoch_of, is_unfrozen}
 use Rattle.core_steps.specs.Announcing.{can_look, can_tell, tell, can_confirm, confirm, can_withdraw, withdraw, can_freeze, freeze}
 use Rattle.core_steps.specs.Storing.{LooksFree, CanStore, store}
-use Rattle.core_steps.specs.Answering.{CanLeave, CanRead, entry_of, leave, read}
+use Rattle.core_steps.specs.CallAnswers.{CanLeave, CanRead, entry_of, leave, read}
 use Rattle.core_steps.specs.Closing.{can_load_durable, load_durable, see_durable, CanClose, close_label, CanPersistClose, persist_close}
 use Rattle.core_steps.specs.Advancing.{can_check, unit_at_hand, check, set_clock, is_clocked, persist_clock}
 use Rattle.core_steps.specs.Flushing.{flush_list, can_load_word, load_word, can_persist_word, persist_word, is_flushed}

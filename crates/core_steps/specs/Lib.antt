@@ -3,7 +3,7 @@ pub mod Clock
 pub mod Stages
 pub mod Announcing
 pub mod Storing
-pub mod Answering
+pub mod CallAnswers
 pub mod Closing
 pub mod Flushing
 pub mod Advancing
@@ -15,7 +15,7 @@ pub mod WriteBack
 pub mod UnitClauses
 pub mod CallerClauses
 pub mod Sound
-pub mod Runs
+pub mod CoreRuns
 pub mod Opened
 pub mod Cuts
 pub mod Reuse

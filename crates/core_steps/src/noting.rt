@@ -1,5 +1,5 @@
 // What notes of the machine's parts say.
-ghost use Rattle.core_steps.specs.Runs.{SplitsAreTrue, NotesLast};
+ghost use Rattle.core_steps.specs.CoreRuns.{SplitsAreTrue, NotesLast};
 
 /// What is noted of a part is true when it is noted.
 pub fn splits_are_true()

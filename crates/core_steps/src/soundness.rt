@@ -1,6 +1,6 @@
 // What every step keeps, and with which cores a store begins.
 ghost use Rattle.core_steps.specs.Opened.{ImagesAreRecovered, RecoveredCoresAreSound};
-ghost use Rattle.core_steps.specs.Runs.{StepsKeepSoundness, SoundnessLasts, FreshCoresAreSound};
+ghost use Rattle.core_steps.specs.CoreRuns.{StepsKeepSoundness, SoundnessLasts, FreshCoresAreSound};
 
 /// Every allowed step leads from a sound core to a sound core.
 pub fn steps_keep_soundness()

@@ -22,7 +22,7 @@ use Rattle.heap.specs.Opens.{Opens, dealt_units}
 use Rattle.core_steps.specs.Places.{EachAt}
 use Rattle.heap.specs.Stops.{AreAllSeats, AreAtHome, IsSeatOfUnit, IsSeatOfCaller}
 use Rattle.heap.proofs.AllSeats.{opened_are_all, opened_at_home}
-use Rattle.slots.specs.Beginning.{BeginsWith, fresh_books}
+use Rattle.slots.specs.RegionBeginning.{BeginsWith, fresh_books}
 use Rattle.slots.specs.Books.{BooksShown, Agrees, IsAtRest}
 use Rattle.heap_pass.specs.OfLayout.{IsOfLayout}
 use Rattle.engine_tests.specs.declared.engine.Engine.{Engine}
@@ -36,7 +36,7 @@ first_out (y ∷ ys) rest x some is left = λ i. sym is i ∷ sym left i
 
 module _ (heap : HeapShown) (o : Opening) where
   abbrev seat_at : ℕ → UnitShown
-  seat_at u = record { table = heap.table; held = first_unit o u }
+  seat_at u = record { table = heap.table; known = first_unit o u }
 
   -- the first seat is unit 0's
   first_dealt : (n : ℕ) → (rest : List UnitShown) × (dealt_units heap.table o (suc n) ≡ seat_at 0 ∷ rest)
@@ -74,19 +74,19 @@ module _ (s : Shape) (heap : HeapShown) (units rest : List UnitShown) (seat : Un
   abbrev no_list : List ℕ
   no_list = []
 
-  the_seat : (seat ≡ record { table = heap.table; held = first_unit o 0 }) × (0 < units_of s)
+  the_seat : (seat ≡ record { table = heap.table; known = first_unit o 0 }) × (0 < units_of s)
   the_seat = first_of heap o (units_of s) seat rest (sym of_units ∙ opens.each_unit)
 
-  the_ticket : (ticket ≡ record { table = heap.table; held = first_caller o 0 }) × (mid ≡ [])
-  the_ticket = only_caller mid callers ticket (record { table = heap.table; held = first_caller o 0 }) of_callers opens.each_caller
+  the_ticket : (ticket ≡ record { table = heap.table; known = first_caller o 0 }) × (mid ≡ [])
+  the_ticket = only_caller mid callers ticket (record { table = heap.table; known = first_caller o 0 }) of_callers opens.each_caller
 
   pub some_units : 0 < units_of s
   some_units = the_seat.1
 
-  the_part : seat.held.part ≡ fresh_unit
-  the_part = ap (λ (u : UnitShown). u.held.part) the_seat.0 ∙ empty.each_unit 0 some_units
+  the_part : seat.known.part ≡ fresh_unit
+  the_part = ap (λ (u : UnitShown). u.known.part) the_seat.0 ∙ empty.each_unit 0 some_units
 
-  pub seat_begins : BeginsWith seat.held.part [] []
+  pub seat_begins : BeginsWith seat.known.part [] []
   seat_begins = subst (λ (p : UnitPart). BeginsWith p [] []) (sym the_part) (record {
     rests = record { stage = refl; written = refl; writing = refl };
     frozen = refl;
@@ -99,8 +99,8 @@ module _ (s : Shape) (heap : HeapShown) (units rest : List UnitShown) (seat : Un
   of_layout : IsOfLayout s (first_advancer o)
   of_layout = record { units = refl; room = refl; lists = length-replicate (units_of s) no_list }
 
-  pub of_first : seat.held.unit ≡ 0
-  of_first = ap (λ (u : UnitShown). u.held.unit) the_seat.0
+  pub of_first : seat.known.unit ≡ 0
+  of_first = ap (λ (u : UnitShown). u.known.unit) the_seat.0
 
   all : AreAllSeats heap (seat ∷ rest) advancer callers
   all = subst (λ (l : List UnitShown). AreAllSeats heap l advancer callers) of_units (opened_are_all o heap units advancer callers opens)
@@ -109,7 +109,7 @@ module _ (s : Shape) (heap : HeapShown) (units rest : List UnitShown) (seat : Un
   others_are = record {
     count = let n = all.unit_count in omega (arith, n);
     each = λ i s e. all.each_unit (suc i) s e;
-    home = All-tail (λ (s : UnitShown). s.held.turn.out ≡ false) seat rest
+    home = All-tail (λ (s : UnitShown). s.known.turn.out ≡ false) seat rest
         (subst AreAtHome of_units (opened_at_home o heap units advancer callers opens));
   }
 
@@ -127,12 +127,12 @@ module _ (s : Shape) (heap : HeapShown) (units rest : List UnitShown) (seat : Un
       record {
         stops = record {
           of_region = ap (λ (x : UnitShown). x.table) of_seat ∙ table;
-          first = ap (λ (x : UnitShown). x.held.unit) of_seat;
-          home = ap (λ (x : UnitShown). x.held.turn.out) of_seat;
+          first = ap (λ (x : UnitShown). x.known.unit) of_seat;
+          home = ap (λ (x : UnitShown). x.known.turn.out) of_seat;
           others = subst (λ (x : HeapShown × List UnitShown). AreOthers x.0 x.1) (λ i. (sym h i, sym others i)) others_are;
           of_advancer = ap (λ (x : AdvShown). x.table) of_advancer ∙ table;
           of_caller = ap (λ (x : CallerShown). x.table) of_ticket ∙ table;
-          caller = ap (λ (x : CallerShown). x.held.caller) of_ticket;
+          caller = ap (λ (x : CallerShown). x.known.caller) of_ticket;
           one = ap (λ (x : Opening). x.callers) of_heap;
         };
         ready = record {
@@ -143,24 +143,24 @@ module _ (s : Shape) (heap : HeapShown) (units rest : List UnitShown) (seat : Un
             };
             agrees = agrees;
             running = ap (λ (b : BooksShown). b.halted) books;
-            clean = subst (λ (x : UnitShown). IsTrue (are_clean (units_of e.heap.opening.layout) x.held.clean)) (sym of_seat) clean;
+            clean = subst (λ (x : UnitShown). IsTrue (are_clean (units_of e.heap.opening.layout) x.known.clean)) (sym of_seat) clean;
           };
-          rests = subst (λ (x : UnitShown). IsAtRest x.held.part) (sym u) seat_begins.rests;
-          home = ap (λ (x : UnitShown). x.held.turn) of_seat;
+          rests = subst (λ (x : UnitShown). IsAtRest x.known.part) (sym u) seat_begins.rests;
+          home = ap (λ (x : UnitShown). x.known.turn) of_seat;
         };
         advancer = record {
           table = ap (λ (x : AdvShown). x.table) of_advancer ∙ table;
-          layout = subst (λ (x : AdvShown × Opening). IsOfLayout x.1.layout x.0.held)
+          layout = subst (λ (x : AdvShown × Opening). IsOfLayout x.1.layout x.0.known)
               (λ i. (sym of_advancer i, sym of_heap i)) of_layout;
-          clean = subst (λ (x : AdvShown). IsTrue (are_clean (units_of e.heap.opening.layout) x.held.clean)) (sym of_advancer) clean;
+          clean = subst (λ (x : AdvShown). IsTrue (are_clean (units_of e.heap.opening.layout) x.known.clean)) (sym of_advancer) clean;
         };
       }
 
 -- ---- the end
 module _ (heap : HeapShown) (rest units : List UnitShown) (seat : UnitShown) (advancer : AdvShown) (ticket : CallerShown)
     (others : AreOthers heap rest) (gathered : units ≡ insert rest 0 seat) where
-  pub all_gathered : (tickets : List CallerShown) → tickets ≡ ticket ∷ [] → seat.table ≡ heap.table → seat.held.unit ≡ 0
-      → advancer.table ≡ heap.table → ticket.table ≡ heap.table → ticket.held.caller ≡ 0 → heap.opening.callers ≡ 1
+  pub all_gathered : (tickets : List CallerShown) → tickets ≡ ticket ∷ [] → seat.table ≡ heap.table → seat.known.unit ≡ 0
+      → advancer.table ≡ heap.table → ticket.table ≡ heap.table → ticket.known.caller ≡ 0 → heap.opening.callers ≡ 1
       → AreAllSeats heap units advancer tickets
   all_gathered tickets are of_seat first of_advancer of_caller caller one =
       subst (λ (x : List UnitShown × List CallerShown). AreAllSeats heap x.0 advancer x.1) (λ i. (sym gathered i, sym are i)) (record {
@@ -180,6 +180,6 @@ module _ (heap : HeapShown) (rest units : List UnitShown) (seat : UnitShown) (ad
             subst (IsSeatOfCaller heap 0) is (of_caller, caller)
         callers (suc i) q e = absurd (cc)
 
-  pub home_gathered : seat.held.turn.out ≡ false → AreAtHome units
+  pub home_gathered : seat.known.turn.out ≡ false → AreAtHome units
   home_gathered home = subst AreAtHome (sym gathered)
-      (All-cons (λ (s : UnitShown). s.held.turn.out ≡ false) seat rest home others.home)
+      (All-cons (λ (s : UnitShown). s.known.turn.out ≡ false) seat rest home others.home)

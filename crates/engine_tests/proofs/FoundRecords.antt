@@ -65,7 +65,7 @@ slot_counted (q ∷ rs) r c =
 -- ---- the records of a region
 -- those of the slots below one
 pub record AreRecordsBelow (r : RegionShown) (slot : ℕ) (found : List Held) : Type 0 where
-  pub each : (q : Held) → Contains found q ↔ (Contains r.seat.held.part.records q × (q.slot < slot))
+  pub each : (q : Held) → Contains found q ↔ (Contains r.seat.known.part.records q × (q.slot < slot))
 
 -- where the slots of a unit begin
 pub first_is : (r : RegionShown) (s : Shape) (unit slots : ℕ) → r.books.layout ≡ s → unit ≡ r.books.unit → slots ≡ s.slots
@@ -74,7 +74,7 @@ first_is r s unit slots same of_unit many = let some : r.books.layout.slots ≡ 
 
 module _ (r : RegionShown) (agrees : Agrees r) where
   abbrev records : List Held
-  records = r.seat.held.part.records
+  records = r.seat.known.part.records
 
   found_there : (q : Held) → Contains records q → record_in records q.slot ≡ Some q
   found_there q c =

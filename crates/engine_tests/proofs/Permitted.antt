@@ -21,7 +21,7 @@ use Rattle.core_steps.specs.declared.parts.UnitPart.{UnitPart}
 use Rattle.core_steps.specs.declared.parts.CallerPart.{CallerPart}
 use Rattle.core_steps.specs.declared.parts.UnitStage.{UnitStage}
 use Rattle.core_steps.specs.declared.parts.UnitStage.TheVariants.{Idle, Within}
-use Rattle.core_steps.specs.Answering.{IsJudged, CanLeave, CanRead}
+use Rattle.core_steps.specs.CallAnswers.{IsJudged, CanLeave, CanRead}
 use Rattle.core_steps.specs.Announcing.{can_look}
 use Rattle.core_steps.specs.Stages.{epoch_of, is_idle}
 use Rattle.core_answer.specs.Newest.{HaveSameNewest}
@@ -81,11 +81,11 @@ may_put b records change named none serial =
     }
 
 -- ---- an answer
-unfrozen : (e : Engine) → IsRunning e.heap e.region → e.region.seat.held.part.frozen ≡ None
+unfrozen : (e : Engine) → IsRunning e.heap e.region → e.region.seat.known.part.frozen ≡ None
 unfrozen e runs = sym runs.agrees.1.halted_is ∙ runs.running
 
 -- an idle unit may look at the clock
-pub may_look : (e : Engine) → IsIdle e → IsTrue (can_look e.region.seat.held.part)
+pub may_look : (e : Engine) → IsIdle e → IsTrue (can_look e.region.seat.known.part)
 may_look e idle = subst (λ (x : Option ℕ × UnitStage). IsTrue (is_none x.0 && is_idle x.1))
     (λ i. (sym (unfrozen e idle.ready.runs) i, sym idle.ready.rests.stage i)) refl
 
@@ -102,11 +102,11 @@ judged s u p real op reply same j = record {
 
 may_leave :
     (g : Guard) (e : Engine) (s : Shape) (u : ℕ) (p : UnitPart) (q : CallerPart) (op : Op) (reply : Reply) → IsOperating g e
-    → StandsFor (Within g.epoch) e.region p → q.calls ≡ e.pass.ticket.held.part.calls → q.newest ≡ e.pass.ticket.held.part.newest
+    → StandsFor (Within g.epoch) e.region p → q.calls ≡ e.pass.ticket.known.part.calls → q.newest ≡ e.pass.ticket.known.part.newest
     → CanLeave s u p q op reply (epoch_of p.stage)
-    → CanLeave s u e.region.seat.held.part e.pass.ticket.held.part op reply g.epoch
+    → CanLeave s u e.region.seat.known.part e.pass.ticket.known.part op reply g.epoch
 may_leave g e s u p q op reply operates stands calls newest can =
-    let real : UnitPart = e.region.seat.held.part in
+    let real : UnitPart = e.region.seat.known.part in
     let effects : List Effect = (step can.judged.state op).effects in
     let at : epoch_of p.stage ≡ g.epoch = ap epoch_of stands.stage_is in
     let last = can.newest in
@@ -125,14 +125,14 @@ may_leave g e s u p q op reply operates stands calls newest can =
 
 may_read :
     (e : Engine) (s : Shape) (u : ℕ) (p : UnitPart) (q : CallerPart) (op : Op) (reply : Reply) → IsIdle e → StandsFor Idle e.region p
-    → q.calls ≡ e.pass.ticket.held.part.calls → CanRead s u p q op reply
-    → CanRead s u e.region.seat.held.part e.pass.ticket.held.part op reply
+    → q.calls ≡ e.pass.ticket.known.part.calls → CanRead s u p q op reply
+    → CanRead s u e.region.seat.known.part e.pass.ticket.known.part op reply
 may_read e s u p q op reply idle stands calls can =
     let numbers = can.numbers.call in
     record {
       unfrozen = unfrozen e idle.ready.runs;
       stage = idle.ready.rests.stage;
-      judged = judged s u p e.region.seat.held.part op reply stands.newest can.judged;
+      judged = judged s u p e.region.seat.known.part op reply stands.newest can.judged;
       changes = can.changes;
       numbers = record { place = stands.place; call = omega arith };
     }
@@ -146,19 +146,19 @@ on_ok (Err x) f h = tt
 pub leave_permitted :
     (g : Guard) (e : Engine) (s : Shape) (u : ℕ) (p : UnitPart) (q : CallerPart) (op : Op) (reply : Reply)
     → s ≡ e.heap.opening.layout → u ≡ e.region.books.unit → IsOperating g e → StandsFor (Within g.epoch) e.region p
-    → q.calls ≡ e.pass.ticket.held.part.calls → q.newest ≡ e.pass.ticket.held.part.newest → CanLeave s u p q op reply (epoch_of p.stage)
-    → CanLeave e.heap.opening.layout e.region.books.unit e.region.seat.held.part e.pass.ticket.held.part op reply g.epoch
+    → q.calls ≡ e.pass.ticket.known.part.calls → q.newest ≡ e.pass.ticket.known.part.newest → CanLeave s u p q op reply (epoch_of p.stage)
+    → CanLeave e.heap.opening.layout e.region.books.unit e.region.seat.known.part e.pass.ticket.known.part op reply g.epoch
 leave_permitted g e s u p q op reply layout unit operates stands calls newest can =
-    subst (λ (x : Shape × ℕ). CanLeave x.0 x.1 e.region.seat.held.part e.pass.ticket.held.part op reply g.epoch)
+    subst (λ (x : Shape × ℕ). CanLeave x.0 x.1 e.region.seat.known.part e.pass.ticket.known.part op reply g.epoch)
     (λ i. (layout i, unit i)) (may_leave g e s u p q op reply operates stands calls newest can)
 
 pub read_permitted :
     (e : Engine) (s : Shape) (u : ℕ) (p : UnitPart) (q : CallerPart) (op : Op) (reply : Reply)
     → s ≡ e.heap.opening.layout → u ≡ e.region.books.unit → IsIdle e → StandsFor Idle e.region p
-    → q.calls ≡ e.pass.ticket.held.part.calls → CanRead s u p q op reply
-    → CanRead e.heap.opening.layout e.region.books.unit e.region.seat.held.part e.pass.ticket.held.part op reply
+    → q.calls ≡ e.pass.ticket.known.part.calls → CanRead s u p q op reply
+    → CanRead e.heap.opening.layout e.region.books.unit e.region.seat.known.part e.pass.ticket.known.part op reply
 read_permitted e s u p q op reply layout unit idle stands calls can =
-    subst (λ (x : Shape × ℕ). CanRead x.0 x.1 e.region.seat.held.part e.pass.ticket.held.part op reply)
+    subst (λ (x : Shape × ℕ). CanRead x.0 x.1 e.region.seat.known.part e.pass.ticket.known.part op reply)
     (λ i. (layout i, unit i)) (may_read e s u p q op reply idle stands calls can)
 
 -- ---- what was written
@@ -168,14 +168,14 @@ written_back records (w ∷ ws) = ap (λ (l : List Held). w ∷ l) (written_back
 
 pub stands_for :
     (r : RegionShown) (stage : UnitStage) (p : UnitPart) (found : List Held) (written : List Written) → Agrees r → p.stage ≡ stage
-    → p.records ≡ found → HaveSameNewest found r.seat.held.part.records → p.written ≡ map (λ (w : Written). w.held) written
+    → p.records ≡ found → HaveSameNewest found r.seat.known.part.records → p.written ≡ map (λ (w : Written). w.held) written
     → written ≡ r.books.written → r.books.places ≤ LAST → StandsFor stage r p
 stands_for r stage p found written agrees at records newest held are few =
     let places = agrees.1.places_are in
     record {
       stage_is = at;
-      newest = subst (λ (l : List Held). HaveSameNewest l r.seat.held.part.records) (sym records) newest;
+      newest = subst (λ (l : List Held). HaveSameNewest l r.seat.known.part.records) (sym records) newest;
       written = held ∙ (ap (map (λ (w : Written). w.held)) (are ∙ agrees.1.written_are)
-          ∙ written_back r.seat.held.part.records r.seat.held.part.written);
+          ∙ written_back r.seat.known.part.records r.seat.known.part.written);
       place = omega arith;
     }

@@ -10,6 +10,6 @@ use Rattle.slots.specs.Books.{RegionShown}
 -- a number for one more entry.
 pub record StandsFor (stage : UnitStage) (r : RegionShown) (p : UnitPart) : Type 0 where
   pub stage_is : p.stage ≡ stage
-  pub newest : HaveSameNewest p.records r.seat.held.part.records
-  pub written : p.written ≡ r.seat.held.part.written
-  pub place : length r.seat.held.part.history ≤ LAST
+  pub newest : HaveSameNewest p.records r.seat.known.part.records
+  pub written : p.written ≡ r.seat.known.part.written
+  pub place : length r.seat.known.part.history ≤ LAST

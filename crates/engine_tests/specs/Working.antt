@@ -23,19 +23,19 @@ pub record AreOthers (heap : HeapShown) (seats : List UnitShown) : Type 0 where
 -- All seats of the heap are there, and no unit's list is out.
 pub record CanBeStopped (e : Engine) : Type 0 where
   pub of_region : e.region.seat.table ≡ e.heap.table
-  pub first : e.region.seat.held.unit ≡ 0
-  pub home : e.region.seat.held.turn.out ≡ false
+  pub first : e.region.seat.known.unit ≡ 0
+  pub home : e.region.seat.known.turn.out ≡ false
   pub others : AreOthers e.heap e.others.items
   pub of_advancer : e.advancer.table ≡ e.heap.table
   pub of_caller : e.pass.ticket.table ≡ e.heap.table
-  pub caller : e.pass.ticket.held.caller ≡ 0
+  pub caller : e.pass.ticket.known.caller ≡ 0
   pub one : e.heap.opening.callers ≡ 1
 
 -- an advancer of the heap, which knows every unit to be clean
 pub record IsAdvancerOf (heap : HeapShown) (a : AdvShown) : Type 0 where
   pub table : a.table ≡ heap.table
-  pub layout : IsOfLayout heap.opening.layout a.held
-  pub clean : IsTrue (are_clean (units_of heap.opening.layout) a.held.clean)
+  pub layout : IsOfLayout heap.opening.layout a.known
+  pub clean : IsTrue (are_clean (units_of heap.opening.layout) a.known.clean)
 
 -- no operation is under way
 pub record IsIdle (e : Engine) : Type 0 where
@@ -47,6 +47,6 @@ pub record IsIdle (e : Engine) : Type 0 where
 pub record IsOperating (g : Guard) (e : Engine) : Type 0 where
   pub stops : CanBeStopped e
   pub under_way : IsUnderWay e.heap g e.region
-  pub by : g.by ≡ e.pass.ticket.held.caller
+  pub by : g.by ≡ e.pass.ticket.known.caller
   pub spare : 1 ≤ spare_of e.pass.receipts
   pub advancer : IsAdvancerOf e.heap e.advancer

@@ -15,7 +15,7 @@ pub(crate) fn records_of(
 ) -> Result<Vec<Held>, AllocError>
     requires agrees { Agrees region.now }
     requires layout { region.now.books.layout ≡ layout }
-    ensures { IfOk result (λ v. HaveSameNewest v.items region.now.seat.held.part.records) }
+    ensures { IfOk result (λ v. HaveSameNewest v.items region.now.seat.known.part.records) }
 {
     let first = region.unit() * layout.slots();
     let mut records = Vec::new(alloc);

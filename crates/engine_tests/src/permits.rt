@@ -2,7 +2,7 @@
 // proofs alone.
 ghost use Rattle.std.specs.Prelude.{◌≡◌, ◌≤◌, false, map, IfOk, IsTrue, OnOk};
 ghost use Rattle.mont_base.specs.declared.constants.TheConstants.{LAST};
-ghost use Rattle.core_steps.specs.Answering.{CanLeave, CanRead};
+ghost use Rattle.core_steps.specs.CallAnswers.{CanLeave, CanRead};
 ghost use Rattle.slots.specs.declared.books.Written as one_written;
 ghost use Rattle.slots.specs.Books.{Agrees};
 ghost use Rattle.slots.specs.Changes.{CanPut, IsLiveAt, NamesLive, is_insert, serial_in};
@@ -30,7 +30,7 @@ pub(crate) fn permit_change(
 ) -> Result<(), Fail>
     requires agrees { Agrees region.now }
     requires layout { region.now.books.layout ≡ layout }
-    ensures { OnOk result (CanPut region.now.books region.now.seat.held.part.records change.now) }
+    ensures { OnOk result (CanPut region.now.books region.now.seat.known.part.records change.now) }
 {
     let records = records_of(alloc, layout, region)?;
     if !names_live(&records, change) || ends_serial(change) {
@@ -82,7 +82,7 @@ pub(crate) fn permit_leave(
 ) -> Result<(), Fail>
     requires { IsOperating guard.now engine.now }
     ensures { OnOk result (CanLeave engine.now.heap.opening.layout engine.now.region.books.unit
-        engine.now.region.seat.held.part engine.now.pass.ticket.held.part
+        engine.now.region.seat.known.part engine.now.pass.ticket.known.part
         op.now reply.now guard.now.epoch) }
 {
     let layout = engine.heap.layout();
@@ -102,7 +102,7 @@ pub(crate) fn permit_read(
 ) -> Result<(), Fail>
     requires { IsIdle engine.now }
     ensures { OnOk result (CanRead engine.now.heap.opening.layout engine.now.region.books.unit
-        engine.now.region.seat.held.part engine.now.pass.ticket.held.part op.now reply.now) }
+        engine.now.region.seat.known.part engine.now.pass.ticket.known.part op.now reply.now) }
 {
     let layout = engine.heap.layout();
     let part = part_of(alloc, layout, &engine.region, UnitStage::Idle)?;
@@ -164,8 +164,8 @@ fn held_of(alloc: Global, written: &[Written]) -> Result<Vec<Held>, AllocError>
 
 // A caller with the calls and the newest epoch of the ticket.
 fn caller_of(alloc: Global, ticket: &Ticket) -> CallerPart
-    ensures calls { result.calls ≡ ticket.now.held.part.calls }
-    ensures newest { result.newest ≡ ticket.now.held.part.newest }
+    ensures calls { result.calls ≡ ticket.now.known.part.calls }
+    ensures newest { result.newest ≡ ticket.now.known.part.newest }
 {
     CallerPart {
         calls: ticket.calls(),

@@ -10,10 +10,10 @@ use Rattle.core_steps.specs.Opened.{slots_beyond}
 use Rattle.core_steps.specs.Stages.{is_empty}
 use Rattle.mont_laws.specs.Records.{without_slot}
 use Rattle.heap_rule.specs.declared.rule.Opening.{Opening}
-use Rattle.heap_rule.specs.declared.views.UnitHeld.{UnitHeld}
+use Rattle.heap_rule.specs.declared.views.UnitKnown.{UnitKnown}
 use Rattle.heap_rule.specs.Views.{first_unit, clean_at, is_among, unit_closed, unit_persisted}
 use Rattle.heap.specs.HeapShown.{HeapShown, UnitShown}
-use Rattle.slots.specs.Beginning.{BeginsWith, first_books, greatest, identities_in, serial_at_first}
+use Rattle.slots.specs.RegionBeginning.{BeginsWith, first_books, greatest, identities_in, serial_at_first}
 use Rattle.slots.specs.Books.{RegionShown, BooksShown, Agrees, AreBooks}
 use Rattle.slots.specs.Sweeping.{MaySweep, IsSweepStage, IsSweeping, WasCutSweeping, sweeping_at, swept_from, swept}
 use Rattle.found_regions.proofs.LostSlots.{records_same}
@@ -33,10 +33,10 @@ begins heap u = record {
 }
 
 pub begins_found : (heap : HeapShown) (u : ℕ) (seat : UnitShown) (records : List Held) (lost : List ℕ)
-    → seat ≡ record { table = heap.table; held = first_unit heap.opening u } → records ≡ records_found heap u
-    → lost ≡ slots_beyond heap.opening.layout heap.opening.words u → BeginsWith seat.held.part records lost
+    → seat ≡ record { table = heap.table; known = first_unit heap.opening u } → records ≡ records_found heap u
+    → lost ≡ slots_beyond heap.opening.layout heap.opening.words u → BeginsWith seat.known.part records lost
 begins_found heap u seat records lost is records_are lost_are =
-    subst (λ (x : UnitShown × List Held × List ℕ). BeginsWith x.0.held.part x.1 x.2)
+    subst (λ (x : UnitShown × List Held × List ℕ). BeginsWith x.0.known.part x.1 x.2)
     (λ i. (sym is i, sym records_are i, sym lost_are i)) (begins heap u)
 
 -- a unit without a slot beyond the cut is clean from the first
@@ -47,50 +47,50 @@ clean_found o u low none =
     (ap is_empty none)
 
 pub region_found : (heap : HeapShown) (u : ℕ) (seat : UnitShown) (records : List Held) (lost : List ℕ) (r : RegionShown)
-    → u < units_of heap.opening.layout → seat ≡ record { table = heap.table; held = first_unit heap.opening u }
+    → u < units_of heap.opening.layout → seat ≡ record { table = heap.table; known = first_unit heap.opening u }
     → records ≡ records_found heap u → lost ≡ slots_beyond heap.opening.layout heap.opening.words u → Agrees r → r.seat ≡ seat
     → r.books ≡ first_books heap.opening.layout u records lost → IsRegionFound heap u r
 region_found heap u seat records lost r low is records_are lost_are agrees shows books =
-    let held_is : r.seat.held ≡ first_unit heap.opening u = ap (λ (x : UnitShown). x.held) (shows ∙ is) in
+    let held_is : r.seat.known ≡ first_unit heap.opening u = ap (λ (x : UnitShown). x.known) (shows ∙ is) in
     record {
       of_heap = record {
         table = ap (λ (x : UnitShown). x.table) (shows ∙ is);
         layout = ap (λ (b : BooksShown). b.layout) books;
       };
-      of_unit = ap (λ (h : UnitHeld). h.unit) held_is;
+      of_unit = ap (λ (h : UnitKnown). h.unit) held_is;
       agrees = agrees;
       running = ap (λ (b : BooksShown). b.halted) books;
-      sweeps = subst (λ (b : Bool). IsSweepStage b r.seat.held.part) (sym (ap (λ (b : BooksShown). b.sweeping) books))
-          (ap (λ (h : UnitHeld). h.part.stage) held_is);
-      records = ap (λ (h : UnitHeld). h.part.records) held_is;
-      history = ap (λ (h : UnitHeld). h.part.history) held_is;
-      written = ap (λ (h : UnitHeld). h.part.written) held_is;
-      writing = ap (λ (h : UnitHeld). h.part.writing) held_is;
-      home = ap (λ (h : UnitHeld). h.turn) held_is;
+      sweeps = subst (λ (b : Bool). IsSweepStage b r.seat.known.part) (sym (ap (λ (b : BooksShown). b.sweeping) books))
+          (ap (λ (h : UnitKnown). h.part.stage) held_is);
+      records = ap (λ (h : UnitKnown). h.part.records) held_is;
+      history = ap (λ (h : UnitKnown). h.part.history) held_is;
+      written = ap (λ (h : UnitKnown). h.part.written) held_is;
+      writing = ap (λ (h : UnitKnown). h.part.writing) held_is;
+      home = ap (λ (h : UnitKnown). h.turn) held_is;
       identity = ap (λ (b : BooksShown). b.identity) books ∙ ap (λ (rs : List Held). greatest (identities_in rs) + 1) records_are;
       serial = ap (λ (b : BooksShown). b.serial) books ∙ ap (serial_at_first heap.opening.layout u) records_are;
-      clean = λ none. subst (λ (h : UnitHeld). is_among h.clean u ≡ true) (sym held_is)
+      clean = λ none. subst (λ (h : UnitKnown). is_among h.clean u ≡ true) (sym held_is)
           (clean_found heap.opening u low (sym lost_are ∙ (sym (ap (λ (b : BooksShown). b.lost) books) ∙ none)));
     }
 
 -- ---- a unit that is swept
 module _ (heap : HeapShown) (u : ℕ) (r : RegionShown) (k : IsRegionFound heap u r) where
   records_stay : (slot : ℕ) (rest : List ℕ) → r.books.lost ≡ slot ∷ rest
-      → without_slot slot r.seat.held.part.records ≡ r.seat.held.part.records
+      → without_slot slot r.seat.known.part.records ≡ r.seat.known.part.records
   records_stay slot rest lost =
-      let p = r.seat.held.part in
+      let p = r.seat.known.part in
       records_same p.records p.retired slot rest p.written p.history p.frozen r.books
       (subst (λ (l : List ℕ). AreBooks p.records p.retired l p.written p.history p.frozen r.books) (sym k.agrees.1.lost_are ∙ lost)
       k.agrees.1)
 
   -- what a sweep leaves as it was
-  record IsKeptUnit (held : UnitHeld) : Type 0 where
-    unit : held.unit ≡ r.seat.held.unit
-    records : held.part.records ≡ r.seat.held.part.records
-    history : held.part.history ≡ r.seat.held.part.history
-    written : held.part.written ≡ r.seat.held.part.written
-    writing : held.part.writing ≡ r.seat.held.part.writing
-    turn : held.turn ≡ r.seat.held.turn
+  record IsKeptUnit (held : UnitKnown) : Type 0 where
+    unit : held.unit ≡ r.seat.known.unit
+    records : held.part.records ≡ r.seat.known.part.records
+    history : held.part.history ≡ r.seat.known.part.history
+    written : held.part.written ≡ r.seat.known.part.written
+    writing : held.part.writing ≡ r.seat.known.part.writing
+    turn : held.turn ≡ r.seat.known.turn
 
   record IsKeptBooks (books : BooksShown) : Type 0 where
     layout : books.layout ≡ r.books.layout
@@ -98,8 +98,8 @@ module _ (heap : HeapShown) (u : ℕ) (r : RegionShown) (k : IsRegionFound heap 
     identity : books.identity ≡ r.books.identity
     serial : books.serial ≡ r.books.serial
 
-  found_still : (held : UnitHeld) (books : BooksShown) → IsKeptUnit held → IsKeptBooks books
-      → (let now : RegionShown = record { seat = record r.seat { held = held }; books = books } in
+  found_still : (held : UnitKnown) (books : BooksShown) → IsKeptUnit held → IsKeptBooks books
+      → (let now : RegionShown = record { seat = record r.seat { known = held }; books = books } in
       Agrees now → MaySweep now → (books.lost ≡ [] → is_among held.clean u ≡ true) → IsRegionFound heap u now)
   found_still held books h b agrees may clean = record {
     of_heap = record { table = k.of_heap.table; layout = b.layout ∙ k.of_heap.layout };
@@ -118,8 +118,8 @@ module _ (heap : HeapShown) (u : ℕ) (r : RegionShown) (k : IsRegionFound heap 
   }
 
   -- its label is closed, or was before
-  abbrev closed_of : Bool → ℕ → UnitHeld
-  closed_of b slot = if b then r.seat.held else unit_closed r.seat.held slot
+  abbrev closed_of : Bool → ℕ → UnitKnown
+  closed_of b slot = if b then r.seat.known else unit_closed r.seat.known slot
 
   kept_closed : (b : Bool) (slot : ℕ) → IsKeptUnit (closed_of b slot)
   kept_closed true slot = record { unit = refl; records = refl; history = refl; written = refl; writing = refl; turn = refl }
@@ -137,7 +137,7 @@ module _ (heap : HeapShown) (u : ℕ) (r : RegionShown) (k : IsRegionFound heap 
     turn = h.turn;
   }
 
-  clean_persisted : (held : UnitHeld) (slot : ℕ) → held.unit ≡ u → without_lost slot held.part.lost ≡ []
+  clean_persisted : (held : UnitKnown) (slot : ℕ) → held.unit ≡ u → without_lost slot held.part.lost ≡ []
       → is_among (unit_persisted held slot).clean u ≡ true
   clean_persisted held slot unit none =
       ap (λ (l : List ℕ). is_among (if is_empty l then held.unit ∷ held.clean else held.clean) u) none

@@ -17,41 +17,42 @@ module _ (heap : HeapShown) (o : Opening) where
   units_count : (n : ℕ) → length (dealt_units heap.table o n) ≡ n
   units_count zero = refl
   units_count (suc n) =
-      let more = length-append (dealt_units heap.table o n) (record { table = heap.table; held = first_unit o n } ∷ []) in
+      let more = length-append (dealt_units heap.table o n) (record { table = heap.table; known = first_unit o n } ∷ []) in
       let before = units_count n in omega (arith, more, before)
 
   callers_count : (n : ℕ) → length (dealt_callers heap.table o n) ≡ n
   callers_count zero = refl
   callers_count (suc n) =
-      let more = length-append (dealt_callers heap.table o n) (record { table = heap.table; held = first_caller o n } ∷ []) in
+      let more = length-append (dealt_callers heap.table o n) (record { table = heap.table; known = first_caller o n } ∷ []) in
       let before = callers_count n in omega (arith, more, before)
 
-  units_dealt : (n : ℕ) → EachAt (λ (u : ℕ) (s : UnitShown). IsSeatOfUnit heap u s × (s.held.turn.out ≡ false)) (dealt_units heap.table o n)
+  units_dealt : (n : ℕ) → EachAt (λ (u : ℕ) (s : UnitShown). IsSeatOfUnit heap u s × (s.known.turn.out ≡ false))
+      (dealt_units heap.table o n)
   units_dealt zero u s e = absurd (cc)
   units_dealt (suc n) u s e = ⊎_elim (λ t. units_dealt n u s t)
-      (λ (t : (u ≡ length (dealt_units heap.table o n)) × (record { table = heap.table; held = first_unit o n } ≡ s)).
-      subst (λ (x : ℕ × UnitShown). IsSeatOfUnit heap x.0 x.1 × (x.1.held.turn.out ≡ false))
+      (λ (t : (u ≡ length (dealt_units heap.table o n)) × (record { table = heap.table; known = first_unit o n } ≡ s)).
+      subst (λ (x : ℕ × UnitShown). IsSeatOfUnit heap x.0 x.1 × (x.1.known.turn.out ≡ false))
       (λ i. (sym (t.0 ∙ units_count n) i, t.1 i)) ((refl, refl), refl))
-      (row_push (dealt_units heap.table o n) u (record { table = heap.table; held = first_unit o n }) s e)
+      (row_push (dealt_units heap.table o n) u (record { table = heap.table; known = first_unit o n }) s e)
 
   callers_dealt : (n : ℕ) → EachAt (IsSeatOfCaller heap) (dealt_callers heap.table o n)
   callers_dealt zero k s e = absurd (cc)
   callers_dealt (suc n) k s e = ⊎_elim (λ t. callers_dealt n k s t)
-      (λ (t : (k ≡ length (dealt_callers heap.table o n)) × (record { table = heap.table; held = first_caller o n } ≡ s)).
+      (λ (t : (k ≡ length (dealt_callers heap.table o n)) × (record { table = heap.table; known = first_caller o n } ≡ s)).
       subst (λ (x : ℕ × CallerShown). IsSeatOfCaller heap x.0 x.1) (λ i. (sym (t.0 ∙ callers_count n) i, t.1 i)) (refl, refl))
-      (row_push (dealt_callers heap.table o n) k (record { table = heap.table; held = first_caller o n }) s e)
+      (row_push (dealt_callers heap.table o n) k (record { table = heap.table; known = first_caller o n }) s e)
 
 -- each of the units dealt so far is the first of its number
 pub each_dealt : (table : TableId) (o : Opening) (n : ℕ)
-    → EachAt (λ (u : ℕ) (s : UnitShown). (u < n) × (s ≡ record { table = table; held = first_unit o u })) (dealt_units table o n)
+    → EachAt (λ (u : ℕ) (s : UnitShown). (u < n) × (s ≡ record { table = table; known = first_unit o u })) (dealt_units table o n)
 each_dealt table o zero u s e = absurd (cc)
 each_dealt table o (suc n) u s e =
     let heap : HeapShown = record { table = table; opening = o } in
     ⊎_elim (λ t. let k = each_dealt table o n u s t in (let low = k.0 in omega arith, k.1))
-    (λ (t : (u ≡ length (dealt_units table o n)) × (record { table = table; held = first_unit o n } ≡ s)).
+    (λ (t : (u ≡ length (dealt_units table o n)) × (record { table = table; known = first_unit o n } ≡ s)).
     let same : u ≡ n = t.0 ∙ units_count heap o n in
-    (omega (arith, same), sym t.1 ∙ (λ i. record { table = table; held = first_unit o (sym same i) })))
-    (row_push (dealt_units table o n) u (record { table = table; held = first_unit o n }) s e)
+    (omega (arith, same), sym t.1 ∙ (λ i. record { table = table; known = first_unit o (sym same i) })))
+    (row_push (dealt_units table o n) u (record { table = table; known = first_unit o n }) s e)
 
 module _ (o : Opening) (heap : HeapShown) (units : List UnitShown) (advancer : AdvShown) (callers : List CallerShown)
     (opens : Opens o heap units advancer callers) where
@@ -67,7 +68,7 @@ module _ (o : Opening) (heap : HeapShown) (units : List UnitShown) (advancer : A
 
   pub opened_at_home : AreAtHome units
   opened_at_home = subst AreAtHome (sym opens.each_unit)
-      (all_at (λ (s : UnitShown). s.held.turn.out ≡ false) (dealt_units heap.table o (units_of o.layout))
+      (all_at (λ (s : UnitShown). s.known.turn.out ≡ false) (dealt_units heap.table o (units_of o.layout))
       (λ u s e. (units_dealt heap o (units_of o.layout) u s e).1))
 
 -- ---- a seat that made steps

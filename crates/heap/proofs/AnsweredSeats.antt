@@ -6,8 +6,8 @@ use Rattle.mont_base.specs.declared.operation.Entry.{Entry}
 use Rattle.core_steps.specs.Announcing.{can_tell}
 use Rattle.core_steps.specs.Notes.{last_epoch}
 use Rattle.core_steps.specs.Stages.{epoch_of}
-use Rattle.heap_rule.specs.declared.views.CallerHeld.{CallerHeld}
-use Rattle.heap_rule.specs.declared.views.UnitHeld.{UnitHeld}
+use Rattle.heap_rule.specs.declared.views.CallerKnown.{CallerKnown}
+use Rattle.heap_rule.specs.declared.views.UnitKnown.{UnitKnown}
 use Rattle.heap_rule.specs.declared.views.UnitTurn.{UnitTurn}
 use Rattle.heap_rule.specs.Views.{Seated, list_place, unit_view, caller_view, the_unit, the_caller, unit_out, unit_told, unit_left, unit_read, unit_frozen, caller_answered, caller_cut}
 use Rattle.heap.proofs.SeatTables.{tell_rests, tell_first, tell_last}
@@ -19,8 +19,8 @@ last_of_push (d ∷ []) e = refl
 last_of_push (d ∷ c ∷ cs) e = last_of_push (c ∷ cs) e
 
 module _ (t : TableId) (unit epoch entries newest durable : ℕ) (m : Seated) (k : IsUnit t unit epoch entries newest durable m) where
-  abbrev held : UnitHeld
-  held = the_unit m.0
+  abbrev held : UnitKnown
+  known = the_unit m.0
 
   -- an epoch was announced
   pub told_keeps : (r : TableId) (n : Seated) (e : ℕ) → r ≡ t → can_tell held.part e ≡ true → n ≡ (unit_view (unit_told held e), m.1)
@@ -102,10 +102,10 @@ module _ (t : TableId) (unit epoch entries newest durable : ℕ) (m : Seated) (k
 
 module _ (t : TableId) (number : ℕ) (counts : Counts) (fronts synced : List ℕ) (m : Seated)
     (k : IsCaller t number counts fronts synced m) where
-  abbrev asker : CallerHeld
+  abbrev asker : CallerKnown
   asker = the_caller m.0
 
-  pub answered_keeps : (r : TableId) (n : Seated) (h : UnitHeld) (unit place : ℕ) (e : Entry) → r ≡ t → unit ≡ h.unit
+  pub answered_keeps : (r : TableId) (n : Seated) (h : UnitKnown) (unit place : ℕ) (e : Entry) → r ≡ t → unit ≡ h.unit
       → place ≡ length h.part.history → n ≡ (caller_view (caller_answered asker h e), [])
       → IsCaller r number (record { calls = counts.calls + 1; newest = e.epoch; durable = counts.durable }) (set fronts unit
       (place + 1)) synced n
@@ -126,7 +126,7 @@ module _ (t : TableId) (number : ℕ) (counts : Counts) (fronts synced : List �
         slots = k.slots ∙ sym (ap (λ (x : ℕ). 2 * x) (length-set fronts unit (place + 1)));
       })
 
-  pub cut_keeps : (r : TableId) (n : Seated) (h : UnitHeld) → r ≡ t → n ≡ (caller_view (caller_cut asker h), [])
+  pub cut_keeps : (r : TableId) (n : Seated) (h : UnitKnown) → r ≡ t → n ≡ (caller_view (caller_cut asker h), [])
       → IsCaller r number counts fronts synced n
   cut_keeps r n h same is = subst (λ (z : TableId × Seated). IsCaller z.0 number counts fronts synced z.1) (λ j.
       (sym same j, sym is j))

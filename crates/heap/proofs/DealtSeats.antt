@@ -8,8 +8,8 @@ use Rattle.mont_base.specs.Image.{clock_of}
 use Rattle.mont_base.specs.Layout.{units_of, IsLayout}
 use Rattle.core_steps.specs.declared.parts.AdvPart.TheVariants.{Rest}
 use Rattle.heap_rule.specs.declared.rule.Opening.{Opening}
-use Rattle.heap_rule.specs.declared.views.UnitHeld.{UnitHeld}
-use Rattle.heap_rule.specs.declared.views.CallerHeld.{CallerHeld}
+use Rattle.heap_rule.specs.declared.views.UnitKnown.{UnitKnown}
+use Rattle.heap_rule.specs.declared.views.CallerKnown.{CallerKnown}
 use Rattle.heap_rule.specs.declared.views.View.{View}
 use Rattle.heap_rule.specs.Rule.{Each, ShowsCore}
 use Rattle.heap_rule.specs.Views.{Seated, unit_view, advancer_view, caller_view, the_unit, the_caller, first_unit, first_advancer, first_caller, units_from, callers_from, view_without, without_first_unit, only_first_unit, without_first_caller, only_first_caller}
@@ -18,11 +18,11 @@ use Rattle.heap.specs.HeapShown.{UnitShown, CallerShown, IsUnit, IsAdvancer, IsC
 use Rattle.heap.specs.Opens.{dealt_units, dealt_callers}
 
 -- ---- the parts that are left have other numbers
-units_apart : (o : Opening) (i j n : ℕ) → i < j → Each (λ (h : UnitHeld). h.unit ≢ i) (units_from o j n)
+units_apart : (o : Opening) (i j n : ℕ) → i < j → Each (λ (h : UnitKnown). h.unit ≢ i) (units_from o j n)
 units_apart o i j zero l = tt
 units_apart o i j (suc n) l = ((λ e. omega arith), units_apart o i (j + 1) n (omega arith))
 
-callers_apart : (o : Opening) (i j n : ℕ) → i < j → Each (λ (q : CallerHeld). q.caller ≢ i) (callers_from o j n)
+callers_apart : (o : Opening) (i j n : ℕ) → i < j → Each (λ (q : CallerKnown). q.caller ≢ i) (callers_from o j n)
 callers_apart o i j zero l = tt
 callers_apart o i j (suc n) l = ((λ e. omega arith), callers_apart o i (j + 1) n (omega arith))
 
@@ -32,19 +32,19 @@ units_more o n i l = let e : n - i ≡ suc (n - (i + 1)) = omega arith in ap (un
 callers_more : (o : Opening) (n i : ℕ) → i < n → callers_from o i (n - i) ≡ first_caller o i ∷ callers_from o (i + 1) (n - (i + 1))
 callers_more o n i l = let e : n - i ≡ suc (n - (i + 1)) = omega arith in ap (callers_from o i) e
 
-abbrev with_parts : Opening → List UnitHeld → List CallerHeld → View
+abbrev with_parts : Opening → List UnitKnown → List CallerKnown → View
 with_parts o hs qs = record { units = hs; advancers = first_advancer o ∷ []; callers = qs; notes = [] }
 
 -- ---- units
 module _ (o : Opening) (i k : ℕ) (low : i < units_of o.layout) where
-  abbrev units_behind : List UnitHeld
+  abbrev units_behind : List UnitKnown
   units_behind = units_from o (i + 1) (units_of o.layout - (i + 1))
 
-  abbrev callers_left : List CallerHeld
+  abbrev callers_left : List CallerKnown
   callers_left = callers_from o k (o.callers - k)
 
   next_unit : view_without o i k ≡ with_parts o (first_unit o i ∷ units_behind) callers_left
-  next_unit = ap (λ (hs : List UnitHeld). with_parts o hs callers_left) (units_more o (units_of o.layout) i low)
+  next_unit = ap (λ (hs : List UnitKnown). with_parts o hs callers_left) (units_more o (units_of o.layout) i low)
 
   pub deals_unit : (key : Opening) (seat : ℕ) (m : Seated) → key ≡ o → m ≡ (view_without o i k, [])
       → Splits (ShowsCore key) seat m.0 (without_first_unit m.0) (only_first_unit m.0)
@@ -78,18 +78,18 @@ first_unit_is o u table me is inside small = subst (IsUnit table u 0 0 0 0) (sym
 })
 
 pub units_dealt : (t z : TableId) (o : Opening) (n : ℕ) (old new : List UnitShown) (me : Seated) → old ≡ dealt_units t o n
-    → new ≡ old ++ record { table = z; held = the_unit me.0 } ∷ [] → z ≡ t → me ≡ (unit_view (first_unit o n), [])
+    → new ≡ old ++ record { table = z; known = the_unit me.0 } ∷ [] → z ≡ t → me ≡ (unit_view (first_unit o n), [])
     → new ≡ dealt_units t o (n + 1)
 units_dealt t z o n old new me was push same is =
     let more : n + 1 ≡ suc n = omega arith in
-    push ∙ (λ j. was j ++ record { table = same j; held = the_unit (is j).0 } ∷ []) ∙ sym (ap (dealt_units t o) more)
+    push ∙ (λ j. was j ++ record { table = same j; known = the_unit (is j).0 } ∷ []) ∙ sym (ap (dealt_units t o) more)
 
 -- ---- callers
 module _ (o : Opening) (i k : ℕ) (low : k < o.callers) where
-  abbrev callers_behind : List CallerHeld
+  abbrev callers_behind : List CallerKnown
   callers_behind = callers_from o (k + 1) (o.callers - (k + 1))
 
-  abbrev units_kept : List UnitHeld
+  abbrev units_kept : List UnitKnown
   units_kept = units_from o i (units_of o.layout - i)
 
   next_caller : view_without o i k ≡ with_parts o units_kept (first_caller o k ∷ callers_behind)
@@ -133,11 +133,11 @@ first_caller_is o k table fronts synced me is zero_fronts zero_synced slots =
     })
 
 pub callers_dealt : (t z : TableId) (o : Opening) (n : ℕ) (old new : List CallerShown) (me : Seated) → old ≡ dealt_callers t o n
-    → new ≡ old ++ record { table = z; held = the_caller me.0 } ∷ [] → z ≡ t → me ≡ (caller_view (first_caller o n), [])
+    → new ≡ old ++ record { table = z; known = the_caller me.0 } ∷ [] → z ≡ t → me ≡ (caller_view (first_caller o n), [])
     → new ≡ dealt_callers t o (n + 1)
 callers_dealt t z o n old new me was push same is =
     let more : n + 1 ≡ suc n = omega arith in
-    push ∙ (λ j. was j ++ record { table = same j; held = the_caller (is j).0 } ∷ []) ∙ sym (ap (dealt_callers t o) more)
+    push ∙ (λ j. was j ++ record { table = same j; known = the_caller (is j).0 } ∷ []) ∙ sym (ap (dealt_callers t o) more)
 
 -- ---- the advancer, whose seat is what is left
 all_dealt : (o : Opening) → view_without o (units_of o.layout) o.callers ≡ advancer_view (first_advancer o)

@@ -3,10 +3,10 @@ use Rattle.std.proofs.Common.{◌≡◌, ℕ, suc, ◌*◌, ◌<◌, ◌≤◌, 
 use Rattle.std.specs.Prelude.{max}
 use Rattle.atomic_table.specs.Seated.{TableId}
 use Rattle.core_steps.specs.Notes.{greater_fronts, last_epoch}
-use Rattle.heap_rule.specs.declared.views.AdvHeld.{AdvHeld}
-use Rattle.heap_rule.specs.declared.views.CallerHeld.{CallerHeld}
-use Rattle.heap_rule.specs.declared.views.NoteHeld.{NoteHeld}
-use Rattle.heap_rule.specs.declared.views.UnitHeld.{UnitHeld}
+use Rattle.heap_rule.specs.declared.views.AdvKnown.{AdvKnown}
+use Rattle.heap_rule.specs.declared.views.CallerKnown.{CallerKnown}
+use Rattle.heap_rule.specs.declared.views.NoteKnown.{NoteKnown}
+use Rattle.heap_rule.specs.declared.views.UnitKnown.{UnitKnown}
 use Rattle.heap_rule.specs.Views.{Seated, caller_view, the_caller, note_of_unit, note_of_advancer, caller_heard}
 use Rattle.heap_rule.specs.Plays.{IsNotBeyond}
 use Rattle.heap_rule.proofs.HearPlays.{greater_none, greater_one}
@@ -19,10 +19,10 @@ length-greater (n ∷ ns) (m ∷ ms) = ap suc (length-greater ns ms)
 
 module _ (t : TableId) (number : ℕ) (counts : Counts) (fronts synced : List ℕ) (m : Seated)
     (k : IsCaller t number counts fronts synced m) where
-  abbrev hearer : CallerHeld
+  abbrev hearer : CallerKnown
   hearer = the_caller m.0
 
-  pub heard_keeps : (r : TableId) (n : Seated) (note : NoteHeld) (more : List ℕ) (newest durable : ℕ) → r ≡ t
+  pub heard_keeps : (r : TableId) (n : Seated) (note : NoteKnown) (more : List ℕ) (newest durable : ℕ) → r ≡ t
       → more ≡ greater_fronts fronts note.note.fronts → newest ≡ max counts.newest note.note.newest
       → durable ≡ max counts.durable note.note.durable → n ≡ (caller_view (caller_heard hearer note), [])
       → IsCaller r number (record { calls = counts.calls; newest = newest; durable = durable }) more synced n
@@ -44,7 +44,7 @@ module _ (t : TableId) (number : ℕ) (counts : Counts) (fronts synced : List �
       })
 
   -- of a unit
-  pub unit_heard : (r : TableId) (n : Seated) (h : UnitHeld) (unit entries newest durable : ℕ) (more : List ℕ) (now later : ℕ) → r ≡ t
+  pub unit_heard : (r : TableId) (n : Seated) (h : UnitKnown) (unit entries newest durable : ℕ) (more : List ℕ) (now later : ℕ) → r ≡ t
       → unit ≡ h.unit → unit < length fronts → entries ≡ length h.part.history → newest ≡ last_epoch h.part.history
       → durable ≡ h.part.durable → IsNotBeyond hearer h
       → n ≡ (caller_view (caller_heard hearer (note_of_unit (length hearer.part.fronts) h)), [])
@@ -61,7 +61,7 @@ module _ (t : TableId) (number : ℕ) (counts : Counts) (fronts synced : List �
       (now_is ∙ ap (max counts.newest) newest_is) (later_is ∙ ap (max counts.durable) durable_is) is
 
   -- and of the advancer
-  pub advancer_heard : (r : TableId) (n : Seated) (a : AdvHeld) (durable later : ℕ) → r ≡ t → durable ≡ a.durable
+  pub advancer_heard : (r : TableId) (n : Seated) (a : AdvKnown) (durable later : ℕ) → r ≡ t → durable ≡ a.durable
       → n ≡ (caller_view (caller_heard hearer (note_of_advancer (length hearer.part.fronts) a)), [])
       → later ≡ max counts.durable durable
       → IsCaller r number (record { calls = counts.calls; newest = counts.newest; durable = later }) fronts synced n

@@ -15,9 +15,9 @@ use Rattle.core_steps.specs.Announcing.{can_tell, can_confirm}
 use Rattle.core_steps.specs.Closing.{CanClose, CanPersistClose}
 use Rattle.core_steps.specs.Advancing.{unit_at_hand}
 use Rattle.core_steps.proofs.Decisions.{both, le_true}
-use Rattle.heap_rule.specs.declared.views.AdvHeld.{AdvHeld}
-use Rattle.heap_rule.specs.declared.views.CallerHeld.{CallerHeld}
-use Rattle.heap_rule.specs.declared.views.UnitHeld.{UnitHeld}
+use Rattle.heap_rule.specs.declared.views.AdvKnown.{AdvKnown}
+use Rattle.heap_rule.specs.declared.views.CallerKnown.{CallerKnown}
+use Rattle.heap_rule.specs.declared.views.UnitKnown.{UnitKnown}
 use Rattle.heap_rule.specs.declared.views.View.{View}
 use Rattle.heap_rule.specs.Views.{Cell, Seated, home_turn, listing, list_place, listed_in, list_at, unit_view, advancer_view, the_unit, the_advancer, unit_took, advancer_took, slot_at_hand, field_at_hand, odd_announcement, caller_view, pair_view, with_callers}
 use Rattle.heap_rule.specs.TableWords.{announcement_place, durable_place, word_count}
@@ -37,9 +37,9 @@ pub word_inside : (i : ℕ) (a b : HeapShown) → a ≡ b → i < b.table.words 
 word_inside i a b e l = subst (λ (z : HeapShown). i < z.table.words) (sym e) l
 
 -- the place of a unit's announcement
-pub place_announced : (i : ℕ) (v w : UnitShown) (a b : HeapShown) → v ≡ w → a ≡ b → i ≡ announcement_place b.opening.layout w.held.unit
-    → i ≡ announcement_place a.opening.layout v.held.unit
-place_announced i v w a b p q e = e ∙ (λ j. announcement_place (sym q j).opening.layout (sym p j).held.unit)
+pub place_announced : (i : ℕ) (v w : UnitShown) (a b : HeapShown) → v ≡ w → a ≡ b → i ≡ announcement_place b.opening.layout w.known.unit
+    → i ≡ announcement_place a.opening.layout v.known.unit
+place_announced i v w a b p q e = e ∙ (λ j. announcement_place (sym q j).opening.layout (sym p j).known.unit)
 
 -- ---- what a stage that allows a step rules out
 told_rests : (s : UnitStage) → (is_idle s || is_told s) ≡ true → is_within s ≡ false
@@ -78,7 +78,7 @@ pub persist_close_rests : (p : UnitPart) (slot : ℕ) → CanPersistClose p slot
 persist_close_rests p slot may = ap is_within may.stage
 
 -- a unit that takes its announcement back has its list at home with nothing pushed
-pub withdraw_rests : (h : UnitHeld) → (is_within h.part.stage ≡ false → h.turn ≡ home_turn)
+pub withdraw_rests : (h : UnitKnown) → (is_within h.part.stage ≡ false → h.turn ≡ home_turn)
     → (is_within h.part.stage ≡ true → h.turn ≡ home_turn) → h.turn ≡ home_turn
 withdraw_rests h rests within = by (is_within h.part.stage) refl
   where
@@ -96,32 +96,32 @@ place_durable i word a b q e = e ∙ ap (λ (z : HeapShown). durable_place z.ope
 
 -- ---- the advancer
 pub place_at_hand : (i : ℕ) (v w : AdvShown) (a b : HeapShown) → v ≡ w → a ≡ b
-    → i ≡ announcement_place b.opening.layout (unit_at_hand w.held.part)
-    → i ≡ announcement_place a.opening.layout (unit_at_hand v.held.part)
-place_at_hand i v w a b p q e = e ∙ (λ j. announcement_place (sym q j).opening.layout (unit_at_hand (sym p j).held.part))
+    → i ≡ announcement_place b.opening.layout (unit_at_hand w.known.part)
+    → i ≡ announcement_place a.opening.layout (unit_at_hand v.known.part)
+place_at_hand i v w a b p q e = e ∙ (λ j. announcement_place (sym q j).opening.layout (unit_at_hand (sym p j).known.part))
 
 -- the slot and the field at hand, as contracts see them and as the fields have them
-pub hand_inside : (slot : ℕ) (v w : AdvShown) (a b : HeapShown) → v ≡ w → a ≡ b → slot ≡ slot_at_hand w.held
-    → slot < total_of b.opening.layout → slot_at_hand v.held < total_of a.opening.layout
+pub hand_inside : (slot : ℕ) (v w : AdvShown) (a b : HeapShown) → v ≡ w → a ≡ b → slot ≡ slot_at_hand w.known
+    → slot < total_of b.opening.layout → slot_at_hand v.known < total_of a.opening.layout
 hand_inside slot v w a b p q is l =
     subst (λ (z : ℕ × HeapShown). z.0 < total_of z.1.opening.layout) (λ j. (
       (is
-          ∙ ap (λ (x : AdvShown). slot_at_hand x.held) (sym p)) j,
+          ∙ ap (λ (x : AdvShown). slot_at_hand x.known) (sym p)) j,
       sym q j,
     )) l
 
 pub hand_field : (f : ℕ) (part : AdvPart) → f ≡ field_at_hand part → field_at_hand part < FIELDS → f < FIELDS
 hand_field f part e l = omega arith
 
-pub hand_word : (slot f : ℕ) (part : AdvPart) (v w : AdvShown) → v ≡ w → slot ≡ slot_at_hand w.held → f ≡ field_at_hand part
-    → part ≡ v.held.part
-    → word_of slot f ≡ word_of (slot_at_hand v.held) (field_at_hand v.held.part)
+pub hand_word : (slot f : ℕ) (part : AdvPart) (v w : AdvShown) → v ≡ w → slot ≡ slot_at_hand w.known → f ≡ field_at_hand part
+    → part ≡ v.known.part
+    → word_of slot f ≡ word_of (slot_at_hand v.known) (field_at_hand v.known.part)
 hand_word slot f part v w p is e same =
-    λ j. word_of ((is ∙ ap (λ (x : AdvShown). slot_at_hand x.held) (sym p)) j) ((e ∙ ap field_at_hand same) j)
+    λ j. word_of ((is ∙ ap (λ (x : AdvShown). slot_at_hand x.known) (sym p)) j) ((e ∙ ap field_at_hand same) j)
 
-pub emptied_turn : (v w : AdvShown) → v ≡ w → w.held.turn.emptied ≡ w.held.units → w.held.turn.out ≡ false
-    → v.held.turn ≡ record { emptied = v.held.units; out = false }
-emptied_turn v w p e f = subst (λ (x : AdvShown). x.held.turn ≡ record { emptied = x.held.units; out = false }) (sym p)
+pub emptied_turn : (v w : AdvShown) → v ≡ w → w.known.turn.emptied ≡ w.known.units → w.known.turn.out ≡ false
+    → v.known.turn ≡ record { emptied = v.known.units; out = false }
+emptied_turn v w p e f = subst (λ (x : AdvShown). x.known.turn ≡ record { emptied = x.known.units; out = false }) (sym p)
     (λ j. record { emptied = e j; out = f j })
 
 -- ---- slots of the table that are out with a seat
@@ -129,7 +129,7 @@ module _ (t : TableId) (unit epoch entries newest durable : ℕ) (m : Seated) (k
   -- one is out with a unit's seat that has its list out
   one_out : (the_unit m.0).turn.out ≡ true
       → m.1 ≡ (list_place (the_unit m.0).unit (epoch_of (the_unit m.0).part.stage), None) ∷ []
-  one_out away = let h : UnitHeld = the_unit m.0 in
+  one_out away = let h : UnitKnown = the_unit m.0 in
       ap (λ (x : Seated). x.1) k.whole ∙ ap (λ b. cond b ((list_place h.unit (epoch_of h.part.stage), None) ∷ []) []) away
 
   -- the seat once its list was taken
@@ -143,7 +143,7 @@ module _ (t : TableId) (unit epoch entries newest durable : ℕ) (m : Seated) (k
       )
       → (x : Cell) × (n.1 ≡ (i, x) ∷ rest n.1)
   took_slot n i at is =
-      let h : UnitHeld = the_unit m.0 in
+      let h : UnitKnown = the_unit m.0 in
       let x : Cell = listing h.room (listed_in h ++ h.turn.pushed) in
       subst (λ (n : Seated). (x : Cell) × (n.1 ≡ (i, x) ∷ rest n.1)) (sym is)
       (x, λ j. (sym (at ∙ (λ j. list_place (k.number j) (k.epoch_is j))) j, x) ∷ m.1)
@@ -162,7 +162,7 @@ module _ (t : TableId) (unit epoch entries newest durable : ℕ) (m : Seated) (k
 module _ (t : TableId) (part : AdvPart) (clock durable emptied : ℕ) (m : Seated) (k : IsAdvancer t part clock durable emptied m) where
   one_full : (the_advancer m.0).turn.out ≡ true
       → m.1 ≡ (list_place (the_advancer m.0).turn.emptied ((the_advancer m.0).clock + 1), None) ∷ []
-  one_full away = let a : AdvHeld = the_advancer m.0 in
+  one_full away = let a : AdvKnown = the_advancer m.0 in
       ap (λ (x : Seated). x.1) k.whole ∙ ap (λ b. cond b ((list_place a.turn.emptied (a.clock + 1), None) ∷ []) []) away
 
   pub full_slot : (n : Seated) (i u : ℕ) → i ≡ list_place u (clock + 1) → u ≡ (the_advancer m.0).turn.emptied
@@ -175,7 +175,7 @@ module _ (t : TableId) (part : AdvPart) (clock durable emptied : ℕ) (m : Seate
       )
       → (x : Cell) × (n.1 ≡ (i, x) ∷ rest n.1)
   full_slot n i u at next is =
-      let a : AdvHeld = the_advancer m.0 in
+      let a : AdvKnown = the_advancer m.0 in
       let x : Cell = listing a.room (list_at a.lists a.turn.emptied) in
       subst (λ (n : Seated). (x : Cell) × (n.1 ≡ (i, x) ∷ rest n.1)) (sym is)
       (x, λ j. (sym (at ∙ (λ j. list_place (next j) (k.clock_is j + 1))) j, x) ∷ m.1)
@@ -218,6 +218,6 @@ odd_none (Within x) epoch e begun none = let some = begun refl in absurd (omega 
 odd_none (Closing slot) epoch e begun none = refl
 
 -- a seat that has taken the caller in
-pub joined_pair : (n v w : View) (h : UnitHeld) (q : CallerHeld) → n ≡ with_callers v w → v ≡ unit_view h → w ≡ caller_view q
+pub joined_pair : (n v w : View) (h : UnitKnown) (q : CallerKnown) → n ≡ with_callers v w → v ≡ unit_view h → w ≡ caller_view q
     → n ≡ pair_view h q
 joined_pair n v w h q e f g = e ∙ (λ j. with_callers (f j) (g j))

@@ -81,16 +81,16 @@ module _ (o : Opening) (heap : HeapShown) (seat : ℕ) (v : View) (all : List �
   fits : FitsView shows.board shows.own seat (gathered_view units advancer callers)
   fits = subst (FitsView shows.board shows.own seat) is (shows.views seat v f.1.1)
 
-  unit_fits : (u : ℕ) (s : UnitShown) → slice_get units u ≡ Some s → FitsUnit shows.board shows.own seat s.held
-  unit_fits = each_at (FitsUnit shows.board shows.own seat) (λ (s : UnitShown). s.held) units fits.units
+  unit_fits : (u : ℕ) (s : UnitShown) → slice_get units u ≡ Some s → FitsUnit shows.board shows.own seat s.known
+  unit_fits = each_at (FitsUnit shows.board shows.own seat) (λ (s : UnitShown). s.known) units fits.units
 
-  caller_fits : (k : ℕ) (s : CallerShown) → slice_get callers k ≡ Some s → FitsCaller shows.board shows.own seat s.held
-  caller_fits = each_at (FitsCaller shows.board shows.own seat) (λ (s : CallerShown). s.held) callers fits.callers
+  caller_fits : (k : ℕ) (s : CallerShown) → slice_get callers k ≡ Some s → FitsCaller shows.board shows.own seat s.known
+  caller_fits = each_at (FitsCaller shows.board shows.own seat) (λ (s : CallerShown). s.known) callers fits.callers
 
-  unit_there : (u : ℕ) (s : UnitShown) → slice_get units u ≡ Some s → slice_get core.units u ≡ Some s.held.part
+  unit_there : (u : ℕ) (s : UnitShown) → slice_get units u ≡ Some s → slice_get core.units u ≡ Some s.known.part
   unit_there u s e = ap (slice_get core.units) (sym (seats.each_unit u s e).1) ∙ (unit_fits u s e).part
 
-  caller_there : (k : ℕ) (s : CallerShown) → slice_get callers k ≡ Some s → slice_get core.callers k ≡ Some s.held.part
+  caller_there : (k : ℕ) (s : CallerShown) → slice_get callers k ≡ Some s → slice_get core.callers k ≡ Some s.known.part
   caller_there k s e = ap (slice_get core.callers) (sym (seats.each_caller k s e).1) ∙ (caller_fits k s e).part
 
   unit_count : length core.units ≡ length units
@@ -102,10 +102,10 @@ module _ (o : Opening) (heap : HeapShown) (seat : ℕ) (v : View) (all : List �
 
   has_parts : HasParts core units advancer callers
   has_parts = record {
-    units_are = rows_are (λ (s : UnitShown). s.held.part) units core.units unit_count unit_there;
+    units_are = rows_are (λ (s : UnitShown). s.known.part) units core.units unit_count unit_there;
     advancer_is = fits.advancers.0.part;
     odd_is = fits.advancers.0.odd;
-    callers_are = rows_are (λ (s : CallerShown). s.held.part) callers core.callers caller_count caller_there;
+    callers_are = rows_are (λ (s : CallerShown). s.known.part) callers core.callers caller_count caller_there;
   }
 
   told_truly : IsToldTruly core units advancer callers
@@ -113,11 +113,11 @@ module _ (o : Opening) (heap : HeapShown) (seat : ℕ) (v : View) (all : List �
     clock_is = fits.advancers.0.clock_is;
     durable_is = fits.advancers.0.durable;
     lists_are = fits.advancers.0.lists;
-    learnt_by_units = all_at (λ (s : UnitShown). IsLearnt core s.held.learnt) units (λ u s e. (unit_fits u s e).learnt);
+    learnt_by_units = all_at (λ (s : UnitShown). IsLearnt core s.known.learnt) units (λ u s e. (unit_fits u s e).learnt);
     learnt_by_advancer = fits.advancers.0.learnt;
-    seen = all_at (λ (s : CallerShown). s.held.entries ≡ seen_in s.held.part.fronts (histories_of core.units)) callers
+    seen = all_at (λ (s : CallerShown). s.known.entries ≡ seen_in s.known.part.fronts (histories_of core.units)) callers
         (λ k s e. (caller_fits k s e).entries);
-    left = all_at (λ (s : CallerShown). AreLeft core.units s.held.within) callers (λ k s e. (caller_fits k s e).left);
+    left = all_at (λ (s : CallerShown). AreLeft core.units s.known.within) callers (λ k s e. (caller_fits k s e).left);
   }
 
   sound_for : (states : List State) → IsRecovered o.layout o.words states → IsSound (opened_at (clock_of o.words) states) core

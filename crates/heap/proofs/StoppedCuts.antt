@@ -42,26 +42,26 @@ module _ (o : Opening) (states : List State) (units : List UnitShown) (advancer 
   layout : core.layout ≡ o.layout
   layout = stops.layout.1
 
-  unit_there : (u : ℕ) (s : UnitShown) → slice_get units u ≡ Some s → slice_get core.units u ≡ Some s.held.part
+  unit_there : (u : ℕ) (s : UnitShown) → slice_get units u ≡ Some s → slice_get core.units u ≡ Some s.known.part
   unit_there u s e = ap (λ (ps : List UnitPart). slice_get ps u) stops.parts.units_are
-      ∙ (slice_get-map (λ (s : UnitShown). s.held.part) units u ∙ ap (option_map (λ (s : UnitShown). s.held.part)) e)
+      ∙ (slice_get-map (λ (s : UnitShown). s.known.part) units u ∙ ap (option_map (λ (s : UnitShown). s.known.part)) e)
 
-  caller_there : (k : ℕ) (q : CallerShown) → slice_get callers k ≡ Some q → slice_get core.callers k ≡ Some q.held.part
+  caller_there : (k : ℕ) (q : CallerShown) → slice_get callers k ≡ Some q → slice_get core.callers k ≡ Some q.known.part
   caller_there k q e = ap (λ (ps : List CallerPart). slice_get ps k) stops.parts.callers_are
-      ∙ (slice_get-map (λ (s : CallerShown). s.held.part) callers k ∙ ap (option_map (λ (s : CallerShown). s.held.part)) e)
+      ∙ (slice_get-map (λ (s : CallerShown). s.known.part) callers k ∙ ap (option_map (λ (s : CallerShown). s.known.part)) e)
 
   pub holds_shown : HoldsShownCut o states units callers image
   holds_shown = record {
     well_formed = subst (λ (s : Shape). IsWellFormed s image) layout holds.well_formed;
     cut = λ u s e. subst
         (λ (l : Shape). IsStructure l u (live_objects (records_of l image u))
-        (state_after (base_state opened u) (cut_at (cut_of image) s.held.part.history))) layout
-        (holds.cut u s.held.part (unit_there u s e));
-    synced = λ k u n q s by synced at. images_hold_synced opened core image k u n q.held.part s.held.part sound of_core
+        (state_after (base_state opened u) (cut_at (cut_of image) s.known.part.history))) layout
+        (holds.cut u s.known.part (unit_there u s e));
+    synced = λ k u n q s by synced at. images_hold_synced opened core image k u n q.known.part s.known.part sound of_core
         (caller_there k q by) synced (unit_there u s at);
   }
 
-  pub clock_between : (advancer.held.durable ≤ clock_of image) × (clock_of image ≤ advancer.held.clock)
+  pub clock_between : (advancer.known.durable ≤ clock_of image) × (clock_of image ≤ advancer.known.clock)
   clock_between = (
     subst (λ (x : ℕ). x ≤ clock_of image) stops.told.durable_is holds.not_before,
     subst (λ (x : ℕ). clock_of image ≤ x) stops.told.clock_is holds.not_behind,

@@ -9,9 +9,9 @@ use Rattle.core_steps.specs.Stages.{is_within, is_announced, epoch_of}
 use Rattle.core_steps.specs.Advancing.{unit_at_hand, is_clocked}
 use Rattle.core_steps.specs.Notes.{last_epoch}
 use Rattle.heap_rule.specs.declared.rule.Opening.{Opening}
-use Rattle.heap_rule.specs.declared.views.UnitHeld.{UnitHeld}
-use Rattle.heap_rule.specs.declared.views.AdvHeld.{AdvHeld}
-use Rattle.heap_rule.specs.declared.views.CallerHeld.{CallerHeld}
+use Rattle.heap_rule.specs.declared.views.UnitKnown.{UnitKnown}
+use Rattle.heap_rule.specs.declared.views.AdvKnown.{AdvKnown}
+use Rattle.heap_rule.specs.declared.views.CallerKnown.{CallerKnown}
 use Rattle.heap_rule.specs.TableWords.{word_count, list_count as lists_of}
 use Rattle.heap_rule.specs.Views.{Seated, home_turn, unit_view, advancer_view, caller_view, the_unit, the_advancer, the_caller, unit_out, advancer_out, field_at_hand}
 
@@ -22,15 +22,15 @@ pub record HeapShown : Type 0 where
 
 pub record UnitShown : Type 0 where
   pub table : TableId
-  pub held : UnitHeld
+  pub known : UnitKnown
 
 pub record AdvShown : Type 0 where
   pub table : TableId
-  pub held : AdvHeld
+  pub known : AdvKnown
 
 pub record CallerShown : Type 0 where
   pub table : TableId
-  pub held : CallerHeld
+  pub known : CallerKnown
 
 -- ---- fields and views
 pub record IsHeap (table : TableId) (opening : Opening) (layout : Shape) : Type 0 where

@@ -1,12 +1,12 @@
 -- What contracts see of a note that was copied, and what its fields have to do with its view.
 use Rattle.std.specs.Prelude.{◌≡◌, ℕ, ◌*◌, List, [], length}
 use Rattle.atomic_table.specs.Seated.{TableId}
-use Rattle.heap_rule.specs.declared.views.NoteHeld.{NoteHeld}
+use Rattle.heap_rule.specs.declared.views.NoteKnown.{NoteKnown}
 use Rattle.heap_rule.specs.Views.{Seated, note_view, the_note}
 
 pub record NewsShown : Type 0 where
   pub table : TableId
-  pub held : NoteHeld
+  pub known : NoteKnown
 
 pub record IsNews
     (table : TableId) (fronts : List ℕ) (newest durable : ℕ) (me : Seated) : Type 0 where

@@ -9,12 +9,12 @@ use Rattle.heap.specs.HeapShown.{HeapShown, UnitShown, AdvShown, CallerShown}
 -- the seats of the first so many units, and of the first so many callers
 abbrev pub dealt_units : TableId → Opening → ℕ → List UnitShown
 dealt_units t o zero = []
-dealt_units t o (suc n) = dealt_units t o n ++ record { table = t; held = first_unit o n } ∷ []
+dealt_units t o (suc n) = dealt_units t o n ++ record { table = t; known = first_unit o n } ∷ []
 
 abbrev pub dealt_callers : TableId → Opening → ℕ → List CallerShown
 dealt_callers t o zero = []
 dealt_callers t o (suc n) =
-    dealt_callers t o n ++ record { table = t; held = first_caller o n } ∷ []
+    dealt_callers t o n ++ record { table = t; known = first_caller o n } ∷ []
 
 -- all seats of the heap, each of which shows that nobody did anything yet
 pub record Opens
@@ -22,5 +22,5 @@ pub record Opens
     (callers : List CallerShown) : Type 0 where
   pub opening : heap.opening ≡ o
   pub each_unit : units ≡ dealt_units heap.table o (units_of o.layout)
-  pub the_advancer : advancer ≡ record { table = heap.table; held = first_advancer o }
+  pub the_advancer : advancer ≡ record { table = heap.table; known = first_advancer o }
   pub each_caller : callers ≡ dealt_callers heap.table o o.callers

@@ -2,7 +2,7 @@
 use Rattle.std.specs.Prelude.{◌≡◌, ℕ, List}
 use Rattle.core_steps.specs.Advancing.{unit_at_hand}
 use Rattle.heap_rule.specs.declared.rule.Opening.{Opening}
-use Rattle.heap_rule.specs.declared.views.AdvHeld.{AdvHeld}
+use Rattle.heap_rule.specs.declared.views.AdvKnown.{AdvKnown}
 use Rattle.heap_rule.specs.Plays.{IsListOf}
 use Rattle.heap_rule.specs.Views.{Seated, advancer_checked, advancer_view, the_advancer}
 use Rattle.heap.specs.HeapShown.{AdvShown}
@@ -11,13 +11,13 @@ use Rattle.heap.specs.HeapShown.{AdvShown}
 abbrev pub RemembersList : Opening → AdvShown → AdvShown → ℕ → Type 0
 RemembersList o old new word =
     (list : List ℕ)
-    × (new ≡ record { table = old.table; held = advancer_checked old.held word list })
-    × IsListOf o old.held.clock (unit_at_hand old.held.part) list
+    × (new ≡ record { table = old.table; known = advancer_checked old.known word list })
+    × IsListOf o old.known.clock (unit_at_hand old.known.part) list
 
 -- the same of the seat's view
 abbrev pub ShowsList : Opening → Seated → Seated → ℕ → Type 0
 ShowsList o old new word =
-    let a : AdvHeld = the_advancer old.0 in
+    let a : AdvKnown = the_advancer old.0 in
     (list : List ℕ)
     × (new ≡ (advancer_view (advancer_checked a word list), old.1))
     × IsListOf o a.clock (unit_at_hand a.part) list

@@ -2,8 +2,8 @@
 use Rattle.std.specs.Prelude.{length}
 use Rattle.mont_base.specs.declared.operation.Entry.{Entry}
 use Rattle.mont_base.specs.declared.operation.Receipt.{Receipt}
-use Rattle.heap_rule.specs.declared.views.UnitHeld.{UnitHeld}
+use Rattle.heap_rule.specs.declared.views.UnitKnown.{UnitKnown}
 
 -- the entry stands behind all others of the unit
-abbrev pub receipt_of : UnitHeld → Entry → Receipt
+abbrev pub receipt_of : UnitKnown → Entry → Receipt
 receipt_of h e = record { unit = h.unit; place = length h.part.history; entry = e }

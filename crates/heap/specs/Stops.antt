@@ -23,10 +23,10 @@ use Rattle.heap.specs.HeapShown.{HeapShown, UnitShown, AdvShown, CallerShown}
 
 -- ---- the seats
 abbrev pub IsSeatOfUnit : HeapShown → ℕ → UnitShown → Type 0
-IsSeatOfUnit heap u s = (s.table ≡ heap.table) × (s.held.unit ≡ u)
+IsSeatOfUnit heap u s = (s.table ≡ heap.table) × (s.known.unit ≡ u)
 
 abbrev pub IsSeatOfCaller : HeapShown → ℕ → CallerShown → Type 0
-IsSeatOfCaller heap k s = (s.table ≡ heap.table) × (s.held.caller ≡ k)
+IsSeatOfCaller heap k s = (s.table ≡ heap.table) × (s.known.caller ≡ k)
 
 -- all seats of the heap: one of each unit and of each caller, by their numbers, and the advancer's
 pub record AreAllSeats
@@ -46,38 +46,38 @@ AreCallersOf heap callers = All (λ (s : CallerShown). s.table ≡ heap.table) c
 
 -- no unit has its list out
 abbrev pub AreAtHome : List UnitShown → Type 0
-AreAtHome units = All (λ (s : UnitShown). s.held.turn.out ≡ false) units
+AreAtHome units = All (λ (s : UnitShown). s.known.turn.out ≡ false) units
 
 -- what these seats know
 abbrev pub units_view : List UnitShown → View
-units_view units = record nothing { units = map (λ (s : UnitShown). s.held) units }
+units_view units = record nothing { units = map (λ (s : UnitShown). s.known) units }
 
 abbrev pub callers_view : List CallerShown → View
-callers_view callers = record nothing { callers = map (λ (s : CallerShown). s.held) callers }
+callers_view callers = record nothing { callers = map (λ (s : CallerShown). s.known) callers }
 
 -- ---- the core
 -- its parts are those that the seats showed
 pub record HasParts
     (c : Core) (units : List UnitShown) (advancer : AdvShown) (callers : List CallerShown)
     : Type 0 where
-  pub units_are : c.units ≡ map (λ (s : UnitShown). s.held.part) units
-  pub advancer_is : c.advancer ≡ advancer.held.part
-  pub odd_is : c.odd ≡ advancer.held.odd
-  pub callers_are : c.callers ≡ map (λ (s : CallerShown). s.held.part) callers
+  pub units_are : c.units ≡ map (λ (s : UnitShown). s.known.part) units
+  pub advancer_is : c.advancer ≡ advancer.known.part
+  pub odd_is : c.odd ≡ advancer.known.odd
+  pub callers_are : c.callers ≡ map (λ (s : CallerShown). s.known.part) callers
 
 -- what the seats showed beside their parts is true of it
 pub record IsToldTruly
     (c : Core) (units : List UnitShown) (advancer : AdvShown) (callers : List CallerShown)
     : Type 0 where
-  pub clock_is : clock c ≡ advancer.held.clock
-  pub durable_is : durable_clock c ≡ advancer.held.durable
-  pub lists_are : AreLists c advancer.held.lists
-  pub learnt_by_units : All (λ (s : UnitShown). IsLearnt c s.held.learnt) units
-  pub learnt_by_advancer : IsLearnt c advancer.held.learnt
+  pub clock_is : clock c ≡ advancer.known.clock
+  pub durable_is : durable_clock c ≡ advancer.known.durable
+  pub lists_are : AreLists c advancer.known.lists
+  pub learnt_by_units : All (λ (s : UnitShown). IsLearnt c s.known.learnt) units
+  pub learnt_by_advancer : IsLearnt c advancer.known.learnt
   pub seen : All
-      (λ (s : CallerShown). s.held.entries ≡ seen_in s.held.part.fronts (histories_of c.units))
+      (λ (s : CallerShown). s.known.entries ≡ seen_in s.known.part.fronts (histories_of c.units))
       callers
-  pub left : All (λ (s : CallerShown). AreLeft c.units s.held.within) callers
+  pub left : All (λ (s : CallerShown). AreLeft c.units s.known.within) callers
 
 -- Both memories are those of a core that a run of allowed steps leads to from the one with which
 -- the store opened, and of which the seats showed the parts.
@@ -101,7 +101,7 @@ pub record StopsAt
 -- the state to which the history that the unit's seat showed leads up to the image's cut
 abbrev pub shown_cut : Opening → List State → List ℕ → ℕ → UnitShown → State
 shown_cut o states image u s = state_after (base_state (opened_at (clock_of o.words) states) u)
-    (cut_at (cut_of image) s.held.part.history)
+    (cut_at (cut_of image) s.known.part.history)
 
 abbrev pub IsShownCut : Opening → List State → List ℕ → ℕ → UnitShown → Type 0
 IsShownCut o states image u s = IsStructure o.layout u
@@ -116,8 +116,8 @@ pub record HoldsShownCut
   pub cut : EachAt (IsShownCut o states image) units
   pub synced :
       (k u n : ℕ) (q : CallerShown) (s : UnitShown) → slice_get callers k ≡ Some q
-      → slice_get q.held.part.synced u ≡ Some n → slice_get units u ≡ Some s
-      → All (λ (e : Entry). e.epoch ≤ cut_of image) (take n s.held.part.history)
+      → slice_get q.known.part.synced u ≡ Some n → slice_get units u ≡ Some s
+      → All (λ (e : Entry). e.epoch ≤ cut_of image) (take n s.known.part.history)
 
 -- Every image that a crash permits of the words of a heap that was stopped holds that cut, and its
 -- clock is not before the durable one that the advancer's seat showed, nor behind the current one.
@@ -128,4 +128,4 @@ StoppedWordsHoldCuts =
     → IsRecovered o.layout o.words states → StopsAt o units advancer callers words
     → IsPermitted words.cur words.dur image
     → HoldsShownCut o states units callers image
-    × (advancer.held.durable ≤ clock_of image) × (clock_of image ≤ advancer.held.clock)
+    × (advancer.known.durable ≤ clock_of image) × (clock_of image ≤ advancer.known.clock)

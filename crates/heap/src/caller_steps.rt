@@ -16,8 +16,8 @@ impl Heap {
         requires heap { ticket.old.table ≡ self.now.table }
         ensures gate { IsAskedOnce G.cuts G.endless G.asked gate.old gate.new result }
         ensures ok { IfOk result (λ clock. ticket.new
-            ≡ record { table = ticket.old.table; held = caller_saw ticket.old.held clock }) }
-        ensures clock { IfOk result (λ clock. IsDurable ticket.old.held.part.durable clock) }
+            ≡ record { table = ticket.old.table; known = caller_saw ticket.old.known clock }) }
+        ensures clock { IfOk result (λ clock. IsDurable ticket.old.known.part.durable clock) }
         ensures cut { OnErr result (ticket.new ≡ ticket.old) }
     {
         gate.step()?;

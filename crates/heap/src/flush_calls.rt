@@ -24,13 +24,13 @@ impl Heap {
     /// shows the unit's list for the epoch before the clock.
     pub fn load_told<G: Gate>(&self, seat: &mut AdvSeat, gate: &mut G) -> Result<u64, Cut>
         requires heap { seat.old.table ≡ self.now.table }
-        requires may { IsTrue (can_check seat.old.held.clock seat.old.held.part) }
-        requires clean { seat.old.held.part ≡ Rest
-            → IsTrue (are_clean (units_of self.now.opening.layout) seat.old.held.clean) }
+        requires may { IsTrue (can_check seat.old.known.clock seat.old.known.part) }
+        requires clean { seat.old.known.part ≡ Rest
+            → IsTrue (are_clean (units_of self.now.opening.layout) seat.old.known.clean) }
         ensures gate { IsAskedOnce G.cuts G.endless G.asked gate.old gate.new result }
         ensures ok { IfOk result (λ word. RemembersList self.now.opening seat.old seat.new word) }
         ensures word { IfOk result (λ word. IsAnnouncement word) }
-        ensures durable { OnOk result (seat.new.held.durable ≡ seat.new.held.clock) }
+        ensures durable { OnOk result (seat.new.known.durable ≡ seat.new.known.clock) }
         ensures cut { OnErr result (seat.new ≡ seat.old) }
     {
         gate.step()?;
@@ -70,13 +70,13 @@ impl Heap {
         gate: &mut G,
     ) -> Result<u64, Cut>
         requires heap { seat.old.table ≡ self.now.table }
-        requires may { IsTrue (can_load_word (length (joined seat.old.held.lists))
-            seat.old.held.part) }
-        requires slot { slot ≡ slot_at_hand seat.old.held }
+        requires may { IsTrue (can_load_word (length (joined seat.old.known.lists))
+            seat.old.known.part) }
+        requires slot { slot ≡ slot_at_hand seat.old.known }
         requires inside { slot < total_of self.now.opening.layout }
         ensures gate { IsAskedOnce G.cuts G.endless G.asked gate.old gate.new result }
         ensures ok { IfOk result (λ word. seat.new
-            ≡ record { table = seat.old.table; held = advancer_loaded seat.old.held word }) }
+            ≡ record { table = seat.old.table; known = advancer_loaded seat.old.known word }) }
         ensures cut { OnErr result (seat.new ≡ seat.old) }
     {
         gate.step()?;
@@ -94,13 +94,13 @@ impl Heap {
         gate: &mut G,
     ) -> Result<(), Cut>
         requires heap { seat.old.table ≡ self.now.table }
-        requires may { IsTrue (can_persist_word seat.old.held.part) }
-        requires slot { slot ≡ slot_at_hand seat.old.held }
+        requires may { IsTrue (can_persist_word seat.old.known.part) }
+        requires slot { slot ≡ slot_at_hand seat.old.known }
         requires inside { slot < total_of self.now.opening.layout }
         ensures gate { IsAskedOnce G.cuts G.endless G.asked gate.old gate.new result }
         ensures ok { OnOk result (seat.new
-            ≡ record { table = seat.old.table; held = advancer_persisted seat.old.held }) }
-        ensures listed { OnOk result (IsPlaceListed seat.old.held) }
+            ≡ record { table = seat.old.table; known = advancer_persisted seat.old.known }) }
+        ensures listed { OnOk result (IsPlaceListed seat.old.known) }
         ensures cut { OnErr result (seat.new ≡ seat.old) }
     {
         gate.step()?;
@@ -116,14 +116,14 @@ impl Heap {
     /// Moves the clock on, once all is written back and every list is at home and empty.
     pub fn set_clock<G: Gate>(&self, seat: &mut AdvSeat, gate: &mut G) -> Result<(), Cut>
         requires heap { seat.old.table ≡ self.now.table }
-        requires may { IsTrue (is_flushed (length (joined seat.old.held.lists))
-            seat.old.held.part) }
-        requires empty { (seat.old.held.turn.emptied ≡ seat.old.held.units)
-            × (seat.old.held.turn.out ≡ false) }
+        requires may { IsTrue (is_flushed (length (joined seat.old.known.lists))
+            seat.old.known.part) }
+        requires empty { (seat.old.known.turn.emptied ≡ seat.old.known.units)
+            × (seat.old.known.turn.out ≡ false) }
         ensures gate { IsAskedOnce G.cuts G.endless G.asked gate.old gate.new result }
         ensures ok { OnOk result (seat.new
-            ≡ record { table = seat.old.table; held = advancer_set seat.old.held }) }
-        ensures last { OnOk result (seat.old.held.clock < LAST) }
+            ≡ record { table = seat.old.table; known = advancer_set seat.old.known }) }
+        ensures last { OnOk result (seat.old.known.clock < LAST) }
         ensures cut { OnErr result (seat.new ≡ seat.old) }
     {
         gate.step()?;
@@ -140,11 +140,11 @@ impl Heap {
     /// Makes the clock durable. It is then above the one with which the store opened.
     pub fn persist_clock<G: Gate>(&self, seat: &mut AdvSeat, gate: &mut G) -> Result<(), Cut>
         requires heap { seat.old.table ≡ self.now.table }
-        requires may { IsTrue (is_clocked seat.old.held.part) }
+        requires may { IsTrue (is_clocked seat.old.known.part) }
         ensures gate { IsAskedOnce G.cuts G.endless G.asked gate.old gate.new result }
         ensures ok { OnOk result (seat.new
-            ≡ record { table = seat.old.table; held = advancer_rested seat.old.held }) }
-        ensures ahead { OnOk result (IsAhead self.now.opening seat.old.held) }
+            ≡ record { table = seat.old.table; known = advancer_rested seat.old.known }) }
+        ensures ahead { OnOk result (IsAhead self.now.opening seat.old.known) }
         ensures cut { OnErr result (seat.new ≡ seat.old) }
     {
         gate.step()?;

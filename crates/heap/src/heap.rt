@@ -44,7 +44,7 @@ impl Heap {
     pub(crate) fn announcement(&self, seat: &UnitSeat) -> usize
         requires { seat.now.table ≡ self.now.table }
         ensures place { result
-            ≡ announcement_place self.now.opening.layout seat.now.held.unit }
+            ≡ announcement_place self.now.opening.layout seat.now.known.unit }
         ensures inside { result < self.now.table.words }
     {
         (2 * self.layout.words() + 8 * seat.unit) as usize
@@ -62,7 +62,7 @@ impl Heap {
     pub(crate) fn announcement_at_hand(&self, seat: &AdvSeat) -> usize
         requires { seat.now.table ≡ self.now.table }
         ensures place { result
-            ≡ announcement_place self.now.opening.layout (unit_at_hand seat.now.held.part) }
+            ≡ announcement_place self.now.opening.layout (unit_at_hand seat.now.known.part) }
         ensures inside { result < self.now.table.words }
     {
         (2 * self.layout.words() + 8 * unit(seat.part)) as usize

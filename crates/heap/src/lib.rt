@@ -4,11 +4,11 @@
 //! machine. Each unit, the advancer and each caller has a seat of its own, which shows its part.
 #![tactic(auto)]
 
-mod answers;
+mod answer_steps;
 mod caller_steps;
 mod dealing;
 mod flush_calls;
-mod fresh;
+mod fresh_heap;
 mod heap;
 mod list_calls;
 mod news;

@@ -15,15 +15,15 @@ impl Heap {
     /// pushed. It has room for all that the unit has written.
     pub fn take_list(&self, seat: &mut UnitSeat) -> SlotList
         requires heap { seat.old.table ≡ self.now.table }
-        requires may { IsTrue (is_within seat.old.held.part.stage) }
-        requires home { seat.old.held.turn.out ≡ false }
+        requires may { IsTrue (is_within seat.old.known.part.stage) }
+        requires home { seat.old.known.turn.out ≡ false }
         ensures list { result ≡ record {
-          slots = listed_in seat.old.held ++ seat.old.held.turn.pushed;
-          room = seat.old.held.room;
+          slots = listed_in seat.old.known ++ seat.old.known.turn.pushed;
+          room = seat.old.known.room;
         } }
-        ensures room { HasRoom seat.old.held }
+        ensures room { HasRoom seat.old.known }
         ensures out { seat.new
-            ≡ record { table = seat.old.table; held = unit_took seat.old.held } }
+            ≡ record { table = seat.old.table; known = unit_took seat.old.known } }
     {
         let place = place(seat.unit, seat.epoch);
         self.table.shared.load::<TakesList>(&mut seat.seat, 0);
@@ -36,13 +36,13 @@ impl Heap {
     /// Gives the list back, with the unit's written slots pushed in their order.
     pub fn give_list(&self, seat: &mut UnitSeat, list: SlotList)
         requires heap { seat.old.table ≡ self.now.table }
-        requires may { IsTrue (is_within seat.old.held.part.stage) }
-        requires out { seat.old.held.turn.out ≡ true }
+        requires may { IsTrue (is_within seat.old.known.part.stage) }
+        requires out { seat.old.known.turn.out ≡ true }
         requires list { list ≡ record {
-          slots = listed_in seat.old.held ++ slots_written seat.old.held.part;
-          room = seat.old.held.room;
+          slots = listed_in seat.old.known ++ slots_written seat.old.known.part;
+          room = seat.old.known.room;
         } }
-        ensures { seat.new ≡ record { table = seat.old.table; held = unit_gave seat.old.held } }
+        ensures { seat.new ≡ record { table = seat.old.table; known = unit_gave seat.old.known } }
     {
         let home = place(seat.unit, seat.epoch);
         let _ = self.table.shared.exchange(&mut seat.seat, home, Some(list));
@@ -52,17 +52,17 @@ impl Heap {
     /// Takes out the full list of the next unit, which was passed.
     pub fn take_full(&self, seat: &mut AdvSeat, unit: Unit) -> SlotList
         requires heap { seat.old.table ≡ self.now.table }
-        requires next { unit ≡ seat.old.held.turn.emptied }
-        requires inside { unit < seat.old.held.units }
-        requires passed { unit < passed_of seat.old.held.units seat.old.held.part }
-        requires home { seat.old.held.turn.out ≡ false }
+        requires next { unit ≡ seat.old.known.turn.emptied }
+        requires inside { unit < seat.old.known.units }
+        requires passed { unit < passed_of seat.old.known.units seat.old.known.part }
+        requires home { seat.old.known.turn.out ≡ false }
         ensures list { result ≡ record {
-          slots = list_at seat.old.held.lists unit;
-          room = seat.old.held.room;
+          slots = list_at seat.old.known.lists unit;
+          room = seat.old.known.room;
         } }
-        ensures slots { AreSlots seat.old.held (list_at seat.old.held.lists unit) }
+        ensures slots { AreSlots seat.old.known (list_at seat.old.known.lists unit) }
         ensures out { seat.new
-            ≡ record { table = seat.old.table; held = advancer_took seat.old.held } }
+            ≡ record { table = seat.old.table; known = advancer_took seat.old.known } }
     {
         let place = place(unit, seat.clock + 1);
         self.table.shared.load::<TakesFull>(&mut seat.seat, 0);
@@ -75,12 +75,12 @@ impl Heap {
     /// Gives it back empty.
     pub fn give_empty(&self, seat: &mut AdvSeat, unit: Unit, list: SlotList)
         requires heap { seat.old.table ≡ self.now.table }
-        requires next { unit ≡ seat.old.held.turn.emptied }
-        requires inside { unit < seat.old.held.units }
-        requires out { seat.old.held.turn.out ≡ true }
-        requires empty { list ≡ record { slots = []; room = seat.old.held.room } }
+        requires next { unit ≡ seat.old.known.turn.emptied }
+        requires inside { unit < seat.old.known.units }
+        requires out { seat.old.known.turn.out ≡ true }
+        requires empty { list ≡ record { slots = []; room = seat.old.known.room } }
         ensures { seat.new
-            ≡ record { table = seat.old.table; held = advancer_gave seat.old.held } }
+            ≡ record { table = seat.old.table; known = advancer_gave seat.old.known } }
     {
         let home = place(unit, seat.clock + 1);
         let _ = self.table.shared.exchange(&mut seat.seat, home, Some(list));

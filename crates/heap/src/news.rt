@@ -26,7 +26,7 @@ impl Model for News {
 
     ghost Value = { NewsShown };
 
-    ghost view = { λ n. record { table = n.seat.table_id; held = the_note n.seat.me.0 } };
+    ghost view = { λ n. record { table = n.seat.table_id; known = the_note n.seat.me.0 } };
 
     ghost invariant = { λ n. IsNews n.seat.table_id n.fronts n.newest n.durable n.seat.me };
 }
@@ -37,7 +37,7 @@ impl Heap {
         requires ticket { ticket.old.table ≡ self.now.table }
         ensures news { IfOk result (λ news. news ≡ record {
           table = self.now.table;
-          held = note_of_caller ticket.old.held;
+          known = note_of_caller ticket.old.known;
         }) }
         ensures caller { ticket.new ≡ ticket.old }
     {
@@ -60,7 +60,7 @@ impl Heap {
         requires news { news.table ≡ self.now.table }
         ensures { ticket.new ≡ record {
           table = ticket.old.table;
-          held = caller_heard ticket.old.held news.held;
+          known = caller_heard ticket.old.known news.known;
         } }
     {
         let News {

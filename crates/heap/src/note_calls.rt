@@ -20,7 +20,7 @@ impl Heap {
         requires ticket { ticket.old.table ≡ self.now.table }
         ensures unit { seat.new ≡ record {
           table = seat.old.table;
-          held = unit_shown seat.old.held ticket.old.held;
+          known = unit_shown seat.old.known ticket.old.known;
         } }
         ensures caller { ticket.new ≡ ticket.old }
     {
@@ -36,7 +36,7 @@ impl Heap {
         requires ticket { ticket.old.table ≡ self.now.table }
         ensures advancer { seat.new ≡ record {
           table = seat.old.table;
-          held = advancer_shown seat.old.held ticket.old.held;
+          known = advancer_shown seat.old.known ticket.old.known;
         } }
         ensures caller { ticket.new ≡ ticket.old }
     {
@@ -54,13 +54,13 @@ impl Heap {
         ensures unit { seat.new ≡ seat.old }
         ensures caller { ticket.new ≡ record {
           table = ticket.old.table;
-          held = caller_heard ticket.old.held
-              (note_of_unit (length ticket.old.held.part.fronts) seat.old.held);
+          known = caller_heard ticket.old.known
+              (note_of_unit (length ticket.old.known.part.fronts) seat.old.known);
         } }
-        ensures front { IsNotBeyond ticket.old.held seat.old.held }
-        ensures all { HasSeenAll ticket.new.held seat.old.held }
+        ensures front { IsNotBeyond ticket.old.known seat.old.known }
+        ensures all { HasSeenAll ticket.new.known seat.old.known }
         ensures sound { (now durable : ℕ)
-            × IsSoundUnit self.now.opening now durable seat.old.held }
+            × IsSoundUnit self.now.opening now durable seat.old.known }
     {
         let shared = &self.table.shared;
         let whole = shared.split_seat::<Whole>(&mut ticket.seat);
@@ -106,8 +106,8 @@ impl Heap {
         ensures advancer { seat.new ≡ seat.old }
         ensures caller { ticket.new ≡ record {
           table = ticket.old.table;
-          held = caller_heard ticket.old.held
-              (note_of_advancer (length ticket.old.held.part.fronts) seat.old.held);
+          known = caller_heard ticket.old.known
+              (note_of_advancer (length ticket.old.known.part.fronts) seat.old.known);
         } }
     {
         let shared = &self.table.shared;

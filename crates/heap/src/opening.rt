@@ -62,7 +62,7 @@ impl Heap {
         requires clock { clock ≡ clock_of self.now.opening.words }
         requires last { clock ≤ LAST }
         ensures { result
-            ≡ record { table = self.now.table; held = first_advancer self.now.opening } }
+            ≡ record { table = self.now.table; known = first_advancer self.now.opening } }
     {
         let many = self.layout.units();
         prove!(many > 0);

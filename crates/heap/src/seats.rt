@@ -30,7 +30,7 @@ impl Model for UnitSeat {
 
     ghost use Rattle.heap.specs.SeatFields.{IsUnitSeat};
 
-    ghost view = { λ s. record { table = s.seat.table_id; held = the_unit s.seat.me.0 } };
+    ghost view = { λ s. record { table = s.seat.table_id; known = the_unit s.seat.me.0 } };
 
     ghost invariant = { IsUnitSeat };
 }
@@ -54,7 +54,7 @@ impl Model for AdvSeat {
 
     ghost use Rattle.heap.specs.SeatFields.{IsAdvSeat};
 
-    ghost view = { λ s. record { table = s.seat.table_id; held = the_advancer s.seat.me.0 } };
+    ghost view = { λ s. record { table = s.seat.table_id; known = the_advancer s.seat.me.0 } };
 
     ghost invariant = { IsAdvSeat };
 }
@@ -79,7 +79,7 @@ impl Model for Ticket {
 
     ghost use Rattle.heap.specs.SeatFields.{IsTicket};
 
-    ghost view = { λ s. record { table = s.seat.table_id; held = the_caller s.seat.me.0 } };
+    ghost view = { λ s. record { table = s.seat.table_id; known = the_caller s.seat.me.0 } };
 
     ghost invariant = { IsTicket };
 }
@@ -87,14 +87,14 @@ impl Model for Ticket {
 impl UnitSeat {
     /// The unit's number.
     pub fn unit(&self) -> Unit
-        ensures { result ≡ self.now.held.unit }
+        ensures { result ≡ self.now.known.unit }
     {
         self.unit
     }
 
     // What it announces once a caller was cut in it.
     pub(crate) fn odd(&self) -> u64
-        ensures { result ≡ odd_announcement self.now.held.part.stage }
+        ensures { result ≡ odd_announcement self.now.known.part.stage }
     {
         if self.epoch == 0 {
             0
@@ -107,9 +107,9 @@ impl UnitSeat {
 impl AdvSeat {
     /// The durable clock. It is the clock, unless the clock has moved and is not durable yet.
     pub fn durable(&self) -> Epoch
-        ensures clock { result ≡ self.now.held.durable }
-        ensures kept { is_clocked self.now.held.part ≡ false
-            → self.now.held.durable ≡ self.now.held.clock }
+        ensures clock { result ≡ self.now.known.durable }
+        ensures kept { is_clocked self.now.known.part ≡ false
+            → self.now.known.durable ≡ self.now.known.clock }
     {
         self.durable
     }
@@ -118,30 +118,30 @@ impl AdvSeat {
 impl Ticket {
     /// The caller's number.
     pub fn number(&self) -> u64
-        ensures { result ≡ self.now.held.caller }
+        ensures { result ≡ self.now.known.caller }
     {
         self.number
     }
 
     /// How many of its calls were answered.
     pub fn calls(&self) -> u64
-        ensures calls { result ≡ self.now.held.part.calls }
-        ensures receipts { result ≡ length self.now.held.part.receipts }
+        ensures calls { result ≡ self.now.known.part.calls }
+        ensures receipts { result ≡ length self.now.known.part.receipts }
     {
         self.calls
     }
 
     /// The newest epoch that it has seen; 0 at first.
     pub fn newest(&self) -> Epoch
-        ensures { result ≡ self.now.held.part.newest }
+        ensures { result ≡ self.now.known.part.newest }
     {
         self.newest
     }
 
     /// How many entries of the unit it has seen.
     pub fn front(&self, unit: Unit) -> u64
-        requires { unit < length self.now.held.part.fronts }
-        ensures { slice_get self.now.held.part.fronts unit ≡ Some result }
+        requires { unit < length self.now.known.part.fronts }
+        ensures { slice_get self.now.known.part.fronts unit ≡ Some result }
     {
         self.fronts.as_slice()[unit as usize]
     }
@@ -149,8 +149,8 @@ impl Ticket {
     /// What its front there was when it last learnt of a durable clock two epochs or more past all
     /// that it had seen; 0 before.
     pub fn synced(&self, unit: Unit) -> u64
-        requires { unit < length self.now.held.part.synced }
-        ensures { slice_get self.now.held.part.synced unit ≡ Some result }
+        requires { unit < length self.now.known.part.synced }
+        ensures { slice_get self.now.known.part.synced unit ≡ Some result }
     {
         self.synced.as_slice()[unit as usize]
     }

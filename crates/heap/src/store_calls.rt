@@ -28,13 +28,13 @@ impl Heap {
     ) -> Result<(), Cut>
         requires heap { seat.old.table ≡ self.now.table }
         requires may { CanStore
-            (IsFreeSlot self.now.opening.layout seat.old.held.unit seat.old.held.part slot)
-            seat.old.held.unit seat.old.held.part slot field value }
+            (IsFreeSlot self.now.opening.layout seat.old.known.unit seat.old.known.part slot)
+            seat.old.known.unit seat.old.known.part slot field value }
         requires slot { slot < total_of self.now.opening.layout }
         ensures gate { IsAskedOnce G.cuts G.endless G.asked gate.old gate.new result }
         ensures ok { OnOk result (seat.new ≡ record {
           table = seat.old.table;
-          held = unit_wrote seat.old.held slot field value;
+          known = unit_wrote seat.old.known slot field value;
         }) }
         ensures cut { OnErr result (seat.new ≡ seat.old) }
     {
@@ -54,11 +54,11 @@ impl Heap {
         gate: &mut G,
     ) -> Result<(), Cut>
         requires heap { seat.old.table ≡ self.now.table }
-        requires may { CanClose seat.old.held.part slot }
+        requires may { CanClose seat.old.known.part slot }
         requires slot { slot < total_of self.now.opening.layout }
         ensures gate { IsAskedOnce G.cuts G.endless G.asked gate.old gate.new result }
         ensures ok { OnOk result (seat.new
-            ≡ record { table = seat.old.table; held = unit_closed seat.old.held slot }) }
+            ≡ record { table = seat.old.table; known = unit_closed seat.old.known slot }) }
         ensures cut { OnErr result (seat.new ≡ seat.old) }
     {
         gate.step()?;
@@ -77,13 +77,13 @@ impl Heap {
         gate: &mut G,
     ) -> Result<(), Cut>
         requires heap { seat.old.table ≡ self.now.table }
-        requires may { CanPersistClose seat.old.held.part slot }
+        requires may { CanPersistClose seat.old.known.part slot }
         requires slot { slot < total_of self.now.opening.layout }
         ensures gate { IsAskedOnce G.cuts G.endless G.asked gate.old gate.new result }
         ensures ok { OnOk result (seat.new
-            ≡ record { table = seat.old.table; held = unit_persisted seat.old.held slot }) }
+            ≡ record { table = seat.old.table; known = unit_persisted seat.old.known slot }) }
         ensures sound { OnOk result ((now durable : ℕ)
-            × IsSoundUnit self.now.opening now durable seat.new.held) }
+            × IsSoundUnit self.now.opening now durable seat.new.known) }
         ensures cut { OnErr result (seat.new ≡ seat.old) }
     {
         gate.step()?;

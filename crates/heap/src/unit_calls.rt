@@ -21,12 +21,12 @@ impl Heap {
     /// Loads the clock.
     pub fn load_clock<G: Gate>(&self, seat: &mut UnitSeat, gate: &mut G) -> Result<Epoch, Cut>
         requires heap { seat.old.table ≡ self.now.table }
-        requires may { IsTrue (can_look seat.old.held.part) }
+        requires may { IsTrue (can_look seat.old.known.part) }
         ensures gate { IsAskedOnce G.cuts G.endless G.asked gate.old gate.new result }
         ensures ok { IfOk result (λ clock. seat.new
-            ≡ record { table = seat.old.table; held = unit_looked seat.old.held clock }) }
-        ensures clock { IfOk result (λ clock. IsClock seat.old.held.learnt
-            seat.old.held.part clock) }
+            ≡ record { table = seat.old.table; known = unit_looked seat.old.known clock }) }
+        ensures clock { IfOk result (λ clock. IsClock seat.old.known.learnt
+            seat.old.known.part clock) }
         ensures cut { OnErr result (seat.new ≡ seat.old) }
     {
         gate.step()?;
@@ -36,12 +36,12 @@ impl Heap {
     /// Announces the epoch.
     pub fn tell<G: Gate>(&self, seat: &mut UnitSeat, epoch: Epoch, gate: &mut G) -> Result<(), Cut>
         requires heap { seat.old.table ≡ self.now.table }
-        requires may { IsTrue (can_tell seat.old.held.part epoch) }
-        requires clean { IsTrue (is_idle seat.old.held.part.stage)
-            → IsTrue (are_clean (units_of self.now.opening.layout) seat.old.held.clean) }
+        requires may { IsTrue (can_tell seat.old.known.part epoch) }
+        requires clean { IsTrue (is_idle seat.old.known.part.stage)
+            → IsTrue (are_clean (units_of self.now.opening.layout) seat.old.known.clean) }
         ensures gate { IsAskedOnce G.cuts G.endless G.asked gate.old gate.new result }
         ensures ok { OnOk result (seat.new
-            ≡ record { table = seat.old.table; held = unit_told seat.old.held epoch }) }
+            ≡ record { table = seat.old.table; known = unit_told seat.old.known epoch }) }
         ensures cut { OnErr result (seat.new ≡ seat.old) }
     {
         gate.step()?;
@@ -56,12 +56,12 @@ impl Heap {
     /// Loads the clock again. The unit is registered where it shows the announced epoch.
     pub fn confirm<G: Gate>(&self, seat: &mut UnitSeat, gate: &mut G) -> Result<Epoch, Cut>
         requires heap { seat.old.table ≡ self.now.table }
-        requires may { IsTrue (can_confirm seat.old.held.part) }
+        requires may { IsTrue (can_confirm seat.old.known.part) }
         ensures gate { IsAskedOnce G.cuts G.endless G.asked gate.old gate.new result }
         ensures ok { IfOk result (λ clock. seat.new
-            ≡ record { table = seat.old.table; held = unit_confirmed seat.old.held clock }) }
-        ensures clock { IfOk result (λ clock. IsClock seat.old.held.learnt
-            seat.old.held.part clock) }
+            ≡ record { table = seat.old.table; known = unit_confirmed seat.old.known clock }) }
+        ensures clock { IfOk result (λ clock. IsClock seat.old.known.learnt
+            seat.old.known.part clock) }
         ensures cut { OnErr result (seat.new ≡ seat.old) }
     {
         gate.step()?;
@@ -71,12 +71,12 @@ impl Heap {
     /// Takes the announcement back, with nothing stored.
     pub fn withdraw<G: Gate>(&self, seat: &mut UnitSeat, gate: &mut G) -> Result<(), Cut>
         requires heap { seat.old.table ≡ self.now.table }
-        requires may { IsTrue (can_withdraw seat.old.held.part) }
-        requires home { IsTrue (is_within seat.old.held.part.stage)
-            → seat.old.held.turn ≡ home_turn }
+        requires may { IsTrue (can_withdraw seat.old.known.part) }
+        requires home { IsTrue (is_within seat.old.known.part.stage)
+            → seat.old.known.turn ≡ home_turn }
         ensures gate { IsAskedOnce G.cuts G.endless G.asked gate.old gate.new result }
         ensures ok { OnOk result (seat.new
-            ≡ record { table = seat.old.table; held = unit_withdrew seat.old.held }) }
+            ≡ record { table = seat.old.table; known = unit_withdrew seat.old.known }) }
         ensures cut { OnErr result (seat.new ≡ seat.old) }
     {
         gate.step()?;
@@ -91,14 +91,14 @@ impl Heap {
     /// Loads the durable clock. What the invariant tells of the unit stands there with it.
     pub fn load_durable<G: Gate>(&self, seat: &mut UnitSeat, gate: &mut G) -> Result<Epoch, Cut>
         requires heap { seat.old.table ≡ self.now.table }
-        requires may { IsTrue (can_load_durable seat.old.held.part) }
+        requires may { IsTrue (can_load_durable seat.old.known.part) }
         ensures gate { IsAskedOnce G.cuts G.endless G.asked gate.old gate.new result }
         ensures ok { IfOk result (λ clock. seat.new
-            ≡ record { table = seat.old.table; held = unit_loaded_durable seat.old.held clock }) }
+            ≡ record { table = seat.old.table; known = unit_loaded_durable seat.old.known clock }) }
         ensures clock { IfOk result (λ clock. IsDurable
-            (max seat.old.held.part.durable seat.old.held.learnt.durable) clock) }
+            (max seat.old.known.part.durable seat.old.known.learnt.durable) clock) }
         ensures sound { IfOk result (λ clock. (now : ℕ)
-            × IsSoundUnit self.now.opening now clock seat.new.held) }
+            × IsSoundUnit self.now.opening now clock seat.new.known) }
         ensures cut { OnErr result (seat.new ≡ seat.old) }
     {
         gate.step()?;

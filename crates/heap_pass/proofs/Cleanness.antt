@@ -5,7 +5,7 @@ use Rattle.std.specs.List.{list_any}
 use Rattle.std.proofs.lemmas.List.Folds.{list_any-append}
 use Rattle.core_steps.proofs.Decisions.{both}
 use Rattle.mont_base.specs.Layout.{units_of}
-use Rattle.heap_rule.specs.declared.views.CallerHeld.{CallerHeld}
+use Rattle.heap_rule.specs.declared.views.CallerKnown.{CallerKnown}
 use Rattle.heap_rule.specs.Views.{is_among, are_clean, advancer_shown}
 use Rattle.heap.specs.HeapShown.{HeapShown, AdvShown}
 use Rattle.heap_pass.specs.OfHeap.{IsAdvancerOf}
@@ -21,12 +21,12 @@ are_clean-append (suc n) clean more all =
 
 -- an advancer of the heap is one still when it was shown what a caller has seen
 pub shown_advancer_of :
-    (heap : HeapShown) (a : AdvShown) (q : CallerHeld) → IsAdvancerOf heap a
-    → IsAdvancerOf heap (record { table = a.table; held = advancer_shown a.held q })
+    (heap : HeapShown) (a : AdvShown) (q : CallerKnown) → IsAdvancerOf heap a
+    → IsAdvancerOf heap (record { table = a.table; known = advancer_shown a.known q })
 shown_advancer_of heap a q fits = record {
   of_heap = record {
     of_table = fits.of_heap.of_table;
-    all_clean = are_clean-append (units_of heap.opening.layout) a.held.clean q.clean fits.of_heap.all_clean;
+    all_clean = are_clean-append (units_of heap.opening.layout) a.known.clean q.clean fits.of_heap.all_clean;
   };
   of_layout = record { units = fits.of_layout.units; room = fits.of_layout.room; lists = fits.of_layout.lists };
 }

@@ -9,4 +9,4 @@ StandLast all last = last ≡ drop (length all - length last) all
 
 -- it keeps them all
 abbrev pub IsWhole : CallerShown → List Receipt → Type 0
-IsWhole q kept = kept ≡ q.held.part.receipts
+IsWhole q kept = kept ≡ q.known.part.receipts

@@ -14,8 +14,8 @@ pub record IsOfHeap (heap : HeapShown) (table : TableId) (clean : List ℕ) : Ty
 
 -- The advancer is of the heap's layout too.
 pub record IsAdvancerOf (heap : HeapShown) (a : AdvShown) : Type 0 where
-  pub of_heap : IsOfHeap heap a.table a.held.clean
-  pub of_layout : IsOfLayout heap.opening.layout a.held
+  pub of_heap : IsOfHeap heap a.table a.known.clean
+  pub of_layout : IsOfLayout heap.opening.layout a.known
 
 -- ---- each of these has one proof at most
 pub IsOfHeap-prop : (heap : HeapShown) (table : TableId) (clean : List ℕ)

@@ -30,9 +30,9 @@ pub trait OfHeap {
 impl OfHeap for UnitSeat {
     ghost use Rattle.heap_pass.specs.OfHeap.{IsOfHeap, IsOfHeap-prop};
 
-    ghost fits = { λ heap s. IsOfHeap heap s.table s.held.clean };
+    ghost fits = { λ heap s. IsOfHeap heap s.table s.known.clean };
 
-    ghost fits_once = { λ heap s. IsOfHeap-prop heap s.table s.held.clean };
+    ghost fits_once = { λ heap s. IsOfHeap-prop heap s.table s.known.clean };
 }
 
 impl OfHeap for AdvSeat {
@@ -46,9 +46,9 @@ impl OfHeap for AdvSeat {
 impl OfHeap for Ticket {
     ghost use Rattle.heap_pass.specs.OfHeap.{IsOfHeap, IsOfHeap-prop};
 
-    ghost fits = { λ heap s. IsOfHeap heap s.table s.held.clean };
+    ghost fits = { λ heap s. IsOfHeap heap s.table s.known.clean };
 
-    ghost fits_once = { λ heap s. IsOfHeap-prop heap s.table s.held.clean };
+    ghost fits_once = { λ heap s. IsOfHeap-prop heap s.table s.known.clean };
 }
 
 /// A part that fits the heap that N names.

@@ -18,7 +18,7 @@ pub struct Pass<G: Gate> {
     pub ticket: Ticket,
     pub gate: G,
     pub receipts: Vec<Receipt>,
-    pub ghost kept: { StandLast ticket.held.part.receipts receipts.items },
+    pub ghost kept: { StandLast ticket.known.part.receipts receipts.items },
 }
 
 impl<G: Gate> Pass<G> {

@@ -2,7 +2,7 @@
 ghost use Rattle.std.specs.Prelude.{◌≡◌, ◌+◌, ◌≤◌, ◌||◌, [], true, not, IsTrue, OnErr, IfOk};
 ghost use Rattle.mont_base.specs.Layout.{units_of};
 ghost use Rattle.core_steps.specs.Advancing.{can_check};
-ghost use Rattle.core_steps.specs.Answering.{CanRead};
+ghost use Rattle.core_steps.specs.CallAnswers.{CanRead};
 ghost use Rattle.heap_rule.specs.Views.{are_clean};
 ghost use Rattle.heap_pass.specs.OfHeap.{IsAdvancerOf};
 ghost use Rattle.heap_pass.specs.Spare.{spare_of};
@@ -20,7 +20,7 @@ use std::test::Fail;
 struct Checker {
     seat: AdvSeat,
     rests: bool,
-    ghost stage: { (not rests || can_check seat.held.clock seat.held.part) ≡ true },
+    ghost stage: { (not rests || can_check seat.known.clock seat.known.part) ≡ true },
 }
 
 impl OfHeap for Checker {
@@ -77,10 +77,10 @@ fn read<G: Gate>(
 ) -> Result<Receipt, Cut>
     requires heap { seat.old.table ≡ heap.now.table }
     requires ticket { pass.old.ticket.table ≡ heap.now.table }
-    requires may { CanRead heap.now.opening.layout seat.old.held.unit seat.old.held.part
-        pass.old.ticket.held.part op.now reply.now }
+    requires may { CanRead heap.now.opening.layout seat.old.known.unit seat.old.known.part
+        pass.old.ticket.known.part op.now reply.now }
     requires clean { IsTrue (are_clean (units_of heap.now.opening.layout)
-        seat.old.held.clean) }
+        seat.old.known.clean) }
     requires room { 1 ≤ spare_of pass.old.receipts }
     ensures room { IfOk result (λ _. spare_of pass.new.receipts + 1
         ≡ spare_of pass.old.receipts) }
@@ -96,7 +96,7 @@ fn read<G: Gate>(
 fn see<G: Gate>(heap: &Heap, pass: &mut Pass<G>) -> Result<Epoch, Cut>
     requires { pass.old.ticket.table ≡ heap.now.table }
     ensures table { pass.new.ticket.table ≡ pass.old.ticket.table }
-    ensures clean { pass.new.ticket.held.clean ≡ pass.old.ticket.held.clean }
+    ensures clean { pass.new.ticket.known.clean ≡ pass.old.ticket.known.clean }
 {
     heap.seen_durable(&mut pass.ticket, &mut pass.gate)
 }
@@ -112,8 +112,8 @@ fn work<N: HeapName>(
     requires heap { heap.now ≡ N.heap }
     requires advancer { IsAdvancerOf N.heap advancer }
     requires ticket { ticket.table ≡ N.heap.table }
-    requires rests { IsTrue (can_check advancer.held.clock advancer.held.part) }
-    requires unanswered { ticket.held.part.receipts ≡ [] }
+    requires rests { IsTrue (can_check advancer.known.clock advancer.known.part) }
+    requires unanswered { ticket.known.part.receipts ≡ [] }
 {
     let mut pass = Pass::new(alloc, ticket, Fuel::new(2));
     pass.reserve()?;

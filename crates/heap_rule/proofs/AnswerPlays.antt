@@ -26,7 +26,7 @@ use Rattle.core_steps.specs.CallerClauses.{view_of}
 use Rattle.core_steps.specs.Clock.{clock, durable_clock}
 use Rattle.core_steps.specs.Stages.{is_within, is_announced, epoch_of}
 use Rattle.core_steps.specs.Announcing.{can_freeze, made_odd, after_freeze, caller_after_freeze, freeze}
-use Rattle.core_steps.specs.Answering.{CanLeave, CanRead, entry_of, after_answer, after_leave, after_read, leave, read}
+use Rattle.core_steps.specs.CallAnswers.{CanLeave, CanRead, entry_of, after_answer, after_leave, after_read, leave, read}
 use Rattle.core_steps.specs.Closing.{after_see_durable, see_durable}
 use Rattle.core_steps.specs.Flushing.{unit_list}
 use Rattle.core_steps.specs.Notes.{moment_of, left_within, histories_of}
@@ -37,9 +37,9 @@ use Rattle.core_steps.proofs.RowFacts.{row_from}
 use Rattle.core_steps.proofs.Rows.{row_here, row_else}
 use Rattle.core_steps.proofs.UnitLists.{listed_else, listed_there}
 use Rattle.heap_rule.specs.declared.rule.Opening.{Opening}
-use Rattle.heap_rule.specs.declared.views.CallerHeld.{CallerHeld}
+use Rattle.heap_rule.specs.declared.views.CallerKnown.{CallerKnown}
 use Rattle.heap_rule.specs.declared.views.LeftWithin.{LeftWithin}
-use Rattle.heap_rule.specs.declared.views.UnitHeld.{UnitHeld}
+use Rattle.heap_rule.specs.declared.views.UnitKnown.{UnitKnown}
 use Rattle.heap_rule.specs.declared.views.UnitTurn.{UnitTurn}
 use Rattle.heap_rule.specs.declared.views.View.{View}
 use Rattle.heap_rule.specs.Views.{Cell, listing, home_turn, caller_view, pair_view, are_clean, slots_written, odd_announcement, left_at, unit_left, unit_read, unit_frozen, caller_answered, caller_saw, caller_cut}
@@ -65,7 +65,7 @@ seen_set (m ∷ ms) (g ∷ gs) zero n h e = λ i. take_all n h (omega arith) i �
 seen_set (m ∷ ms) (g ∷ gs) (suc u) n h e = λ i. take m g ∷ seen_set ms gs u n h e i
 
 -- ---- a unit's part and turn and a caller's part change
-module _ (o : Opening) (s : State Cell View) (k : ShowsCore o s) (seat : ℕ) (h : UnitHeld) (q : CallerHeld)
+module _ (o : Opening) (s : State Cell View) (k : ShowsCore o s) (seat : ℕ) (h : UnitKnown) (q : CallerKnown)
     (f : FitsUnit k.board k.own seat h) (g : FitsCaller k.board k.own seat q) where
   abbrev pair_board : Core → UnitTurn → Board
   pair_board d w = record { core = d; turn = one_given k.board.turn h.unit w; full = k.board.full }
@@ -157,7 +157,7 @@ home_left r x epoch p e t stage epochs given =
     ap (λ (l : List ℕ). some (listing r l)) (listed_else x epoch p e epochs apart)
     ∙ sym (unit_home_else r x p t (in_other p.stage x within (λ z. apart (sym z ∙ own)))))
 
-pub leaves : (o : Opening) (slots seat : ℕ) (h : UnitHeld) (q : CallerHeld) (c : List (ℕ × Cell)) (op : Op) (reply : Reply)
+pub leaves : (o : Opening) (slots seat : ℕ) (h : UnitKnown) (q : CallerKnown) (c : List (ℕ × Cell)) (op : Op) (reply : Reply)
     → CanLeave o.layout h.unit h.part q.part op reply (epoch_of h.part.stage)
     → h.turn ≡ record { out = false; pushed = slots_written h.part }
     → Allows (ShowsCore o) slots seat (pair_view h q, c) (announcement_place o.layout h.unit) (λ _. 0)
@@ -228,7 +228,7 @@ leaves o slots seat h q c op reply may given s k long at small =
         let r = subst (StageFits b now passed) is fits in r.same before
 
 -- ---- Read
-pub reads : (o : Opening) (slots seat : ℕ) (h : UnitHeld) (q : CallerHeld) (c : List (ℕ × Cell)) (op : Op) (reply : Reply)
+pub reads : (o : Opening) (slots seat : ℕ) (h : UnitKnown) (q : CallerKnown) (c : List (ℕ × Cell)) (op : Op) (reply : Reply)
     → CanRead o.layout h.unit h.part q.part op reply → are_clean (units_of o.layout) h.clean ≡ true
     → Allows (ShowsCore o) slots seat (pair_view h q, c) 0 (λ n. n) (was_read o op reply (step slots 0 0 0 none) (pair_view h q, c))
 reads o slots seat h q c op reply may clean s k long at small =
@@ -318,7 +318,7 @@ left_by_cut units u k p at cut = by p.stage refl
         (left_row units u p at ∙ (λ i. Some (left_within (cut i) (is i)))) (All-nil (IsLeft units))
     by (Closing slot) is = All-nil (IsLeft units)
 
-pub freezes : (o : Opening) (slots seat : ℕ) (h : UnitHeld) (q : CallerHeld) (c : List (ℕ × Cell)) (value : ℕ) → can_freeze h.part ≡ true
+pub freezes : (o : Opening) (slots seat : ℕ) (h : UnitKnown) (q : CallerKnown) (c : List (ℕ × Cell)) (value : ℕ) → can_freeze h.part ≡ true
     → are_clean (units_of o.layout) h.clean ≡ true → value ≡ odd_announcement h.part.stage
     → Allows (ShowsCore o) slots seat (pair_view h q, c) (announcement_place o.layout h.unit) (λ _. value)
     (λ _ m. frozen (step slots (announcement_place o.layout h.unit) value 0 none) (pair_view h q, c) value m)
@@ -374,7 +374,7 @@ freezes o slots seat h q c value may clean odd s k long at small =
     )
 
 -- ---- a caller loads the durable clock
-pub sees_durable : (o : Opening) (slots seat : ℕ) (q : CallerHeld) (c : List (ℕ × Cell))
+pub sees_durable : (o : Opening) (slots seat : ℕ) (q : CallerKnown) (c : List (ℕ × Cell))
     → Allows (ShowsCore o) slots seat (caller_view q, c) (durable_place o.layout 0) (λ n. n)
     (saw_durable (step slots (durable_place o.layout 0) 0 0 none) (caller_view q, c))
 sees_durable o slots seat q c s k long at small =

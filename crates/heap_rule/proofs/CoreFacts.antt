@@ -25,9 +25,9 @@ use Rattle.core_steps.proofs.CallerFrames.{history_row}
 use Rattle.core_steps.proofs.Decisions.{both}
 use Rattle.core_steps.proofs.NoteLaws.{last_within, limit_reached}
 use Rattle.heap_rule.specs.declared.rule.Opening.{Opening}
-use Rattle.heap_rule.specs.declared.views.CallerHeld.{CallerHeld}
+use Rattle.heap_rule.specs.declared.views.CallerKnown.{CallerKnown}
 use Rattle.heap_rule.specs.declared.views.Learnt.{Learnt}
-use Rattle.heap_rule.specs.declared.views.UnitHeld.{UnitHeld}
+use Rattle.heap_rule.specs.declared.views.UnitKnown.{UnitKnown}
 use Rattle.heap_rule.specs.declared.views.View.{View}
 use Rattle.heap_rule.specs.Views.{Cell, is_among, are_clean}
 use Rattle.heap_rule.specs.TableWords.{laid_out, table_words, durable_place, announcement_place}
@@ -175,7 +175,7 @@ module _ (o : Opening) (s : State Cell View) (k : ShowsCore o s) where
       all_clean k.board.core.units (units_of o.layout) clean are all (k.sound.sizes.unit_count ∙ ap units_of k.layout)
 
   -- no front of a caller is beyond the unit's history, and what it keeps are the entries before its front
-  pub not_beyond : (h : UnitHeld) (q : CallerHeld) → slice_get k.board.core.units h.unit ≡ Some h.part
+  pub not_beyond : (h : UnitKnown) (q : CallerKnown) → slice_get k.board.core.units h.unit ≡ Some h.part
       → slice_get k.board.core.callers q.caller ≡ Some q.part
       → q.entries ≡ seen_in q.part.fronts (histories_of k.board.core.units) → IsNotBeyond q h
   not_beyond h q at there kept =

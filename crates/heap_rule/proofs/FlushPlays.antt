@@ -24,9 +24,9 @@ use Rattle.core_steps.proofs.NoteLaws.{limit_reached}
 use Rattle.core_steps.proofs.RowFacts.{item_at}
 use Rattle.core_steps.proofs.Rows.{first_set}
 use Rattle.heap_rule.specs.declared.rule.Opening.{Opening}
-use Rattle.heap_rule.specs.declared.views.AdvHeld.{AdvHeld}
+use Rattle.heap_rule.specs.declared.views.AdvKnown.{AdvKnown}
 use Rattle.heap_rule.specs.declared.views.FullTurn.{FullTurn}
-use Rattle.heap_rule.specs.declared.views.UnitHeld.{UnitHeld}
+use Rattle.heap_rule.specs.declared.views.UnitKnown.{UnitKnown}
 use Rattle.heap_rule.specs.SoundUnits.{IsSoundUnit}
 use Rattle.heap_rule.specs.declared.views.View.{View}
 use Rattle.heap_rule.specs.Views.{Cell, advancer_view, are_clean, home_turn, none_learnt, full_rest, list_at, joined, holding, place_at_hand, slot_at_hand, field_at_hand, word_in_hand, advancer_checked, advancer_loaded, advancer_persisted, advancer_set, advancer_rested}
@@ -55,12 +55,12 @@ advancer_moves own seat c d mine units turn callers layout = record {
   sweeps = subst (λ l. Sweeps c.core.units l) (sym units) (sweeps_itself c.core.units);
 }
 
-module _ (o : Opening) (s : State Cell View) (k : ShowsCore o s) (seat : ℕ) (a : AdvHeld) (f : FitsAdvancer k.board k.own seat a) where
+module _ (o : Opening) (s : State Cell View) (k : ShowsCore o s) (seat : ℕ) (a : AdvKnown) (f : FitsAdvancer k.board k.own seat a) where
   abbrev board_of : Core → FullTurn → Board
   board_of d full = record { core = d; turn = k.board.turn; full = full }
 
   -- the view at another part, and what goes with it
-  abbrev pub went : AdvPart → ℕ → ℕ → List ℕ → List (List ℕ) → FullTurn → ℕ → ℕ → AdvHeld
+  abbrev pub went : AdvPart → ℕ → ℕ → List ℕ → List (List ℕ) → FullTurn → ℕ → ℕ → AdvKnown
   went part now durable odd lists turn n l = record a {
     part = part;
     clock = now;
@@ -72,7 +72,7 @@ module _ (o : Opening) (s : State Cell View) (k : ShowsCore o s) (seat : ℕ) (a
     loaded = l;
   }
 
-  advancer_fits : (d : Core) (w : AdvHeld) → Reached o k.states k.board.core d → d.units ≡ k.board.core.units
+  advancer_fits : (d : Core) (w : AdvKnown) → Reached o k.states k.board.core d → d.units ≡ k.board.core.units
       → d.layout ≡ k.board.core.layout
       → d.advancer ≡ w.part → clock d ≡ w.clock → durable_clock d ≡ w.durable → d.odd ≡ w.odd → length w.lists ≡ length a.lists
       → AreLists d w.lists → w.units ≡ a.units → w.room ≡ a.room → w.learnt ≡ a.learnt → w.clean ≡ a.clean
@@ -110,12 +110,12 @@ none_at_check units (Holding d g v) wait rest = none_moving units (Holding d g v
 none_at_check units Clocked wait rest = none_moving units Clocked wait (λ e. absurd (cc))
 
 -- the list of a unit by its part
-list_known : (o : Opening) (s : State Cell View) (k : ShowsCore o s) (a : AdvHeld) (u : ℕ) (p : UnitPart)
+list_known : (o : Opening) (s : State Cell View) (k : ShowsCore o s) (a : AdvKnown) (u : ℕ) (p : UnitPart)
     → slice_get k.board.core.units u ≡ Some p → u ≡ unit_at_hand a.part → clock k.board.core ≡ a.clock
     → IsListOf o a.clock (unit_at_hand a.part) (unit_list (clock k.board.core - 1) p)
 list_known o s k a u p at hand now =
     let core = k.board.core in
-    let h : UnitHeld = record {
+    let h : UnitKnown = record {
       unit = u;
       room = a.room;
       part = p;
@@ -133,7 +133,7 @@ list_known o s k a u p at hand now =
       is = ap (λ (x : ℕ). unit_list (x - 1) p) now;
     }
 
-pub checks : (o : Opening) (slots seat : ℕ) (a : AdvHeld) (c : List (ℕ × Cell)) → can_check a.clock a.part ≡ true
+pub checks : (o : Opening) (slots seat : ℕ) (a : AdvKnown) (c : List (ℕ × Cell)) → can_check a.clock a.part ≡ true
     → (a.part ≡ Rest → are_clean (units_of o.layout) a.clean ≡ true) → unit_at_hand a.part < a.units
     → Allows (ShowsCore o) slots seat (advancer_view a, c) (announcement_place o.layout (unit_at_hand a.part)) (λ n. n)
     (checked o (step slots (announcement_place o.layout (unit_at_hand a.part)) 0 0 none) (advancer_view a, c))
@@ -158,7 +158,7 @@ checks o slots seat a c may rest inside s k long at small =
     let r : Reached o k.states core d = goes o s k d events.Check
     (none_at_check core.units core.advancer k.sound.lost (λ e. none_clean o s k a.clean f.clean (rest (sym f.part ∙ e))), can)
     (ap (check core) found) in
-    let w : AdvHeld = advancer_checked a x list in (
+    let w : AdvKnown = advancer_checked a x list in (
       advancer_view w,
       keeps,
       tt,
@@ -175,7 +175,10 @@ checks o slots seat a c may rest inside s k long at small =
           ap (λ (z : ℕ × ℕ). list_at (cond (lets_pass z.0 x) (set a.lists z.1 list) a.lists) u) (λ i. (sym f.clock_is i, sym there i))
           ∙ lists_after_check core a.lists x one.0 can one.1 (omega arith) f.lists u q is passed)
           refl refl refl refl),
-      ((list, refl, list_known o s k a j one.0 one.1 there f.clock_is), subst IsAnnouncement (sym (found ∙ word)) (announces o s k j one.0 one.1)),
+      (
+        (list, refl, list_known o s k a j one.0 one.1 there f.clock_is),
+        subst IsAnnouncement (sym (found ∙ word)) (announces o s k j one.0 one.1),
+      ),
     )
 
 -- ---- LoadWord and PersistWord
@@ -252,7 +255,7 @@ below_all : (u n m : ℕ) → u < m → m ≡ n → u < n
 below_all u n m l e = omega arith
 
 -- the word at hand is loaded
-pub loads_word : (o : Opening) (slots seat : ℕ) (a : AdvHeld) (c : List (ℕ × Cell))
+pub loads_word : (o : Opening) (slots seat : ℕ) (a : AdvKnown) (c : List (ℕ × Cell))
     → can_load_word (length (joined a.lists)) a.part ≡ true → slot_at_hand a < total_of o.layout → field_at_hand a.part < FIELDS
     → Allows (ShowsCore o) slots seat (advancer_view a, c) (word_of (slot_at_hand a) (field_at_hand a.part)) (λ n. n)
     (loaded_word (step slots (word_of (slot_at_hand a) (field_at_hand a.part)) 0 0 none) (advancer_view a, c))
@@ -277,7 +280,7 @@ loads_word o slots seat a c may inside low s k long at small =
     let part : d.advancer ≡ holding a.part x =
     (λ i. after_load_word (sym same i) core.cur (f.part i))
     ∙ holding_found (joined a.lists) core.cur (length (joined a.lists)) x a.part may found in
-    let w : AdvHeld = advancer_loaded a x in (
+    let w : AdvKnown = advancer_loaded a x in (
       advancer_view w,
       keeps,
       tt,
@@ -314,7 +317,7 @@ place_below cur dur slots (Flushing d g) may f = absurd (cc)
 place_below cur dur slots (Holding d g v) may f = f.inside
 place_below cur dur slots Clocked may f = absurd (cc)
 
-pub persists_word : (o : Opening) (slots seat : ℕ) (a : AdvHeld) (c : List (ℕ × Cell)) → can_persist_word a.part ≡ true
+pub persists_word : (o : Opening) (slots seat : ℕ) (a : AdvKnown) (c : List (ℕ × Cell)) → can_persist_word a.part ≡ true
     → slot_at_hand a < total_of o.layout → field_at_hand a.part < FIELDS
     → Allows (ShowsCore o) slots seat (advancer_view a, c) (durable_place o.layout (word_of (slot_at_hand a) (field_at_hand a.part)))
     (λ _. word_in_hand a.part)
@@ -342,7 +345,7 @@ persists_word o slots seat a c may inside low s k long at small =
     let inside_list = place_below core.cur core.dur (flush_list core) core.advancer (ap can_persist_word f.part ∙ may) k.sound.flush in
     let few = all_few (clock core - 1) core.layout.slots core.units (λ u q is. lists_few o s k u q is (clock core - 1)) in
     let listed : place_at_hand core.advancer < length core.units * core.layout.slots = omega arith in
-    let w : AdvHeld = advancer_persisted a in (
+    let w : AdvKnown = advancer_persisted a in (
       advancer_view w,
       keeps,
       tt,
@@ -374,7 +377,7 @@ under_way n now durable Clocked may c = absurd (cc)
 next_is : (now : ℕ) → now < LAST → next_clock now ≡ now + 1
 next_is now l = omega arith
 
-pub sets_clock : (o : Opening) (slots seat : ℕ) (a : AdvHeld) (c : List (ℕ × Cell)) → is_flushed (length (joined a.lists)) a.part ≡ true
+pub sets_clock : (o : Opening) (slots seat : ℕ) (a : AdvKnown) (c : List (ℕ × Cell)) → is_flushed (length (joined a.lists)) a.part ≡ true
     → a.turn ≡ record { emptied = a.units; out = false }
     → Allows (ShowsCore o) slots seat (advancer_view a, c) 0 (λ _. a.clock + 1)
     (λ _ m. clock_was_set (step slots 0 (a.clock + 1) 0 none) (advancer_view a, c) (a.clock + 1) m)
@@ -397,7 +400,7 @@ sets_clock o slots seat a c may empty s k long at small =
     let size = k.sound.sizes.current in
     let later : clock d ≡ now + 1 = first_set core.cur (next_clock now) 0 (omega arith) ∙ next_is now last in
     let high : a.clock < LAST = subst (λ (x : ℕ). x < LAST) f.clock_is last in
-    let w : AdvHeld = advancer_set a in (
+    let w : AdvKnown = advancer_set a in (
       advancer_view w,
       keeps,
       tt,
@@ -434,7 +437,7 @@ clock_ahead now durable (Flushing d g) may c = absurd (cc)
 clock_ahead now durable (Holding d g v) may c = absurd (cc)
 clock_ahead now durable Clocked may c = c
 
-is_ahead : (o : Opening) (now durable : ℕ) (a : AdvHeld) → now ≡ a.clock → durable ≡ a.durable → durable + 1 ≡ now → 2 ≤ durable
+is_ahead : (o : Opening) (now durable : ℕ) (a : AdvKnown) → now ≡ a.clock → durable ≡ a.durable → durable + 1 ≡ now → 2 ≤ durable
     → clock_of o.words ≤ durable → now ≤ LAST → a.learnt.newest ≤ now → a.learnt.durable ≤ durable → IsAhead o a
 is_ahead o now durable a clock_is durable_is next low begun last newest known = record {
   low = omega arith;
@@ -445,7 +448,7 @@ is_ahead o now durable a clock_is durable_is next low begun last newest known = 
   ahead = omega arith;
 }
 
-pub persists_clock : (o : Opening) (slots seat : ℕ) (a : AdvHeld) (c : List (ℕ × Cell)) → is_clocked a.part ≡ true
+pub persists_clock : (o : Opening) (slots seat : ℕ) (a : AdvKnown) (c : List (ℕ × Cell)) → is_clocked a.part ≡ true
     → Allows (ShowsCore o) slots seat (advancer_view a, c) (durable_place o.layout 0) (λ _. a.clock)
     (λ _ m. persisted_clock o (step slots (durable_place o.layout 0) a.clock 0 none) (advancer_view a, c) a.clock m)
 persists_clock o slots seat a c may s k long at small =
@@ -457,7 +460,7 @@ persists_clock o slots seat a c may s k long at small =
     (none_moving core.units core.advancer k.sound.lost (λ e. moving_clock a.part may (sym f.part ∙ e)), clocked) refl in
     let size = k.sound.sizes.durable in
     let later : durable_clock d ≡ clock core = first_set core.dur (clock core) 0 (omega arith) in
-    let w : AdvHeld = advancer_rested a in (
+    let w : AdvKnown = advancer_rested a in (
       advancer_view w,
       keeps,
       tt,

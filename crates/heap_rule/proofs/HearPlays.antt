@@ -22,10 +22,10 @@ use Rattle.core_steps.proofs.RowFacts.{row_from}
 use Rattle.core_steps.proofs.Rows.{row_here, row_else, row_same}
 use Rattle.core_steps.proofs.SplitLaws.{split_is_true}
 use Rattle.heap_rule.specs.declared.rule.Opening.{Opening}
-use Rattle.heap_rule.specs.declared.views.AdvHeld.{AdvHeld}
-use Rattle.heap_rule.specs.declared.views.CallerHeld.{CallerHeld}
-use Rattle.heap_rule.specs.declared.views.NoteHeld.{NoteHeld}
-use Rattle.heap_rule.specs.declared.views.UnitHeld.{UnitHeld}
+use Rattle.heap_rule.specs.declared.views.AdvKnown.{AdvKnown}
+use Rattle.heap_rule.specs.declared.views.CallerKnown.{CallerKnown}
+use Rattle.heap_rule.specs.declared.views.NoteKnown.{NoteKnown}
+use Rattle.heap_rule.specs.declared.views.UnitKnown.{UnitKnown}
 use Rattle.heap_rule.specs.declared.views.View.{View}
 use Rattle.heap_rule.specs.Views.{Cell, pair_view, note_of_unit, note_of_advancer, longer, longer_each, caller_heard}
 use Rattle.heap_rule.specs.Rule.{Owners, Board, seen_in, FitsUnit, FitsAdvancer, FitsCaller, FitsNote, ShowsCore}
@@ -89,10 +89,10 @@ seen_none (suc n) [] e = absurd (omega arith)
 seen_none (suc n) (h ∷ hs) e = λ i. [] ∷ seen_none n hs (omega arith) i
 
 -- ---- a caller takes a note
-abbrev pub heard_board : Board → CallerHeld → NoteHeld → Board
+abbrev pub heard_board : Board → CallerKnown → NoteKnown → Board
 heard_board b q n = record { core = hear b.core q.caller q.part n.note; turn = b.turn; full = b.full }
 
-module _ (o : Opening) (s : State Cell View) (k : ShowsCore o s) (at : ℕ) (q : CallerHeld) (n : NoteHeld)
+module _ (o : Opening) (s : State Cell View) (k : ShowsCore o s) (at : ℕ) (q : CallerKnown) (n : NoteKnown)
     (g : FitsCaller k.board k.own at q) (f : FitsNote k.board n) where
   pub heard : Reached o k.states k.board.core (hear k.board.core q.caller q.part n.note)
   heard = goes o s k (hear k.board.core q.caller q.part n.note) (events.Join (parts.Caller q.caller) n.note)
@@ -134,8 +134,8 @@ module _ (o : Opening) (s : State Cell View) (k : ShowsCore o s) (at : ℕ) (q :
       }
 
 -- what else there is fits as before
-module _ (b : Board) (own : Owners) (seat : ℕ) (q : CallerHeld) (n : NoteHeld) where
-  pub unit_heard : (h : UnitHeld) → FitsUnit b own seat h → FitsUnit (heard_board b q n) own seat h
+module _ (b : Board) (own : Owners) (seat : ℕ) (q : CallerKnown) (n : NoteKnown) where
+  pub unit_heard : (h : UnitKnown) → FitsUnit b own seat h → FitsUnit (heard_board b q n) own seat h
   unit_heard h x = record {
     mine = x.mine;
     part = x.part;
@@ -145,7 +145,7 @@ module _ (b : Board) (own : Owners) (seat : ℕ) (q : CallerHeld) (n : NoteHeld)
     clean = x.clean;
   }
 
-  pub advancer_heard : (a : AdvHeld) → FitsAdvancer b own seat a → FitsAdvancer (heard_board b q n) own seat a
+  pub advancer_heard : (a : AdvKnown) → FitsAdvancer b own seat a → FitsAdvancer (heard_board b q n) own seat a
   advancer_heard a x = record {
     mine = x.mine;
     part = x.part;
@@ -163,7 +163,7 @@ module _ (b : Board) (own : Owners) (seat : ℕ) (q : CallerHeld) (n : NoteHeld)
 
 -- ---- what a unit and the advancer show is true
 module _ (o : Opening) (s : State Cell View) (k : ShowsCore o s) (own : Owners) (seat n : ℕ) (count : length k.board.core.units ≡ n) where
-  pub unit_shows : (h : UnitHeld) → FitsUnit k.board own seat h → FitsNote k.board (note_of_unit n h)
+  pub unit_shows : (h : UnitKnown) → FitsUnit k.board own seat h → FitsNote k.board (note_of_unit n h)
   unit_shows h f =
       let core = k.board.core in
       let hs = histories_of core.units in
@@ -180,7 +180,7 @@ module _ (o : Opening) (s : State Cell View) (k : ShowsCore o s) (own : Owners) 
         clean = f.clean;
       }
 
-  pub advancer_shows : (a : AdvHeld) → FitsAdvancer k.board own seat a → FitsNote k.board (note_of_advancer n a)
+  pub advancer_shows : (a : AdvKnown) → FitsAdvancer k.board own seat a → FitsNote k.board (note_of_advancer n a)
   advancer_shows a f =
       let core = k.board.core in
       record {
@@ -192,7 +192,7 @@ module _ (o : Opening) (s : State Cell View) (k : ShowsCore o s) (own : Owners) 
       }
 
 -- as many fronts as units
-pub fronts_count : (o : Opening) (s : State Cell View) (k : ShowsCore o s) (own : Owners) (at : ℕ) (q : CallerHeld)
+pub fronts_count : (o : Opening) (s : State Cell View) (k : ShowsCore o s) (own : Owners) (at : ℕ) (q : CallerKnown)
     → FitsCaller k.board own at q
     → length k.board.core.units ≡ length q.part.fronts
 fronts_count o s k own at q g =
@@ -200,7 +200,7 @@ fronts_count o s k own at q g =
 
 -- ---- a load by which it takes a note of the unit
 -- behind it, the caller has seen all
-seen_all : (hs : List (List Entry)) (h : UnitHeld) (q r : CallerHeld) → slice_get hs h.unit ≡ Some h.part.history
+seen_all : (hs : List (List Entry)) (h : UnitKnown) (q r : CallerKnown) → slice_get hs h.unit ≡ Some h.part.history
     → h.unit < length q.part.fronts → IsNotBeyond q h
     → r.part.fronts ≡ greater_fronts q.part.fronts (set (replicate (length q.part.fronts) 0) h.unit (length h.part.history))
     → r.entries ≡ seen_in r.part.fronts hs → HasSeenAll r h
@@ -216,7 +216,7 @@ seen_all hs h q r there inside low fronts entries =
           ∙ (seen_at r.part.fronts hs u n h.part.history front there ∙ ap Some (take_all n h.part.history (omega arith)));
     }
 
-pub hears : (o : Opening) (slots seat : ℕ) (h : UnitHeld) (q : CallerHeld) (c : List (ℕ × Cell))
+pub hears : (o : Opening) (slots seat : ℕ) (h : UnitKnown) (q : CallerKnown) (c : List (ℕ × Cell))
     → Allows (ShowsCore o) slots seat (pair_view h q, c) 0 (λ n. n) (was_heard o (step slots 0 0 0 none) (pair_view h q, c))
 hears o slots seat h q c s k long at small =
     let view = k.views seat (pair_view h q) at in
@@ -225,7 +225,7 @@ hears o slots seat h q c s k long at small =
     let core = k.board.core in
     let hs = histories_of core.units in
     let count = fronts_count o s k k.own seat q g in
-    let n : NoteHeld = note_of_unit (length q.part.fronts) h in
+    let n : NoteKnown = note_of_unit (length q.part.fronts) h in
     let note = unit_shows o s k k.own seat (length q.part.fronts) count h f in
     let fits = caller_fits o s k seat q n g note k.own seat g.mine in
     let there : slice_get hs h.unit ≡ Some h.part.history = history_row core.units h.unit h.part f.part in

@@ -18,9 +18,9 @@ use Rattle.core_steps.specs.Flushing.{unit_list}
 use Rattle.core_steps.specs.Sound.{StageFits, IsRegistered}
 use Rattle.core_steps.proofs.RowFacts.{item_at, same_item}
 use Rattle.heap_rule.specs.declared.rule.Opening.{Opening}
-use Rattle.heap_rule.specs.declared.views.AdvHeld.{AdvHeld}
+use Rattle.heap_rule.specs.declared.views.AdvKnown.{AdvKnown}
 use Rattle.heap_rule.specs.declared.views.FullTurn.{FullTurn}
-use Rattle.heap_rule.specs.declared.views.UnitHeld.{UnitHeld}
+use Rattle.heap_rule.specs.declared.views.UnitKnown.{UnitKnown}
 use Rattle.heap_rule.specs.declared.views.UnitTurn.{UnitTurn}
 use Rattle.heap_rule.specs.declared.views.View.{View}
 use Rattle.heap_rule.specs.Views.{Cell, listing, list_place, listed_in, slots_written, unit_view, advancer_view, list_at, unit_took, unit_gave, advancer_took, advancer_gave}
@@ -101,7 +101,7 @@ module _ (o : Opening) (s : State Cell View) (k : ShowsCore o s) where
     sweeps = sweeps_itself k.board.core.units;
   }
 
-  unit_turned : (seat : ℕ) (h : UnitHeld) (w : UnitTurn) → FitsUnit k.board k.own seat h
+  unit_turned : (seat : ℕ) (h : UnitKnown) (w : UnitTurn) → FitsUnit k.board k.own seat h
       → FitsView (record { core = k.board.core; turn = one_given k.board.turn h.unit w; full = k.board.full }) k.own seat
       (unit_view (record h { turn = w }))
   unit_turned seat h w f = record {
@@ -121,7 +121,7 @@ module _ (o : Opening) (s : State Cell View) (k : ShowsCore o s) where
     notes = tt;
   }
 
-pub takes_list : (o : Opening) (slots seat : ℕ) (h : UnitHeld) (c : List (ℕ × Cell)) → is_within h.part.stage ≡ true → h.turn.out ≡ false
+pub takes_list : (o : Opening) (slots seat : ℕ) (h : UnitKnown) (c : List (ℕ × Cell)) → is_within h.part.stage ≡ true → h.turn.out ≡ false
     → Allows (ShowsCore o) slots seat (unit_view h, c) 0 (λ n. n) (took_list (step slots 0 0 0 none) (unit_view h, c))
 takes_list o slots seat h c within home s k long at small =
     let f = (k.views seat (unit_view h) at).units.0 in
@@ -141,7 +141,7 @@ takes_list o slots seat h c within home s k long at small =
       (refl, has_room o s k h.unit h.part f.part h.room f.room),
     )
 
-pub gives_list : (o : Opening) (slots seat : ℕ) (h : UnitHeld) (c : List (ℕ × Cell)) (l : Roomy) → is_within h.part.stage ≡ true
+pub gives_list : (o : Opening) (slots seat : ℕ) (h : UnitKnown) (c : List (ℕ × Cell)) (l : Roomy) → is_within h.part.stage ≡ true
     → l ≡ record { slots = listed_in h ++ slots_written h.part; room = h.room }
     → Allows (ShowsCore o) slots seat (unit_view h, (list_place h.unit (epoch_of h.part.stage), Some l) ∷ c) 0 (λ n. n)
     (gave_list (step slots 0 0 0 none) (unit_view h, (list_place h.unit (epoch_of h.part.stage), Some l) ∷ c))
@@ -184,7 +184,7 @@ module _ (o : Opening) (s : State Cell View) (k : ShowsCore o s) where
       (λ apart. subst (λ (z : Full). HomesFit room (clock core) r (k.board.turn v) z (set s.homes i x) v) (sym (else_same v apart))
       (else_moves room (clock core) r (k.board.turn v) (full_at k.board.full v) s.homes u v (clock core + 1) x apart (k.homes v r h)))
 
-  full_turned : (seat : ℕ) (a : AdvHeld) (g : FullTurn) → FitsAdvancer k.board k.own seat a
+  full_turned : (seat : ℕ) (a : AdvKnown) (g : FullTurn) → FitsAdvancer k.board k.own seat a
       → FitsView (record { core = k.board.core; turn = k.board.turn; full = g }) k.own seat (advancer_view (record a { turn = g }))
   full_turned seat a g f = record {
     units = tt;
@@ -209,7 +209,7 @@ module _ (o : Opening) (s : State Cell View) (k : ShowsCore o s) where
     notes = tt;
   }
 
-pub takes_full : (o : Opening) (slots seat : ℕ) (a : AdvHeld) (c : List (ℕ × Cell)) → a.turn.emptied < a.units
+pub takes_full : (o : Opening) (slots seat : ℕ) (a : AdvKnown) (c : List (ℕ × Cell)) → a.turn.emptied < a.units
     → a.turn.emptied < passed_of a.units a.part → a.turn.out ≡ false
     → Allows (ShowsCore o) slots seat (advancer_view a, c) 0 (λ n. n) (took_full (step slots 0 0 0 none) (advancer_view a, c))
 takes_full o slots seat a c inside may home s k long at small =
@@ -256,7 +256,7 @@ takes_full o slots seat a c inside may home s k long at small =
       ),
     )
 
-pub gives_empty : (o : Opening) (slots seat : ℕ) (a : AdvHeld) (c : List (ℕ × Cell)) → a.turn.emptied < a.units → a.turn.out ≡ true
+pub gives_empty : (o : Opening) (slots seat : ℕ) (a : AdvKnown) (c : List (ℕ × Cell)) → a.turn.emptied < a.units → a.turn.out ≡ true
     → Allows (ShowsCore o) slots seat (advancer_view a, (list_place a.turn.emptied (a.clock + 1), listing a.room []) ∷ c) 0 (λ n. n)
     (gave_empty (step slots 0 0 0 none) (advancer_view a, (list_place a.turn.emptied (a.clock + 1), listing a.room []) ∷ c))
 gives_empty o slots seat a c inside away s k long at small =

@@ -25,10 +25,10 @@ use Rattle.core_steps.proofs.GrowthSteps.{steps_grow}
 use Rattle.core_steps.proofs.NoteLaws.{note_lasts}
 use Rattle.core_steps.proofs.Steps.{allowed_law}
 use Rattle.heap_rule.specs.declared.rule.Opening.{Opening}
-use Rattle.heap_rule.specs.declared.views.AdvHeld.{AdvHeld}
-use Rattle.heap_rule.specs.declared.views.CallerHeld.{CallerHeld}
-use Rattle.heap_rule.specs.declared.views.NoteHeld.{NoteHeld}
-use Rattle.heap_rule.specs.declared.views.UnitHeld.{UnitHeld}
+use Rattle.heap_rule.specs.declared.views.AdvKnown.{AdvKnown}
+use Rattle.heap_rule.specs.declared.views.CallerKnown.{CallerKnown}
+use Rattle.heap_rule.specs.declared.views.NoteKnown.{NoteKnown}
+use Rattle.heap_rule.specs.declared.views.UnitKnown.{UnitKnown}
 use Rattle.heap_rule.specs.declared.views.View.{View}
 use Rattle.heap_rule.specs.Views.{Cell, nothing}
 use Rattle.heap_rule.specs.TableWords.{table_words}
@@ -112,7 +112,7 @@ moves_none own mine c = record {
 
 module _ (own : Owners) (mine : ℕ → Type 0) (c d : Board) (m : Moves own mine c d)
     (g : Grows (moment_of c.core) (moment_of d.core)) where
-  unit_still : (j : ℕ) → (mine j → ⊥) → (h : UnitHeld) → FitsUnit c own j h → FitsUnit d own j h
+  unit_still : (j : ℕ) → (mine j → ⊥) → (h : UnitKnown) → FitsUnit c own j h → FitsUnit d own j h
   unit_still j off h f =
       let same = m.units h.unit (λ x. off (subst mine f.mine x)) in
       record {
@@ -124,7 +124,7 @@ module _ (own : Owners) (mine : ℕ → Type 0) (c d : Board) (m : Moves own min
         clean = clean_still c.core.units d.core.units h.clean m.sweeps f.clean;
       }
 
-  advancer_still : (j : ℕ) → (mine j → ⊥) → (a : AdvHeld) → FitsAdvancer c own j a → FitsAdvancer d own j a
+  advancer_still : (j : ℕ) → (mine j → ⊥) → (a : AdvKnown) → FitsAdvancer c own j a → FitsAdvancer d own j a
   advancer_still j off a f =
       let same = m.advancer (λ x. off (subst mine f.mine x)) in
       record {
@@ -145,7 +145,7 @@ module _ (own : Owners) (mine : ℕ → Type 0) (c d : Board) (m : Moves own min
         clean = clean_still c.core.units d.core.units a.clean m.sweeps f.clean;
       }
 
-  caller_still : (states : List Contents) (now : ℕ) → IsSound (opened_at now states) c.core → (j : ℕ) → (mine j → ⊥) → (q : CallerHeld)
+  caller_still : (states : List Contents) (now : ℕ) → IsSound (opened_at now states) c.core → (j : ℕ) → (mine j → ⊥) → (q : CallerKnown)
       → FitsCaller c own j q → FitsCaller d own j q
   caller_still states now sound j off q f = record {
     mine = f.mine;
@@ -156,7 +156,7 @@ module _ (own : Owners) (mine : ℕ → Type 0) (c d : Board) (m : Moves own min
     clean = clean_still c.core.units d.core.units q.clean m.sweeps f.clean;
   }
 
-  pub note_still : (n : NoteHeld) → FitsNote c n → FitsNote d n
+  pub note_still : (n : NoteKnown) → FitsNote c n → FitsNote d n
   note_still n f = record {
     is_true = note_lasts (moment_of c.core) (moment_of d.core) n.note g f.is_true;
     entries = entries_still (moment_of c.core) (moment_of d.core) (seen_by_note n.note) n.entries g f.is_true.fits f.entries;
@@ -236,11 +236,11 @@ pub record Hands (gone : ℕ) (own now : Owners) : Type 0 where
   pub caller : (k : ℕ) → own.caller k ≢ gone → now.caller k ≡ own.caller k
 
 module _ (b : Board) (own now : Owners) (j i : ℕ) where
-  pub unit_handed : (h : UnitHeld) → now.unit h.unit ≡ i → FitsUnit b own j h → FitsUnit b now i h
+  pub unit_handed : (h : UnitKnown) → now.unit h.unit ≡ i → FitsUnit b own j h → FitsUnit b now i h
   unit_handed h is f =
       record { mine = is; part = f.part; turn = f.turn; room = f.room; learnt = f.learnt; clean = f.clean }
 
-  pub advancer_handed : (a : AdvHeld) → now.advancer ≡ i → FitsAdvancer b own j a → FitsAdvancer b now i a
+  pub advancer_handed : (a : AdvKnown) → now.advancer ≡ i → FitsAdvancer b own j a → FitsAdvancer b now i a
   advancer_handed a is f = record {
     mine = is;
     part = f.part;
@@ -256,7 +256,7 @@ module _ (b : Board) (own now : Owners) (j i : ℕ) where
     clean = f.clean;
   }
 
-  pub caller_handed : (q : CallerHeld) → now.caller q.caller ≡ i → FitsCaller b own j q → FitsCaller b now i q
+  pub caller_handed : (q : CallerKnown) → now.caller q.caller ≡ i → FitsCaller b own j q → FitsCaller b now i q
   caller_handed q is f = record { mine = is; part = f.part; entries = f.entries; left = f.left; clean = f.clean }
 
 -- the view of another seat fits

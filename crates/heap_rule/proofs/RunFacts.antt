@@ -22,7 +22,7 @@ use Rattle.core_steps.specs.Clock.{clock, durable_clock}
 use Rattle.core_steps.specs.Stages.{Phase, Resting, UnderWay, Ahead, phase_of, epoch_of, is_unfrozen, is_idle, is_told}
 use Rattle.core_steps.specs.Announcing.{can_tell, after_tell, confirmed, after_confirm, after_withdraw, after_freeze, tell, confirm, withdraw, freeze}
 use Rattle.core_steps.specs.Storing.{after_store, store}
-use Rattle.core_steps.specs.Answering.{entry_of, after_leave, after_read, leave, read}
+use Rattle.core_steps.specs.CallAnswers.{entry_of, after_leave, after_read, leave, read}
 use Rattle.core_steps.specs.Closing.{after_load_durable, load_durable, see_durable, after_close_label, close_label, after_persist_close, persist_close}
 use Rattle.core_steps.specs.Notes.{hear}
 use Rattle.core_steps.specs.Events.{IsAllowed, closing_of, after}
@@ -37,7 +37,7 @@ use Rattle.core_steps.proofs.Rows.{each_set}
 use Rattle.core_steps.proofs.StartLaws.{recovered_cores_are_sound}
 use Rattle.core_steps.proofs.Steps.{allowed_law}
 use Rattle.heap_rule.specs.declared.rule.Opening.{Opening}
-use Rattle.heap_rule.specs.declared.views.UnitHeld.{UnitHeld}
+use Rattle.heap_rule.specs.declared.views.UnitKnown.{UnitKnown}
 use Rattle.heap_rule.specs.declared.views.View.{View}
 use Rattle.heap_rule.specs.Views.{Cell}
 use Rattle.heap_rule.specs.Rule.{IsRun, ShowsCore, AreClean}
@@ -69,7 +69,7 @@ clocks_near Ahead now durable h = omega arith
 
 -- what is told of a unit after a step
 pub unit_sound : (o : Opening) (s : State Cell View) (k : ShowsCore o s) (d : Core) → Reached o k.states k.board.core d
-    → d.layout ≡ k.board.core.layout → (h : UnitHeld) → slice_get d.units h.unit ≡ Some h.part → AreClean d.units h.clean
+    → d.layout ≡ k.board.core.layout → (h : UnitKnown) → slice_get d.units h.unit ≡ Some h.part → AreClean d.units h.clean
     → IsSoundUnit o (clock d) (durable_clock d) h
 unit_sound o s k d r same h at clean =
     let clocks = r.sound.clocks in

@@ -13,11 +13,11 @@ use Rattle.core_steps.specs.Notes.{caller_note}
 use Rattle.core_steps.specs.Opened.{opened_at}
 use Rattle.core_steps.proofs.SplitLaws.{split_is_true}
 use Rattle.heap_rule.specs.declared.rule.Opening.{Opening}
-use Rattle.heap_rule.specs.declared.views.AdvHeld.{AdvHeld}
-use Rattle.heap_rule.specs.declared.views.CallerHeld.{CallerHeld}
+use Rattle.heap_rule.specs.declared.views.AdvKnown.{AdvKnown}
+use Rattle.heap_rule.specs.declared.views.CallerKnown.{CallerKnown}
 use Rattle.heap_rule.specs.declared.views.Learnt.{Learnt}
-use Rattle.heap_rule.specs.declared.views.NoteHeld.{NoteHeld}
-use Rattle.heap_rule.specs.declared.views.UnitHeld.{UnitHeld}
+use Rattle.heap_rule.specs.declared.views.NoteKnown.{NoteKnown}
+use Rattle.heap_rule.specs.declared.views.UnitKnown.{UnitKnown}
 use Rattle.heap_rule.specs.declared.views.View.{View}
 use Rattle.heap_rule.specs.Views.{Cell, nothing, unit_view, advancer_view, caller_view, note_view, pair_view, heard_view, note_of_advancer, note_of_caller, caller_heard, learnt_more, unit_shown, advancer_shown, without_callers, only_callers, with_units, with_callers, copied_caller, shown_caller, heard_advancer, heard_note}
 use Rattle.heap_rule.specs.Rule.{Each, Owners, Board, IsLearnt, FitsUnit, FitsAdvancer, FitsCaller, FitsNote, FitsView, ShowsCore}
@@ -113,9 +113,9 @@ splits_callers o seat v s k at =
     })
 
 -- the first unit does, where no other has its number
-pub splits_unit : (o : Opening) (seat : ℕ) (h : UnitHeld) (hs : List UnitHeld) (as_ : List AdvHeld) (qs : List CallerHeld)
-    (ns : List NoteHeld)
-    → Each (λ (r : UnitHeld). r.unit ≢ h.unit) hs
+pub splits_unit : (o : Opening) (seat : ℕ) (h : UnitKnown) (hs : List UnitKnown) (as_ : List AdvKnown) (qs : List CallerKnown)
+    (ns : List NoteKnown)
+    → Each (λ (r : UnitKnown). r.unit ≢ h.unit) hs
     → Splits (ShowsCore o) seat (record { units = h ∷ hs; advancers = as_; callers = qs; notes = ns })
     (record { units = hs; advancers = as_; callers = qs; notes = ns }) (unit_view h)
 splits_unit o seat h hs as_ qs ns apart s k at =
@@ -131,7 +131,7 @@ splits_unit o seat h hs as_ qs ns apart s k at =
       caller = λ i off. refl;
     })
     (record {
-      units = each_zip (λ (r : UnitHeld). r.unit ≢ h.unit) (FitsUnit k.board k.own seat) (FitsUnit k.board now seat)
+      units = each_zip (λ (r : UnitKnown). r.unit ≢ h.unit) (FitsUnit k.board k.own seat) (FitsUnit k.board now seat)
           (λ r off x. unit_handed k.board k.own now seat seat r (given_miss k.own.unit h.unit n r.unit off
           ∙ x.mine) x) hs apart f.units.1;
       advancers = each_map (FitsAdvancer k.board k.own seat) (FitsAdvancer k.board now seat)
@@ -148,9 +148,9 @@ splits_unit o seat h hs as_ qs ns apart s k at =
     })
 
 -- and so does the first caller
-pub splits_caller : (o : Opening) (seat : ℕ) (hs : List UnitHeld) (as_ : List AdvHeld) (q : CallerHeld) (qs : List CallerHeld)
-    (ns : List NoteHeld)
-    → Each (λ (r : CallerHeld). r.caller ≢ q.caller) qs
+pub splits_caller : (o : Opening) (seat : ℕ) (hs : List UnitKnown) (as_ : List AdvKnown) (q : CallerKnown) (qs : List CallerKnown)
+    (ns : List NoteKnown)
+    → Each (λ (r : CallerKnown). r.caller ≢ q.caller) qs
     → Splits (ShowsCore o) seat (record { units = hs; advancers = as_; callers = q ∷ qs; notes = ns })
     (record { units = hs; advancers = as_; callers = qs; notes = ns }) (caller_view q)
 splits_caller o seat hs as_ q qs ns apart s k at =
@@ -170,7 +170,7 @@ splits_caller o seat hs as_ q qs ns apart s k at =
           (λ h x. unit_handed k.board k.own now seat seat h x.mine x) hs f.units;
       advancers = each_map (FitsAdvancer k.board k.own seat) (FitsAdvancer k.board now seat)
           (λ a x. advancer_handed k.board k.own now seat seat a x.mine x) as_ f.advancers;
-      callers = each_zip (λ (r : CallerHeld). r.caller ≢ q.caller) (FitsCaller k.board k.own seat) (FitsCaller k.board now seat)
+      callers = each_zip (λ (r : CallerKnown). r.caller ≢ q.caller) (FitsCaller k.board k.own seat) (FitsCaller k.board now seat)
           (λ r off x. caller_handed k.board k.own now seat seat r (given_miss k.own.caller q.caller n r.caller off
           ∙ x.mine) x) qs apart f.callers.1;
       notes = f.notes;
@@ -187,7 +187,7 @@ splits_caller o seat hs as_ q qs ns apart s k at =
     })
 
 -- a new seat has a note of the caller
-pub copies_caller : (o : Opening) (seat : ℕ) (q : CallerHeld)
+pub copies_caller : (o : Opening) (seat : ℕ) (q : CallerKnown)
     → Splits (ShowsCore o) seat (caller_view q) (caller_view q) (note_view (note_of_caller q))
 copies_caller o seat q s k at =
     let f = k.views seat (caller_view q) at in
@@ -252,7 +252,7 @@ joins_callers o seat v other w s k at apart e =
     })
 
 -- ---- a note of a caller
-module _ (o : Opening) (s : State Cell View) (k : ShowsCore o s) (own : Owners) (seat : ℕ) (q : CallerHeld)
+module _ (o : Opening) (s : State Cell View) (k : ShowsCore o s) (own : Owners) (seat : ℕ) (q : CallerKnown)
     (g : FitsCaller k.board own seat q) where
   learns : (l : Learnt) → IsLearnt k.board.core l → IsLearnt k.board.core (learnt_more l q.part)
   learns l is =
@@ -263,7 +263,7 @@ module _ (o : Opening) (s : State Cell View) (k : ShowsCore o s) (own : Owners) 
       record { newest = omega arith; durable = omega arith }
 
 -- the unit takes one
-pub joins_shown : (o : Opening) (seat : ℕ) (h : UnitHeld) (other : ℕ) (q : CallerHeld)
+pub joins_shown : (o : Opening) (seat : ℕ) (h : UnitKnown) (other : ℕ) (q : CallerKnown)
     → Joins (ShowsCore o) seat (unit_view h) other (caller_view q) (pair_view (unit_shown h q) q) nothing
 joins_shown o seat h other q s k at apart e =
     let one : View = pair_view (unit_shown h q) q in
@@ -288,7 +288,7 @@ joins_shown o seat h other q s k at apart e =
     })
 
 -- the advancer takes one
-pub joins_shown_advancer : (o : Opening) (seat : ℕ) (a : AdvHeld) (other : ℕ) (q : CallerHeld)
+pub joins_shown_advancer : (o : Opening) (seat : ℕ) (a : AdvKnown) (other : ℕ) (q : CallerKnown)
     → Joins (ShowsCore o) seat (advancer_view a) other (caller_view q) (heard_view (advancer_shown a q) q) nothing
 joins_shown_advancer o seat a other q s k at apart e =
     let one : View = heard_view (advancer_shown a q) q in
@@ -319,7 +319,7 @@ joins_shown_advancer o seat a other q s k at apart e =
     })
 
 -- ---- a caller takes a note
-module _ (o : Opening) (s : State Cell View) (k : ShowsCore o s) (seat other : ℕ) (q : CallerHeld) (n : NoteHeld) (at : ℕ)
+module _ (o : Opening) (s : State Cell View) (k : ShowsCore o s) (seat other : ℕ) (q : CallerKnown) (n : NoteKnown) (at : ℕ)
     (has : (at ≡ seat) ⊎ (at ≡ other)) (g : FitsCaller k.board k.own at q) (f : FitsNote k.board n) where
   heard_mine : (all_to k.own other seat).caller q.caller ≡ seat
   heard_mine = ⊎_elim
@@ -333,10 +333,10 @@ module _ (o : Opening) (s : State Cell View) (k : ShowsCore o s) (seat other : �
       (heard_moves o s k at q n g f (λ j. (j ≡ seat) ⊎ (j ≡ other)) has) (hands_all k.own other seat) refl k.passed k.homes fits
 
 -- of the advancer
-pub joins_heard_advancer : (o : Opening) (seat : ℕ) (a : AdvHeld) (other : ℕ) (q : CallerHeld)
+pub joins_heard_advancer : (o : Opening) (seat : ℕ) (a : AdvKnown) (other : ℕ) (q : CallerKnown)
     → Joins (ShowsCore o) seat (advancer_view a) other (caller_view q) (heard_advancer (advancer_view a) (caller_view q)) nothing
 joins_heard_advancer o seat a other q s k at apart e =
-    let n : NoteHeld = note_of_advancer (length q.part.fronts) a in
+    let n : NoteKnown = note_of_advancer (length q.part.fronts) a in
     let one : View = heard_view a (caller_heard q n) in
     let own : Owners = all_to k.own other seat in
     let f = (k.views seat (advancer_view a) at).advancers.0 in
@@ -352,7 +352,7 @@ joins_heard_advancer o seat a other q s k at apart e =
     })
 
 -- and of another caller, which was copied
-pub joins_news : (o : Opening) (seat : ℕ) (q : CallerHeld) (other : ℕ) (n : NoteHeld)
+pub joins_news : (o : Opening) (seat : ℕ) (q : CallerKnown) (other : ℕ) (n : NoteKnown)
     → Joins (ShowsCore o) seat (caller_view q) other (note_view n) (heard_note (caller_view q) (note_view n)) nothing
 joins_news o seat q other n s k at apart e =
     let one : View = caller_view (caller_heard q n) in
@@ -370,32 +370,32 @@ joins_news o seat q other n s k at apart e =
     })
 
 -- ---- the same at views that are known
-pub joins_shown_as : (o : Opening) (seat : ℕ) (v : View) (other : ℕ) (w : View) (h : UnitHeld) (q : CallerHeld) → v ≡ unit_view h
+pub joins_shown_as : (o : Opening) (seat : ℕ) (v : View) (other : ℕ) (w : View) (h : UnitKnown) (q : CallerKnown) → v ≡ unit_view h
     → w ≡ caller_view q → Joins (ShowsCore o) seat v other w (shown_caller v w) nothing
 joins_shown_as o seat v other w h q e f =
     subst (λ (z : View × View). Joins (ShowsCore o) seat z.0 other z.1 (shown_caller z.0 z.1) nothing) (λ j. (sym e j, sym f j))
     (joins_shown o seat h other q)
 
-pub joins_shown_advancer_as : (o : Opening) (seat : ℕ) (v : View) (other : ℕ) (w : View) (a : AdvHeld) (q : CallerHeld)
+pub joins_shown_advancer_as : (o : Opening) (seat : ℕ) (v : View) (other : ℕ) (w : View) (a : AdvKnown) (q : CallerKnown)
     → v ≡ advancer_view a
     → w ≡ caller_view q → Joins (ShowsCore o) seat v other w (shown_caller v w) nothing
 joins_shown_advancer_as o seat v other w a q e f =
     subst (λ (z : View × View). Joins (ShowsCore o) seat z.0 other z.1 (shown_caller z.0 z.1) nothing) (λ j. (sym e j, sym f j))
     (joins_shown_advancer o seat a other q)
 
-pub joins_heard_advancer_as : (o : Opening) (seat : ℕ) (v : View) (other : ℕ) (w : View) (a : AdvHeld) (q : CallerHeld)
+pub joins_heard_advancer_as : (o : Opening) (seat : ℕ) (v : View) (other : ℕ) (w : View) (a : AdvKnown) (q : CallerKnown)
     → v ≡ advancer_view a
     → w ≡ caller_view q → Joins (ShowsCore o) seat v other w (heard_advancer v w) nothing
 joins_heard_advancer_as o seat v other w a q e f =
     subst (λ (z : View × View). Joins (ShowsCore o) seat z.0 other z.1 (heard_advancer z.0 z.1) nothing) (λ j. (sym e j, sym f j))
     (joins_heard_advancer o seat a other q)
 
-pub joins_news_as : (o : Opening) (seat : ℕ) (v : View) (other : ℕ) (w : View) (q : CallerHeld) (n : NoteHeld) → v ≡ caller_view q
+pub joins_news_as : (o : Opening) (seat : ℕ) (v : View) (other : ℕ) (w : View) (q : CallerKnown) (n : NoteKnown) → v ≡ caller_view q
     → w ≡ note_view n → Joins (ShowsCore o) seat v other w (heard_note v w) nothing
 joins_news_as o seat v other w q n e f =
     subst (λ (z : View × View). Joins (ShowsCore o) seat z.0 other z.1 (heard_note z.0 z.1) nothing) (λ j. (sym e j, sym f j))
     (joins_news o seat q other n)
 
-pub copies_caller_as : (o : Opening) (seat : ℕ) (v : View) (q : CallerHeld) → v ≡ caller_view q
+pub copies_caller_as : (o : Opening) (seat : ℕ) (v : View) (q : CallerKnown) → v ≡ caller_view q
     → Splits (ShowsCore o) seat v v (copied_caller v)
 copies_caller_as o seat v q e = subst (λ (z : View). Splits (ShowsCore o) seat z z (copied_caller z)) (sym e) (copies_caller o seat q)

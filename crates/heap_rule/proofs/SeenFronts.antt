@@ -9,9 +9,9 @@ use native.Mathlib.Decide.{ℕ_discrete}
 use Rattle.mont_base.specs.declared.operation.Entry.{Entry}
 use Rattle.core_steps.specs.Notes.{BeginsWith}
 use Rattle.core_steps.proofs.Rows.{row_here, row_else}
-use Rattle.heap_rule.specs.declared.views.AdvHeld.{AdvHeld}
-use Rattle.heap_rule.specs.declared.views.CallerHeld.{CallerHeld}
-use Rattle.heap_rule.specs.declared.views.UnitHeld.{UnitHeld}
+use Rattle.heap_rule.specs.declared.views.AdvKnown.{AdvKnown}
+use Rattle.heap_rule.specs.declared.views.CallerKnown.{CallerKnown}
+use Rattle.heap_rule.specs.declared.views.UnitKnown.{UnitKnown}
 use Rattle.heap_rule.specs.Views.{longer, longer_each, caller_answered, caller_heard, note_of_unit, note_of_advancer}
 use Rattle.heap_rule.specs.SeenEntries.{AreFronts}
 use Rattle.heap_rule.specs.Plays.{IsNotBeyond}
@@ -87,7 +87,7 @@ fronts_longer (f ∷ fs) (suc n) (suc unit) front whole at begins =
     behind a (suc u) seen there = let s = a u seen there in record { whole = s.whole; there = s.there; begins = s.begins }
 
 -- ---- a caller
-module _ (q : CallerHeld) (h : UnitHeld) (seen : IsNotBeyond q h) where
+module _ (q : CallerKnown) (h : UnitKnown) (seen : IsNotBeyond q h) where
   abbrev front : List Entry
   front = take (slice_index q.part.fronts h.unit) h.part.history
 
@@ -105,5 +105,5 @@ module _ (q : CallerHeld) (h : UnitHeld) (seen : IsNotBeyond q h) where
       (begins_taken h.part.history (slice_index q.part.fronts h.unit))
 
 -- and one that takes a note of the advancer has seen no entry by it
-pub same_entries : (q : CallerHeld) (units : ℕ) (a : AdvHeld) → (caller_heard q (note_of_advancer units a)).entries ≡ q.entries
+pub same_entries : (q : CallerKnown) (units : ℕ) (a : AdvKnown) → (caller_heard q (note_of_advancer units a)).entries ≡ q.entries
 same_entries q units a = longer_none q.entries units

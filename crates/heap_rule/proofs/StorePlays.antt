@@ -30,7 +30,7 @@ use Rattle.core_steps.proofs.Rows.{row_set, row_here}
 use Rattle.core_steps.proofs.RoleFacts.{slot_looks_free, free_settled, writing_settled, writing_label}
 use Rattle.core_steps.proofs.StoreLaws.{some_slots}
 use Rattle.heap_rule.specs.declared.rule.Opening.{Opening}
-use Rattle.heap_rule.specs.declared.views.UnitHeld.{UnitHeld}
+use Rattle.heap_rule.specs.declared.views.UnitKnown.{UnitKnown}
 use Rattle.heap_rule.specs.Views.{Cell, unit_view, is_among, with_clean, home_turn, unit_wrote, unit_closed, unit_persisted}
 use Rattle.heap_rule.specs.TableWords.{durable_place}
 use Rattle.heap_rule.specs.Rule.{AreClean, ShowsCore}
@@ -115,7 +115,7 @@ stored_lost p slot (suc n) value = refl
 list_by_records : (x : ℕ) (p q : UnitPart) → q.records ≡ p.records → unit_list x q ≡ unit_list x p
 list_by_records x p q same = ap (λ (rs : List Held). map (λ (r : Held). r.slot) (filter (λ (r : Held). r.label.epoch == x) rs)) same
 
-pub stores : (o : Opening) (slots seat : ℕ) (h : UnitHeld) (c : List (ℕ × Cell)) (slot field value : ℕ)
+pub stores : (o : Opening) (slots seat : ℕ) (h : UnitKnown) (c : List (ℕ × Cell)) (slot field value : ℕ)
     → CanStore (IsFreeSlot o.layout h.unit h.part slot) h.unit h.part slot field value → slot < total_of o.layout
     → Allows (ShowsCore o) slots seat (unit_view h, c) (word_of slot field) (λ _. value)
     (λ _ m. wrote (step slots (word_of slot field) value 0 none) (unit_view h, c) value m)
@@ -157,7 +157,7 @@ stores o slots seat h c slot field value may inside s k long at small =
     )
 
 -- ---- CloseLabel
-pub closes_label : (o : Opening) (slots seat : ℕ) (h : UnitHeld) (c : List (ℕ × Cell)) (slot : ℕ) → CanClose h.part slot
+pub closes_label : (o : Opening) (slots seat : ℕ) (h : UnitKnown) (c : List (ℕ × Cell)) (slot : ℕ) → CanClose h.part slot
     → slot < total_of o.layout → h.turn ≡ home_turn
     → Allows (ShowsCore o) slots seat (unit_view h, c) (word_of slot 0) (λ _. 0)
     (λ _ m. closed (step slots (word_of slot 0) 0 0 none) (unit_view h, c) 0 m)
@@ -230,7 +230,7 @@ clean_closed units clean u q are = by (is_empty q.lost) refl
 swept_lost : (slot : ℕ) (p : UnitPart) → p.lost ≡ [] → (after_persist_close p slot).lost ≡ []
 swept_lost slot p e = ap (λ (l : List ℕ). without_lost slot l) e
 
-pub persists_close : (o : Opening) (slots seat : ℕ) (h : UnitHeld) (c : List (ℕ × Cell)) (slot : ℕ) → CanPersistClose h.part slot
+pub persists_close : (o : Opening) (slots seat : ℕ) (h : UnitKnown) (c : List (ℕ × Cell)) (slot : ℕ) → CanPersistClose h.part slot
     → slot < total_of o.layout → h.turn ≡ home_turn
     → Allows (ShowsCore o) slots seat (unit_view h, c) (durable_place o.layout (word_of slot 0)) (λ _. 0)
     (λ _ m. persisted o (step slots (durable_place o.layout (word_of slot 0)) 0 0 none) (unit_view h, c) 0 m)

@@ -20,7 +20,7 @@ use Rattle.core_steps.proofs.Decisions.{both, either_true}
 use Rattle.core_steps.proofs.RowFacts.{row_from}
 use Rattle.core_steps.proofs.Rows.{each_set, row_here, row_else, row_same}
 use Rattle.heap_rule.specs.declared.rule.Opening.{Opening}
-use Rattle.heap_rule.specs.declared.views.UnitHeld.{UnitHeld}
+use Rattle.heap_rule.specs.declared.views.UnitKnown.{UnitKnown}
 use Rattle.heap_rule.specs.declared.views.UnitTurn.{UnitTurn}
 use Rattle.heap_rule.specs.declared.views.FullTurn.{FullTurn}
 use Rattle.heap_rule.specs.declared.views.View.{View}
@@ -110,10 +110,10 @@ own_passed c d u p q is full all v t =
 
 -- ---- what a step of the unit leaves
 -- the seat's view, at another part, number of steps, loaded word and clean units
-abbrev pub moved : UnitHeld → UnitPart → ℕ → ℕ → List ℕ → UnitHeld
+abbrev pub moved : UnitKnown → UnitPart → ℕ → ℕ → List ℕ → UnitKnown
 moved h q n l clean = record h { part = q; steps = n; loaded = l; clean = clean }
 
-module _ (o : Opening) (s : State Cell View) (k : ShowsCore o s) (seat : ℕ) (h : UnitHeld) (f : FitsUnit k.board k.own seat h) where
+module _ (o : Opening) (s : State Cell View) (k : ShowsCore o s) (seat : ℕ) (h : UnitKnown) (f : FitsUnit k.board k.own seat h) where
   abbrev own_board : Core → Board
   own_board d = record { core = d; turn = k.board.turn; full = k.board.full }
 
@@ -122,7 +122,7 @@ module _ (o : Opening) (s : State Cell View) (k : ShowsCore o s) (seat : ℕ) (h
   SameHome q x = unit_home k.board.core.layout.slots x q (k.board.turn h.unit)
       ≡ unit_home k.board.core.layout.slots x h.part (k.board.turn h.unit)
 
-  record Owed (d : Core) (w : UnitHeld) : Type 0 where
+  record Owed (d : Core) (w : UnitKnown) : Type 0 where
     moves : Moves k.own (λ j. j ≡ seat) k.board (own_board d)
     passed : Passed (own_board d)
     homes : Homes (own_board d) s.homes
@@ -184,7 +184,7 @@ module _ (o : Opening) (s : State Cell View) (k : ShowsCore o s) (seat : ℕ) (h
   rest_home q x home same = rest_same k.board.core.layout.slots x h.part q (k.board.turn h.unit) (f.turn ∙ home) same
 
 -- ---- Look
-pub looks : (o : Opening) (slots seat : ℕ) (h : UnitHeld) (c : List (ℕ × Cell)) → can_look h.part ≡ true
+pub looks : (o : Opening) (slots seat : ℕ) (h : UnitKnown) (c : List (ℕ × Cell)) → can_look h.part ≡ true
     → Allows (ShowsCore o) slots seat (unit_view h, c) 0 (λ n. n) (looked (step slots 0 0 0 none) (unit_view h, c))
 looks o slots seat h c may s k long at small =
     let f = (k.views seat (unit_view h) at).units.0 in
@@ -227,7 +227,7 @@ none_at_tell o s k p u e clean at are may idle =
     (ap (λ b. b || is_within p.stage) t))
     (either_true (is_idle p.stage) (is_told p.stage) stage.0)
 
-pub tells : (o : Opening) (slots seat : ℕ) (h : UnitHeld) (c : List (ℕ × Cell)) (e : ℕ) → can_tell h.part e ≡ true
+pub tells : (o : Opening) (slots seat : ℕ) (h : UnitKnown) (c : List (ℕ × Cell)) (e : ℕ) → can_tell h.part e ≡ true
     → (is_idle h.part.stage ≡ true → are_clean (units_of o.layout) h.clean ≡ true) → h.turn ≡ home_turn
     → Allows (ShowsCore o) slots seat (unit_view h, c) (announcement_place o.layout h.unit) (λ _. 2 * e)
     (λ _ m. told (step slots (announcement_place o.layout h.unit) (2 * e) 0 none) (unit_view h, c) (2 * e) m)
@@ -261,7 +261,7 @@ tells o slots seat h c e may idle home s k long at small =
     )
 
 -- ---- Confirm
-pub confirms : (o : Opening) (slots seat : ℕ) (h : UnitHeld) (c : List (ℕ × Cell)) → can_confirm h.part ≡ true → h.turn ≡ home_turn
+pub confirms : (o : Opening) (slots seat : ℕ) (h : UnitKnown) (c : List (ℕ × Cell)) → can_confirm h.part ≡ true → h.turn ≡ home_turn
     → Allows (ShowsCore o) slots seat (unit_view h, c) 0 (λ n. n) (confirmed (step slots 0 0 0 none) (unit_view h, c))
 confirms o slots seat h c may home s k long at small =
     let f = (k.views seat (unit_view h) at).units.0 in
@@ -310,7 +310,7 @@ withdraws_announced p may =
     or_right true b e = refl
     or_right false b e = e
 
-pub withdraws : (o : Opening) (slots seat : ℕ) (h : UnitHeld) (c : List (ℕ × Cell)) → can_withdraw h.part ≡ true → h.turn ≡ home_turn
+pub withdraws : (o : Opening) (slots seat : ℕ) (h : UnitKnown) (c : List (ℕ × Cell)) → can_withdraw h.part ≡ true → h.turn ≡ home_turn
     → Allows (ShowsCore o) slots seat (unit_view h, c) (announcement_place o.layout h.unit) (λ _. 0)
     (λ _ m. withdrew (step slots (announcement_place o.layout h.unit) 0 0 none) (unit_view h, c) 0 m)
 withdraws o slots seat h c may home s k long at small =
@@ -343,7 +343,7 @@ withdraws o slots seat h c may home s k long at small =
     )
 
 -- ---- LoadDurable
-pub loads_durable : (o : Opening) (slots seat : ℕ) (h : UnitHeld) (c : List (ℕ × Cell)) → can_load_durable h.part ≡ true
+pub loads_durable : (o : Opening) (slots seat : ℕ) (h : UnitKnown) (c : List (ℕ × Cell)) → can_load_durable h.part ≡ true
     → Allows (ShowsCore o) slots seat (unit_view h, c) (durable_place o.layout 0) (λ n. n)
     (loaded_durable o (step slots (durable_place o.layout 0) 0 0 none) (unit_view h, c))
 loads_durable o slots seat h c may s k long at small =

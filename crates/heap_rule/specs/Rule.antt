@@ -21,12 +21,12 @@ use Rattle.core_steps.specs.Sound.{IsSound}
 use Rattle.heap_rule.specs.declared.rule.Opening.{Opening}
 use Rattle.heap_rule.specs.declared.views.Learnt.{Learnt}
 use Rattle.heap_rule.specs.declared.views.UnitTurn.{UnitTurn}
-use Rattle.heap_rule.specs.declared.views.UnitHeld.{UnitHeld}
+use Rattle.heap_rule.specs.declared.views.UnitKnown.{UnitKnown}
 use Rattle.heap_rule.specs.declared.views.FullTurn.{FullTurn}
-use Rattle.heap_rule.specs.declared.views.AdvHeld.{AdvHeld}
+use Rattle.heap_rule.specs.declared.views.AdvKnown.{AdvKnown}
 use Rattle.heap_rule.specs.declared.views.LeftWithin.{LeftWithin}
-use Rattle.heap_rule.specs.declared.views.CallerHeld.{CallerHeld}
-use Rattle.heap_rule.specs.declared.views.NoteHeld.{NoteHeld}
+use Rattle.heap_rule.specs.declared.views.CallerKnown.{CallerKnown}
+use Rattle.heap_rule.specs.declared.views.NoteKnown.{NoteKnown}
 use Rattle.heap_rule.specs.declared.views.View.{View}
 use Rattle.heap_rule.specs.Views.{Cell, list_at, is_among}
 use Rattle.heap_rule.specs.TableWords.{table_words}
@@ -87,7 +87,7 @@ IsLeft units w = slice_get (lefts_of units) w.unit ≡ Some (Some w.epoch)
 abbrev pub AreLeft : List UnitPart → List LeftWithin → Type 0
 AreLeft units within = All (IsLeft units) within
 
-pub record FitsUnit (b : Board) (own : Owners) (seat : ℕ) (h : UnitHeld) : Type 0 where
+pub record FitsUnit (b : Board) (own : Owners) (seat : ℕ) (h : UnitKnown) : Type 0 where
   pub mine : own.unit h.unit ≡ seat
   pub part : slice_get b.core.units h.unit ≡ Some h.part
   pub turn : b.turn h.unit ≡ h.turn
@@ -101,7 +101,7 @@ AreLists c lists =
     (u : ℕ) (p : UnitPart) → slice_get c.units u ≡ Some p → HasPassed c u
     → list_at lists u ≡ unit_list (clock c - 1) p
 
-pub record FitsAdvancer (b : Board) (own : Owners) (seat : ℕ) (a : AdvHeld) : Type 0 where
+pub record FitsAdvancer (b : Board) (own : Owners) (seat : ℕ) (a : AdvKnown) : Type 0 where
   pub mine : own.advancer ≡ seat
   pub part : b.core.advancer ≡ a.part
   pub clock_is : clock b.core ≡ a.clock
@@ -115,14 +115,14 @@ pub record FitsAdvancer (b : Board) (own : Owners) (seat : ℕ) (a : AdvHeld) : 
   pub learnt : IsLearnt b.core a.learnt
   pub clean : AreClean b.core.units a.clean
 
-pub record FitsCaller (b : Board) (own : Owners) (seat : ℕ) (q : CallerHeld) : Type 0 where
+pub record FitsCaller (b : Board) (own : Owners) (seat : ℕ) (q : CallerKnown) : Type 0 where
   pub mine : own.caller q.caller ≡ seat
   pub part : slice_get b.core.callers q.caller ≡ Some q.part
   pub entries : q.entries ≡ seen_in q.part.fronts (histories_of b.core.units)
   pub left : AreLeft b.core.units q.within
   pub clean : AreClean b.core.units q.clean
 
-pub record FitsNote (b : Board) (n : NoteHeld) : Type 0 where
+pub record FitsNote (b : Board) (n : NoteKnown) : Type 0 where
   pub is_true : IsTrueNote b.core n.note
   pub entries : n.entries ≡ seen_in n.note.fronts (histories_of b.core.units)
   pub clean : AreClean b.core.units n.clean

@@ -14,7 +14,7 @@ use Rattle.core_steps.specs.Opened.{opened_at}
 use Rattle.core_steps.specs.Sound.{base_state}
 use Rattle.core_steps.specs.UnitClauses.{UnitFits}
 use Rattle.heap_rule.specs.declared.rule.Opening.{Opening}
-use Rattle.heap_rule.specs.declared.views.UnitHeld.{UnitHeld}
+use Rattle.heap_rule.specs.declared.views.UnitKnown.{UnitKnown}
 use Rattle.heap_rule.specs.Views.{slots_written, is_among}
 
 -- ---- slots
@@ -37,7 +37,7 @@ pub record HasOwnSlots (s : Shape) (u : ℕ) (p : UnitPart) : Type 0 where
 
 -- ---- The unit's clauses of the invariant, from whatever state recovery gave it when the store was
 -- opened, where the clocks show now and durable.
-pub record IsSoundUnit (o : Opening) (now durable : ℕ) (h : UnitHeld) : Type 0 where
+pub record IsSoundUnit (o : Opening) (now durable : ℕ) (h : UnitKnown) : Type 0 where
   pub accepted : IsWellFormed o.layout o.words
   pub begun : clock_of o.words ≤ durable
   pub behind : durable ≤ now
@@ -52,13 +52,13 @@ pub record IsSoundUnit (o : Opening) (now durable : ℕ) (h : UnitHeld) : Type 0
       (base_state (opened_at (clock_of o.words) states) h.unit) h.part
 
 -- the state of the unit's history, from what recovery gave it
-abbrev pub state_shown : Opening → List State → UnitHeld → State
+abbrev pub state_shown : Opening → List State → UnitKnown → State
 state_shown o states h =
     state_after (base_state (opened_at (clock_of o.words) states) h.unit) h.part.history
 
 -- its records show that state
 abbrev pub SoundUnitsShowHistories : Type 0
 SoundUnitsShowHistories =
-    (o : Opening) (now durable : ℕ) (h : UnitHeld) (states : List State)
+    (o : Opening) (now durable : ℕ) (h : UnitKnown) (states : List State)
     → IsSoundUnit o now durable h → IsRecovered o.layout o.words states
     → HasStructure o.layout h.unit h.part.records (state_shown o states h)

@@ -23,5 +23,5 @@ pub use seat_moves::{
     TakesCallers, TakesUnits, Whole,
 };
 pub use views::{
-    AdvHeld, CallerHeld, Cell, FullTurn, Learnt, LeftWithin, NoteHeld, UnitHeld, UnitTurn, View,
+    AdvKnown, CallerKnown, Cell, FullTurn, Learnt, LeftWithin, NoteKnown, UnitKnown, UnitTurn, View,
 };

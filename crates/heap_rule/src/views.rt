@@ -21,7 +21,7 @@ pub struct UnitTurn {
 
 /// A unit's part and its turn.
 #[derive(Drop)]
-pub struct UnitHeld {
+pub struct UnitKnown {
     pub unit: Unit,
     /// How many slots there is room for in each of its lists.
     pub room: u64,
@@ -45,7 +45,7 @@ pub struct FullTurn {
 
 /// The advancer's part and its turn.
 #[derive(Drop)]
-pub struct AdvHeld {
+pub struct AdvKnown {
     pub part: AdvPart,
     pub clock: Epoch,
     pub durable: Epoch,
@@ -71,7 +71,7 @@ pub struct LeftWithin {
 
 /// A caller's part.
 #[derive(Drop)]
-pub struct CallerHeld {
+pub struct CallerKnown {
     pub caller: u64,
     pub part: CallerPart,
     /// Of each unit the entries that it has seen.
@@ -85,7 +85,7 @@ pub struct CallerHeld {
 
 /// A note of a part, and the entries that it has seen.
 #[derive(Drop)]
-pub struct NoteHeld {
+pub struct NoteKnown {
     pub note: Note,
     pub entries: Sequence<Sequence<Entry>>,
     /// The word that the part had loaded last.
@@ -96,8 +96,8 @@ pub struct NoteHeld {
 /// What one seat knows. Each part stands in the view of one seat.
 #[derive(Drop)]
 pub struct View {
-    pub units: Sequence<UnitHeld>,
-    pub advancers: Sequence<AdvHeld>,
-    pub callers: Sequence<CallerHeld>,
-    pub notes: Sequence<NoteHeld>,
+    pub units: Sequence<UnitKnown>,
+    pub advancers: Sequence<AdvKnown>,
+    pub callers: Sequence<CallerKnown>,
+    pub notes: Sequence<NoteKnown>,
 }

@@ -18,7 +18,7 @@ use Rattle.heap.specs.HeapShown.{HeapShown, UnitShown, AdvShown, CallerShown}
 use Rattle.heap.specs.FreshOpening.{fresh_opening, OpensEmpty}
 use Rattle.heap.specs.Opens.{Opens, dealt_units}
 use Rattle.heap_worked.specs.declared.bench.Bench.{Bench}
-use Rattle.heap_worked.specs.Advances.{IsAtRest}
+use Rattle.heap_worked.specs.AdvanceSteps.{IsAtRest}
 use Rattle.heap_worked.specs.Mirrors.{AreHome, Mirrors}
 
 -- ---- the seats that were dealt
@@ -49,10 +49,10 @@ module _ (s : Shape) (heap : HeapShown) (one : units_of s ≡ 1) where
   one_unit :
       (rest units : List UnitShown) (unit : UnitShown) → units ≡ rest ++ unit ∷ []
       → units ≡ dealt_units heap.table (fresh_opening s 2) (units_of s)
-      → unit ≡ record { table = heap.table; held = first_unit (fresh_opening s 2) 0 }
+      → unit ≡ record { table = heap.table; known = first_unit (fresh_opening s 2) 0 }
   one_unit rest units unit is are =
       let dealt = are ∙ ap (dealt_units heap.table (fresh_opening s 2)) one in
-      last_at rest units unit (record { table = heap.table; held = first_unit (fresh_opening s 2) 0 }) 0 is (ap length dealt)
+      last_at rest units unit (record { table = heap.table; known = first_unit (fresh_opening s 2) 0 }) 0 is (ap length dealt)
       (ap (λ (l : List UnitShown). slice_get l 0) dealt)
 
 -- ---- the beginning
@@ -75,10 +75,10 @@ module _ (s : Shape) (heap : HeapShown) (one : units_of s ≡ 1) (empty : OpensE
 
   pub begun :
       (unit : UnitShown) (advancer : AdvShown) (caller other : CallerShown) (gate : Fuel) (core : Core)
-      → IsLayout s → unit ≡ record { table = heap.table; held = first_unit (fresh_opening s 2) 0 }
-      → advancer ≡ record { table = heap.table; held = first_advancer (fresh_opening s 2) }
-      → caller ≡ record { table = heap.table; held = first_caller (fresh_opening s 2) 0 }
-      → other ≡ record { table = heap.table; held = first_caller (fresh_opening s 2) 1 } → core ≡ fresh s 2
+      → IsLayout s → unit ≡ record { table = heap.table; known = first_unit (fresh_opening s 2) 0 }
+      → advancer ≡ record { table = heap.table; known = first_advancer (fresh_opening s 2) }
+      → caller ≡ record { table = heap.table; known = first_caller (fresh_opening s 2) 0 }
+      → other ≡ record { table = heap.table; known = first_caller (fresh_opening s 2) 1 } → core ≡ fresh s 2
       → Mirrors (record {
         heap = heap;
         unit = unit;
@@ -133,7 +133,7 @@ module _
     (callers mid front : List CallerShown) (caller other : CallerShown) (one : units_of s ≡ 1)
     (opens : Opens (fresh_opening s 2) heap units advancer callers) (empty : OpensEmpty s 2)
     (of_units : units ≡ rest ++ unit ∷ []) where
-  the_unit : unit ≡ record { table = heap.table; held = first_unit (fresh_opening s 2) 0 }
+  the_unit : unit ≡ record { table = heap.table; known = first_unit (fresh_opening s 2) 0 }
   the_unit = one_unit s heap one rest units unit of_units opens.each_unit
 
   pub opened :
@@ -149,10 +149,10 @@ module _
         core = core;
       })
   opened gate core layout of_callers of_mid are =
-      let both = last_two front mid callers caller other (record { table = heap.table; held = first_caller (fresh_opening s 2) 0 })
-      (record { table = heap.table; held = first_caller (fresh_opening s 2) 1 }) of_mid of_callers opens.each_caller in
+      let both = last_two front mid callers caller other (record { table = heap.table; known = first_caller (fresh_opening s 2) 0 })
+      (record { table = heap.table; known = first_caller (fresh_opening s 2) 1 }) of_mid of_callers opens.each_caller in
       begun s heap one empty opens.opening unit advancer caller other gate core layout the_unit opens.the_advancer both.0 both.1 are
 
-  pub opened_looks : IsTrue (can_look unit.held.part)
-  opened_looks = subst (λ (p : UnitPart). IsTrue (can_look p)) (sym (ap (λ (u : UnitShown). u.held.part) the_unit
+  pub opened_looks : IsTrue (can_look unit.known.part)
+  opened_looks = subst (λ (p : UnitPart). IsTrue (can_look p)) (sym (ap (λ (u : UnitShown). u.known.part) the_unit
       ∙ empty.each_unit 0 (subst (λ n. 0 < n) (sym one) (omega arith)))) (search rules)

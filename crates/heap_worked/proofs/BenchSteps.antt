@@ -18,9 +18,10 @@ of_one P x xs rest is may = subst (λ l. RowHas (slice_get l 0) P) is may
 
 pub store_may :
     (b : Bench) (m : Mirrors b) (slot field value : ℕ) → IsAllowed b.core (events.Store 0 slot field value)
-    → CanStore (IsFreeSlot b.heap.opening.layout b.unit.held.unit b.unit.held.part slot) b.unit.held.unit b.unit.held.part slot field value
+    → CanStore (IsFreeSlot b.heap.opening.layout b.unit.known.unit b.unit.known.part slot) b.unit.known.unit b.unit.known.part slot field
+    value
 store_may b m slot field value may =
-    let p : UnitPart = b.unit.held.part in
+    let p : UnitPart = b.unit.known.part in
     let c : Core = b.core in
     let at : slice_get c.units 0 ≡ Some p = ap (λ l. slice_get l 0) m.units in
     let can : CanStore (LooksFree c.layout c.cur c.dur 0 p slot) 0 p slot field value =

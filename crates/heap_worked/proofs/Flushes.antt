@@ -9,10 +9,10 @@ use Rattle.core_steps.specs.Clock.{greatest_word}
 use Rattle.core_steps.specs.Advancing.{lets_pass, past_unit, after_check, unit_at_hand}
 use Rattle.core_steps.specs.Flushing.{can_load_word, can_persist_word, behind_field, after_persist_word, is_flushed}
 use Rattle.mont_base.specs.SlotLists.{Roomy}
-use Rattle.heap_rule.specs.declared.views.AdvHeld.{AdvHeld}
+use Rattle.heap_rule.specs.declared.views.AdvKnown.{AdvKnown}
 use Rattle.heap_rule.specs.declared.views.FullTurn.{FullTurn}
 use Rattle.heap_rule.specs.Views.{list_at, joined, place_at_hand, slot_at_hand, holding, full_rest, advancer_checked, advancer_took, advancer_gave, advancer_loaded, advancer_persisted, advancer_set, advancer_rested}
-use Rattle.heap_worked.specs.Advances.{IsAt, HasPassed, IsFlushing, HasFlushed}
+use Rattle.heap_worked.specs.AdvanceSteps.{IsAt, HasPassed, IsFlushing, HasFlushed}
 
 -- ---- lists of one unit
 pub one_list : (ls : List (List ℕ)) → length ls ≡ 1 → joined ls ≡ list_at ls 0
@@ -57,7 +57,7 @@ checked_length true ls u list e = length-set ls u list ∙ e
 checked_length false ls u list e = e
 
 pub passed :
-    (clock word : ℕ) (list : List ℕ) (a : AdvHeld) → IsAt clock Rest full_rest a → lets_pass clock word ≡ true
+    (clock word : ℕ) (list : List ℕ) (a : AdvKnown) → IsAt clock Rest full_rest a → lets_pass clock word ≡ true
     → HasPassed clock (advancer_checked a word list)
 passed clock word list a at lets = record {
   part = after_one a.clock word a.units a.part at.one at.part (subst (λ c. lets_pass c word ≡ true) (sym at.clock_is) lets);
@@ -69,7 +69,7 @@ passed clock word list a at lets = record {
 }
 
 -- ---- its list is out
-pub took : (clock : ℕ) (a : AdvHeld) → HasPassed clock a
+pub took : (clock : ℕ) (a : AdvKnown) → HasPassed clock a
     → IsFlushing clock (record { slots = list_at a.lists 0; room = a.room }) (Flushing 0 0) (advancer_took a)
 took clock a at = record {
   at = record {
@@ -85,7 +85,7 @@ took clock a at = record {
 }
 
 pub gave :
-    (clock : ℕ) (list : Roomy) (a : AdvHeld) → IsFlushing clock list (Flushing (length list.slots) 0) a
+    (clock : ℕ) (list : Roomy) (a : AdvKnown) → IsFlushing clock list (Flushing (length list.slots) 0) a
     → HasFlushed clock (advancer_gave a)
 gave clock list a f = record {
   part = f.at.part ∙ ap (λ (l : List ℕ). Flushing (length l) 0) (sym f.joined_is);
@@ -97,7 +97,7 @@ gave clock list a f = record {
 }
 
 -- ---- a word at hand
-module _ (clock : ℕ) (list : Roomy) (place field : ℕ) (a : AdvHeld) (f : IsFlushing clock list (Flushing place field) a) where
+module _ (clock : ℕ) (list : Roomy) (place field : ℕ) (a : AdvKnown) (f : IsFlushing clock list (Flushing place field) a) where
   pub may_load : place < length list.slots → IsTrue (can_load_word (length (joined a.lists)) a.part)
   may_load inside = subst (λ (x : List ℕ × AdvPart). IsTrue (can_load_word (length x.0) x.1))
       (λ i. (sym f.joined_is i, sym f.at.part i)) (lt-ltb place (length list.slots) inside)
@@ -126,11 +126,11 @@ module _ (clock : ℕ) (list : Roomy) (place field : ℕ) (a : AdvHeld) (f : IsF
   }
 
 -- ---- the clock is moved
-pub may_set : (clock : ℕ) (a : AdvHeld) → HasFlushed clock a → IsTrue (is_flushed (length (joined a.lists)) a.part)
+pub may_set : (clock : ℕ) (a : AdvKnown) → HasFlushed clock a → IsTrue (is_flushed (length (joined a.lists)) a.part)
 may_set clock a at = subst (λ (p : AdvPart). IsTrue (is_flushed (length (joined a.lists)) p)) (sym at.part)
     (eq-eqb (length (joined a.lists)) (length (joined a.lists)) refl)
 
-pub set_on : (clock : ℕ) (a : AdvHeld) → HasFlushed clock a → IsAt (clock + 1) Clocked full_rest (advancer_set a)
+pub set_on : (clock : ℕ) (a : AdvKnown) → HasFlushed clock a → IsAt (clock + 1) Clocked full_rest (advancer_set a)
 set_on clock a at = record {
   part = refl;
   clock_is = ap (λ n. n + 1) at.clock_is;
@@ -140,7 +140,7 @@ set_on clock a at = record {
   clean = at.clean;
 }
 
-pub rested : (clock : ℕ) (a : AdvHeld) → IsAt clock Clocked full_rest a → IsAt clock Rest full_rest (advancer_rested a)
+pub rested : (clock : ℕ) (a : AdvKnown) → IsAt clock Clocked full_rest a → IsAt clock Rest full_rest (advancer_rested a)
 rested clock a at = record {
   part = refl;
   clock_is = at.clock_is;

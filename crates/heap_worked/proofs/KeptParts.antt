@@ -5,7 +5,7 @@ use Rattle.core_steps.specs.declared.event.Event.TheVariants as events
 use Rattle.core_steps.specs.declared.parts.Core.{Core}
 use Rattle.core_steps.specs.Events.{after}
 use Rattle.core_steps.specs.Sound.{Base, IsSound}
-use Rattle.heap_worked.specs.Advances.{IsOfAdvancer, KeepsParts}
+use Rattle.heap_worked.specs.AdvanceSteps.{IsOfAdvancer, KeepsParts}
 
 record IsSameIn (old new : Core) : Type 0 where
   layout : new.layout ≡ old.layout

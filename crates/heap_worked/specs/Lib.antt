@@ -1,2 +1,2 @@
-pub mod Advances
+pub mod AdvanceSteps
 pub mod Mirrors

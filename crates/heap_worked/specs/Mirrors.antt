@@ -6,7 +6,7 @@ use Rattle.core_steps.specs.Sound.{Base, IsSound}
 use Rattle.heap_rule.specs.Views.{are_clean, home_turn, slots_written}
 use Rattle.heap.specs.HeapShown.{UnitShown, CallerShown}
 use Rattle.heap_worked.specs.declared.bench.Bench.{Bench}
-use Rattle.heap_worked.specs.Advances.{IsAtRest}
+use Rattle.heap_worked.specs.AdvanceSteps.{IsAtRest}
 
 -- The bench has all seats of its heap, and the unit's list is at home. The other caller has a
 -- front of the one unit.
@@ -17,38 +17,38 @@ pub record AreHome (b : Bench) : Type 0 where
   pub of_advancer : b.advancer.table ≡ b.heap.table
   pub of_caller : b.caller.table ≡ b.heap.table
   pub of_other : b.other.table ≡ b.heap.table
-  pub unit : b.unit.held.unit ≡ 0
-  pub caller : b.caller.held.caller ≡ 0
-  pub other : b.other.held.caller ≡ 1
-  pub home : b.unit.held.turn.out ≡ false
-  pub fronts : length b.other.held.part.fronts ≡ 1
-  pub synced : length b.other.held.part.synced ≡ 1
+  pub unit : b.unit.known.unit ≡ 0
+  pub caller : b.caller.known.caller ≡ 0
+  pub other : b.other.known.caller ≡ 1
+  pub home : b.unit.known.turn.out ≡ false
+  pub fronts : length b.other.known.part.fronts ≡ 1
+  pub synced : length b.other.known.part.synced ≡ 1
 
 -- What the unit and the first caller show is what the program's core has.
 pub record Mirrors (b : Bench) : Type 0 where
   pub home : AreHome b
-  pub turn : b.unit.held.turn ≡ home_turn
-  pub clean : IsTrue (are_clean (units_of b.heap.opening.layout) b.unit.held.clean)
-  pub rests : IsAtRest b.clock b.advancer.held
+  pub turn : b.unit.known.turn ≡ home_turn
+  pub clean : IsTrue (are_clean (units_of b.heap.opening.layout) b.unit.known.clean)
+  pub rests : IsAtRest b.clock b.advancer.known
   pub layout : b.core.layout ≡ b.heap.opening.layout
-  pub units : b.core.units ≡ b.unit.held.part ∷ []
+  pub units : b.core.units ≡ b.unit.known.part ∷ []
   pub others : List CallerPart
-  pub callers : b.core.callers ≡ b.caller.held.part ∷ others
+  pub callers : b.core.callers ≡ b.caller.known.part ∷ others
   pub base : Base
   pub sound : IsSound base b.core
 
 -- The unit's list is at home with all that was written behind it.
 abbrev pub IsListed : UnitShown → UnitShown → Type 0
 IsListed old new = new ≡ record old {
-  held = record old.held {
-    turn = record { out = false; pushed = slots_written old.held.part };
+  known = record old.known {
+    turn = record { out = false; pushed = slots_written old.known.part };
   };
 }
 
 -- The same seat, later, with its list where it was.
 abbrev pub IsSameUnit : UnitShown → UnitShown → Type 0
 IsSameUnit old new =
-    (new.table ≡ old.table) × (new.held.unit ≡ old.held.unit) × (new.held.turn ≡ old.held.turn)
+    (new.table ≡ old.table) × (new.known.unit ≡ old.known.unit) × (new.known.turn ≡ old.known.turn)
 
 abbrev pub IsSameCaller : CallerShown → CallerShown → Type 0
-IsSameCaller old new = (new.table ≡ old.table) × (new.held.caller ≡ old.held.caller)
+IsSameCaller old new = (new.table ≡ old.table) × (new.known.caller ≡ old.known.caller)

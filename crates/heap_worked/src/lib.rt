@@ -5,14 +5,14 @@
 #![tactic(auto)]
 
 #[cfg(test)]
-mod advances;
+mod advance_steps;
 mod bench;
 #[cfg(test)]
 mod expected_words;
 #[cfg(test)]
 mod heap_runs;
 #[cfg(test)]
-mod images;
+mod image_bench;
 #[cfg(test)]
 mod openings;
 #[cfg(test)]

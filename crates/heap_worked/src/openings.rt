@@ -15,7 +15,7 @@ use std::test::Fail;
 // An empty map of eight slots, with this gate.
 pub(crate) fn begin(alloc: Global, gate: Fuel) -> Result<Bench, Fail>
     ensures mirrors { IfOk result Mirrors }
-    ensures looks { IfOk result (λ bench. IsTrue (can_look bench.unit.held.part)) }
+    ensures looks { IfOk result (λ bench. IsTrue (can_look bench.unit.known.part)) }
 {
     let layout = layout_of(b"m")?;
     if layout.units() != 1 {

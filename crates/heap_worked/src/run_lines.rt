@@ -3,7 +3,7 @@
 ghost use Rattle.std.specs.Prelude.{◌≡◌, true, IfOk};
 ghost use Rattle.heap_worked.specs.Mirrors.{AreHome, Mirrors};
 
-use crate::advances::advance;
+use crate::advance_steps::advance;
 use crate::bench::Bench;
 use crate::seat_answers::{freeze, leave, read, see_durable};
 use crate::unit_steps::{

@@ -3,7 +3,7 @@
 ghost use Rattle.std.specs.Prelude.{◌≡◌, ◌+◌, ◌≤◌, true, false, [], ◌∷◌, ◌++◌, length, map, IfOk, OnErr, IsTrue};
 ghost use Rattle.mont_base.specs.declared.record.Held as held;
 ghost use Rattle.core_steps.specs.declared.parts.UnitPart.{UnitPart};
-ghost use Rattle.core_steps.specs.Answering.{CanLeave};
+ghost use Rattle.core_steps.specs.CallAnswers.{CanLeave};
 ghost use Rattle.core_steps.specs.Stages.{is_within, epoch_of};
 ghost use Rattle.heap.specs.HeapShown.{UnitShown};
 ghost use Rattle.heap.specs.Receipts.{receipt_of};
@@ -61,18 +61,18 @@ fn left_by(
 ) -> Result<Receipt, Cut>
     requires heap { seat.old.table ≡ heap.now.table }
     requires ticket { ticket.old.table ≡ heap.now.table }
-    requires may { CanLeave heap.now.opening.layout seat.old.held.unit seat.old.held.part
-        ticket.old.held.part op.now reply.now (epoch_of seat.old.held.part.stage) }
-    requires home { seat.old.held.turn.out ≡ false }
-    requires given { seat.old.held.turn.pushed ≡ slots_written seat.old.held.part }
+    requires may { CanLeave heap.now.opening.layout seat.old.known.unit seat.old.known.part
+        ticket.old.known.part op.now reply.now (epoch_of seat.old.known.part.stage) }
+    requires home { seat.old.known.turn.out ≡ false }
+    requires given { seat.old.known.turn.pushed ≡ slots_written seat.old.known.part }
     ensures unit { IfOk result (λ r. seat.new
-        ≡ record { table = seat.old.table; held = unit_left seat.old.held r.entry }) }
+        ≡ record { table = seat.old.table; known = unit_left seat.old.known r.entry }) }
     ensures caller { IfOk result (λ r. ticket.new ≡ record {
       table = ticket.old.table;
-      held = caller_answered ticket.old.held seat.old.held r.entry;
+      known = caller_answered ticket.old.known seat.old.known r.entry;
     }) }
-    ensures receipt { IfOk result (λ r. r ≡ receipt_of seat.old.held
-        (answer_of ticket.old.held op.now reply.now (epoch_of seat.old.held.part.stage))) }
+    ensures receipt { IfOk result (λ r. r ≡ receipt_of seat.old.known
+        (answer_of ticket.old.known op.now reply.now (epoch_of seat.old.known.part.stage))) }
     ensures cut { OnErr result ((seat.new ≡ seat.old) × (ticket.new ≡ ticket.old)) }
 {
     heap.leave(seat, ticket, op, reply, gate)
@@ -81,9 +81,9 @@ fn left_by(
 // Takes the unit's list, pushes what was written, and gives it back.
 fn list_written(heap: &Heap, seat: &mut UnitSeat, core: &Core)
     requires heap { seat.old.table ≡ heap.now.table }
-    requires within { IsTrue (is_within seat.old.held.part.stage) }
-    requires home { seat.old.held.turn ≡ home_turn }
-    requires unit { core.now.units ≡ seat.old.held.part ∷ [] }
+    requires within { IsTrue (is_within seat.old.known.part.stage) }
+    requires home { seat.old.known.turn ≡ home_turn }
+    requires unit { core.now.units ≡ seat.old.known.part ∷ [] }
     ensures { IsListed seat.old seat.new }
 {
     let mut list = heap.take_list(seat);

@@ -3,10 +3,10 @@ ghost use Rattle.std.specs.Prelude.{◌≡◌, IsTrue};
 ghost use Rattle.mont_base.specs.Layout.{units_of};
 ghost use Rattle.core_steps.specs.Announcing.{can_look};
 ghost use Rattle.heap.specs.HeapShown.{UnitShown, CallerShown};
-ghost use Rattle.heap_worked.specs.Advances.{IsAtRest};
+ghost use Rattle.heap_worked.specs.AdvanceSteps.{IsAtRest};
 ghost use Rattle.heap_worked.specs.Mirrors.{IsSameUnit, IsSameCaller};
 
-use crate::advances::advance_seat;
+use crate::advance_steps::advance_seat;
 use heap::{AdvSeat, Heap, Ticket, UnitSeat};
 use mont_base::{Epoch, Fuel, Steady};
 use std::thread;
@@ -22,9 +22,9 @@ pub(crate) fn run_beside<R: Threads + Sync>(
     advancer: AdvSeat,
     clock: Epoch,
 ) -> (((UnitSeat, u64), (Ticket, u64)), (AdvSeat, bool))
-    requires unit { (unit.table ≡ heap.now.table) × IsTrue (can_look unit.held.part) }
+    requires unit { (unit.table ≡ heap.now.table) × IsTrue (can_look unit.known.part) }
     requires caller { caller.table ≡ heap.now.table }
-    requires advancer { (advancer.table ≡ heap.now.table) × IsAtRest clock advancer.held }
+    requires advancer { (advancer.table ≡ heap.now.table) × IsAtRest clock advancer.known }
     requires one { units_of heap.now.opening.layout ≡ 1 }
     ensures unit { IsSameUnit unit result.0.0.0 }
     ensures caller { IsSameCaller caller result.0.1.0 }
@@ -33,12 +33,12 @@ pub(crate) fn run_beside<R: Threads + Sync>(
     thread::join(
         rt,
         || -> ((UnitSeat, u64), (Ticket, u64))
-            requires { (unit.table ≡ heap.now.table) × IsTrue (can_look unit.held.part)
+            requires { (unit.table ≡ heap.now.table) × IsTrue (can_look unit.known.part)
                 × (caller.table ≡ heap.now.table) }
             ensures { IsSameUnit unit result.0.0 × IsSameCaller caller result.1.0 }
         { look_and_see(rt, heap, unit, caller) },
         || -> (AdvSeat, bool)
-            requires { (advancer.table ≡ heap.now.table) × IsAtRest clock advancer.held
+            requires { (advancer.table ≡ heap.now.table) × IsAtRest clock advancer.known
                 × (units_of heap.now.opening.layout ≡ 1) }
             ensures { result.0.table ≡ advancer.table }
         { advanced(heap, advancer, clock) },
@@ -51,7 +51,7 @@ fn look_and_see<R: Threads + Sync>(
     unit: UnitSeat,
     caller: Ticket,
 ) -> ((UnitSeat, u64), (Ticket, u64))
-    requires unit { (unit.table ≡ heap.now.table) × IsTrue (can_look unit.held.part) }
+    requires unit { (unit.table ≡ heap.now.table) × IsTrue (can_look unit.known.part) }
     requires caller { caller.table ≡ heap.now.table }
     ensures unit { IsSameUnit unit result.0.0 }
     ensures caller { IsSameCaller caller result.1.0 }
@@ -59,7 +59,7 @@ fn look_and_see<R: Threads + Sync>(
     thread::join(
         rt,
         || -> (UnitSeat, u64)
-            requires { (unit.table ≡ heap.now.table) × IsTrue (can_look unit.held.part) }
+            requires { (unit.table ≡ heap.now.table) × IsTrue (can_look unit.known.part) }
             ensures { IsSameUnit unit result.0 }
         { look_often(heap, unit) },
         || -> (Ticket, u64)
@@ -71,7 +71,7 @@ fn look_and_see<R: Threads + Sync>(
 
 // How many of a thousand loads show the clock before or after the advance.
 fn look_often(heap: &Heap, unit: UnitSeat) -> (UnitSeat, u64)
-    requires unit { (unit.table ≡ heap.now.table) × IsTrue (can_look unit.held.part) }
+    requires unit { (unit.table ≡ heap.now.table) × IsTrue (can_look unit.known.part) }
     ensures { IsSameUnit unit result.0 }
 {
     let mut unit = unit;
@@ -87,9 +87,9 @@ fn look_often(heap: &Heap, unit: UnitSeat) -> (UnitSeat, u64)
 // Whether one load does.
 fn looks(heap: &Heap, unit: &mut UnitSeat) -> bool
     requires heap { unit.old.table ≡ heap.now.table }
-    requires may { IsTrue (can_look unit.old.held.part) }
+    requires may { IsTrue (can_look unit.old.known.part) }
     ensures same { IsSameUnit unit.old unit.new }
-    ensures part { unit.new.held.part ≡ unit.old.held.part }
+    ensures part { unit.new.known.part ≡ unit.old.known.part }
 {
     let found = heap.load_clock(unit, &mut Steady);
     matches!(found, Ok(2 | 3))
@@ -119,7 +119,7 @@ fn sees(heap: &Heap, caller: &mut Ticket) -> bool
 }
 
 fn advanced(heap: &Heap, advancer: AdvSeat, clock: Epoch) -> (AdvSeat, bool)
-    requires advancer { (advancer.table ≡ heap.now.table) × IsAtRest clock advancer.held }
+    requires advancer { (advancer.table ≡ heap.now.table) × IsAtRest clock advancer.known }
     requires one { units_of heap.now.opening.layout ≡ 1 }
     ensures { result.0.table ≡ advancer.table }
 {

@@ -3,7 +3,7 @@
 use crate::bench::Bench;
 use crate::expected_words::{are_after, count_steps};
 use crate::heap_runs::{CRASHED, EVERY_CALL, PUT};
-use crate::images::{image_of, reopened};
+use crate::image_bench::{image_of, reopened};
 use crate::openings::{begin, layout_of, stop};
 use crate::run_lines::follow;
 use crate::side_by_side::run_beside;

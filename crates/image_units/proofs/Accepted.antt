@@ -28,12 +28,12 @@ use Rattle.plain.specs.Built.{IsFirstFault, MakesStructure}
 use Rattle.plain.specs.States.{state_of}
 use Rattle.plain.proofs.Single.{no_structure}
 use Rattle.scan.specs.Scanned.{IsReadable}
-use Rattle.image_units.specs.declared.refusal.RecoverRefusal.{RecoverRefusal}
-use Rattle.image_units.specs.declared.refusal.RecoverRefusal.TheVariants as refusals
+use Rattle.image_units.specs.declared.recovery_refusal.RecoverRefusal.{RecoverRefusal}
+use Rattle.image_units.specs.declared.recovery_refusal.RecoverRefusal.TheVariants as refusals
 use Rattle.image_units.specs.FirstRefusal.{IsFirstRefusal}
 use Rattle.image_units.specs.Found.{all_records}
 use Rattle.image_units.specs.Refusals.{of_build}
-use Rattle.image_units.specs.Versions.{HasNoRepeat}
+use Rattle.image_units.specs.FoundVersions.{HasNoRepeat}
 use Rattle.image_units.proofs.UnitVersions.{repeats_refuse, units_apart}
 
 -- ---- the label that a slot is read as names the slot's unit

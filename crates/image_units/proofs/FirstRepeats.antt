@@ -18,7 +18,7 @@ use Rattle.std.proofs.lemmas.Map.Views.{tells_apart}
 use Rattle.mont_base.specs.declared.record.Held.{Held}
 use Rattle.mont_laws.specs.UnitRecords.{HasLowerSlot}
 use Rattle.mont_laws.proofs.Members.{no_element, first_element, later_element, element_cases, pair_cases}
-use Rattle.image_units.specs.Versions.{HasNoRepeat, IsFirstRepeat, IsSameVersion, Repeats, version_of}
+use Rattle.image_units.specs.FoundVersions.{HasNoRepeat, IsFirstRepeat, IsSameVersion, Repeats, version_of}
 
 -- the order of versions in the map
 abbrev pub version_cmp : ℕ × ℕ × ℕ → ℕ × ℕ × ℕ → Ordering

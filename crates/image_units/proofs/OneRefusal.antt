@@ -16,10 +16,10 @@ use Rattle.mont_base.specs.Versions.{live_objects}
 use Rattle.plain.specs.Built.{IsFirstFault}
 use Rattle.plain.proofs.Single.{no_structure}
 use Rattle.scan.specs.Scanned.{HasFault, IsLowestFault, IsReadAt}
-use Rattle.image_units.specs.declared.refusal.RecoverRefusal.{RecoverRefusal}
-use Rattle.image_units.specs.declared.refusal.RecoverRefusal.TheVariants as refusals
+use Rattle.image_units.specs.declared.recovery_refusal.RecoverRefusal.{RecoverRefusal}
+use Rattle.image_units.specs.declared.recovery_refusal.RecoverRefusal.TheVariants as refusals
 use Rattle.image_units.specs.FirstRefusal.{IsBadObject, IsFirstRefusal}
-use Rattle.image_units.specs.Versions.{IsFirstRepeat, Repeats}
+use Rattle.image_units.specs.FoundVersions.{IsFirstRepeat, Repeats}
 
 same_fault : (r : Result (Option (Label × List ℕ)) SlotFault) (x y : SlotFault) → r ≡ Err x → r ≡ Err y → x ≡ y
 same_fault r x y a b = cc

@@ -12,7 +12,7 @@ use Rattle.mont_laws.proofs.Members.{pair_cases}
 use Rattle.mont_laws.proofs.UnitSlots.{member_of_unit, slots_have_units, unit_of_member}
 use Rattle.scan.specs.Scanned.{all_slots}
 use Rattle.image_units.specs.UnitSlots.{slot_of}
-use Rattle.image_units.specs.Versions.{HasNoRepeat, Repeats}
+use Rattle.image_units.specs.FoundVersions.{HasNoRepeat, Repeats}
 use Rattle.image_units.proofs.UnitParts.{slots_rise}
 
 -- what each slot holds of its unit, if it holds a record

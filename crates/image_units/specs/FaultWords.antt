@@ -6,8 +6,8 @@ use Rattle.mont_base.specs.declared.record.SlotFault.{SlotFault}
 use Rattle.mont_base.specs.declared.record.SlotFault.TheVariants as slots
 use Rattle.image_units.specs.declared.image_fault.ImageFault.{ImageFault}
 use Rattle.image_units.specs.declared.image_fault.ImageFault.TheVariants as faults
-use Rattle.image_units.specs.declared.refusal.RecoverRefusal.{RecoverRefusal}
-use Rattle.image_units.specs.declared.refusal.RecoverRefusal.TheVariants as refusals
+use Rattle.image_units.specs.declared.recovery_refusal.RecoverRefusal.{RecoverRefusal}
+use Rattle.image_units.specs.declared.recovery_refusal.RecoverRefusal.TheVariants as refusals
 
 abbrev pub slot_fault_name : SlotFault → List ℕ
 slot_fault_name (slots.Kind word) = codes "kind"

@@ -6,10 +6,10 @@ use Rattle.mont_base.specs.Layout.{Shape, units_of}
 use Rattle.mont_base.specs.Versions.{live_objects}
 use Rattle.plain.specs.Built.{IsFirstFault, MakesStructure}
 use Rattle.scan.specs.Scanned.{IsLowestFault, IsReadable}
-use Rattle.image_units.specs.declared.refusal.RecoverRefusal.{RecoverRefusal}
-use Rattle.image_units.specs.declared.refusal.RecoverRefusal.TheVariants.{Slot, Twice, Object, Memory}
+use Rattle.image_units.specs.declared.recovery_refusal.RecoverRefusal.{RecoverRefusal}
+use Rattle.image_units.specs.declared.recovery_refusal.RecoverRefusal.TheVariants.{Slot, Twice, Object, Memory}
 use Rattle.image_units.specs.Found.{all_records}
-use Rattle.image_units.specs.Versions.{HasNoRepeat, IsFirstRepeat}
+use Rattle.image_units.specs.FoundVersions.{HasNoRepeat, IsFirstRepeat}
 
 -- every slot within the cut is read, but a version of a unit stands twice
 pub record IsTwice (s : Shape) (image : List ℕ) (slot other : ℕ) : Type 0 where

@@ -9,7 +9,7 @@ use Rattle.scan.specs.declared.scanned.Scan.{Scan}
 use Rattle.scan.specs.Scanned.{IsReadable, all_slots, is_lost, lost_among, records_among}
 use Rattle.image_units.specs.declared.found.FoundImage.{FoundImage}
 use Rattle.image_units.specs.declared.found.FoundUnit.{FoundUnit}
-use Rattle.image_units.specs.Versions.{HasNoRepeat}
+use Rattle.image_units.specs.FoundVersions.{HasNoRepeat}
 
 -- the records of all units within the cut, by rising slot
 abbrev pub all_records : Shape → List ℕ → List Held

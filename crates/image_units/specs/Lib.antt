@@ -3,4 +3,4 @@ pub mod FirstRefusal
 pub mod Found
 pub mod Refusals
 pub mod UnitSlots
-pub mod Versions
+pub mod FoundVersions

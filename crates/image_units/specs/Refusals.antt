@@ -8,8 +8,8 @@ use Rattle.scan.specs.declared.scanned.ScanRefusal.{ScanRefusal}
 use Rattle.scan.specs.declared.scanned.ScanRefusal.TheVariants as scanned
 use Rattle.image_units.specs.declared.image_fault.ImageFault.{ImageFault}
 use Rattle.image_units.specs.declared.image_fault.ImageFault.TheVariants as faults
-use Rattle.image_units.specs.declared.refusal.RecoverRefusal.{RecoverRefusal}
-use Rattle.image_units.specs.declared.refusal.RecoverRefusal.TheVariants.{Slot, Twice, Object, Memory}
+use Rattle.image_units.specs.declared.recovery_refusal.RecoverRefusal.{RecoverRefusal}
+use Rattle.image_units.specs.declared.recovery_refusal.RecoverRefusal.TheVariants.{Slot, Twice, Object, Memory}
 
 abbrev pub of_scan : ScanRefusal → RecoverRefusal
 of_scan (scanned.Slot slot fault) = Slot slot fault

@@ -3,7 +3,7 @@ ghost use Rattle.std.specs.Prelude.{◌≡◌};
 ghost use Rattle.image_units.specs.Refusals.{fault_of_bytes, fault_of_words};
 
 use crate::fault_words::{object_fault_word, slot_fault_word};
-use crate::refusal::RecoverRefusal;
+use crate::recovery_refusal::RecoverRefusal;
 use mont_base::{ObjectFault, Slot, SlotFault, Unit};
 use mont_image::ImageRefusal;
 use std::fmt;

@@ -3,19 +3,19 @@
 #![tactic(auto)]
 
 mod fault_words;
-mod finding;
 mod found;
+mod found_versions;
 mod image_fault;
-mod laws;
-mod refusal;
+mod recovery_refusal;
+mod refusal_laws;
 #[cfg(test)]
 mod tests;
+mod unit_search;
 mod unit_slots;
-mod versions;
 
-pub use finding::find_units;
 pub use found::{FoundImage, FoundUnit};
+pub use found_versions::check_versions;
 pub use image_fault::ImageFault;
-pub use laws::{refusals_are_one, refused_images_are_malformed};
-pub use refusal::RecoverRefusal;
-pub use versions::check_versions;
+pub use recovery_refusal::RecoverRefusal;
+pub use refusal_laws::{refusals_are_one, refused_images_are_malformed};
+pub use unit_search::find_units;

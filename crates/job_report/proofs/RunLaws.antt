@@ -16,7 +16,7 @@ use Rattle.mont_base.specs.State.{State, Run, step, run_of, unit_of_op, unit_aim
 use Rattle.plain.proofs.Lists.{opened}
 use Rattle.core_steps.proofs.Decisions.{both, le_true, lt_true, lt_false}
 use Rattle.core_steps.proofs.RowFacts.{row_before, row_last, same_item}
-use Rattle.job_report.specs.Ranges.{IsShortOp, IsShort, AreRuns}
+use Rattle.job_report.specs.FoundRuns.{IsShortOp, IsShort, AreRuns}
 
 -- ---- ranges of a legal history have room
 short_range : (s : Shape) (unit own most : ℕ) (b : Bool) → can_range most ≡ b → unit_aimed s (range_aim b own) ≡ Some unit

@@ -40,7 +40,7 @@ use Rattle.job_worker.specs.Ending.{units_cut}
 use Rattle.store_stop.specs.declared.headline.Stopped.{Stopped}
 use Rattle.store_stop.specs.Headline.{HasSeen, IsCutAsMarked, parts_shown, cut_states}
 use Rattle.store_stop.proofs.Items.{all_gives}
-use Rattle.job_report.specs.Ranges.{AreRuns}
+use Rattle.job_report.specs.FoundRuns.{AreRuns}
 use Rattle.job_report.specs.Reported.{WasRun}
 use Rattle.job_report.proofs.Answering.{lines_for}
 use Rattle.job_report.proofs.Naming.{named_alike, sums_alike, cut_named}
@@ -97,8 +97,8 @@ module _ (j : Job) (o : Opening) (callers : List CallerShown) (outcomes : List (
   abbrev parts : List CallerPart
   parts = parts_shown callers
 
-  part_at : (k : ℕ) (left : CallerShown) → slice_get callers k ≡ Some left → slice_get parts k ≡ Some left.held.part
-  part_at k left e = row_in_map (λ (s : CallerShown). s.held.part) callers k left e
+  part_at : (k : ℕ) (left : CallerShown) → slice_get callers k ≡ Some left → slice_get parts k ≡ Some left.known.part
+  part_at k left e = row_in_map (λ (s : CallerShown). s.known.part) callers k left e
 
   outcomes_at : (k : ℕ) (left : CallerShown) → slice_get callers k ≡ Some left
       → (xs : List Outcome) × (slice_get outcomes k ≡ Some xs)
@@ -130,26 +130,26 @@ module _ (j : Job) (o : Opening) (callers : List CallerShown) (outcomes : List (
   begun : t.base_clock ≤ image_clock
   begun = let h = w.stopped.clocks.begun in let d = before in omega (arith, h, d)
 
-  learnt : (k : ℕ) (left : CallerShown) → slice_get callers k ≡ Some left → left.held.part.durable ≤ image_clock
+  learnt : (k : ℕ) (left : CallerShown) → slice_get callers k ≡ Some left → left.known.part.durable ≤ image_clock
   learnt k left e =
-      let h = all_gives (λ (q : CallerPart). q.durable ≤ clock_of t.words.dur) parts k left.held.part
+      let h = all_gives (λ (q : CallerPart). q.durable ≤ clock_of t.words.dur) parts k left.known.part
       w.stopped.clocks.learnt (part_at k left e) in
       let d = before in
       omega (arith, h, d)
 
   -- ---- entries
   seen : (k : ℕ) (left : CallerShown) → slice_get callers k ≡ Some left
-      → (unit : ℕ) (front : List Entry) → slice_get left.held.entries unit ≡ Some front → StandsFirst t.histories unit front
+      → (unit : ℕ) (front : List Entry) → slice_get left.known.entries unit ≡ Some front → StandsFirst t.histories unit front
   seen k left e unit front there =
-      let has = all_gives (λ (s : CallerShown). HasSeen t.histories s.held) callers k left w.stopped.seen e in
-      let fits = all_gives (FitsHistories t.histories) (map view_of parts) k (view_of left.held.part) w.stopped.order.fit
-      (row_in_map view_of parts k left.held.part (part_at k left e)) in
-      let below = slice_get_within left.held.entries unit front there in
+      let has = all_gives (λ (s : CallerShown). HasSeen t.histories s.known) callers k left w.stopped.seen e in
+      let fits = all_gives (FitsHistories t.histories) (map view_of parts) k (view_of left.known.part) w.stopped.order.fit
+      (row_in_map view_of parts k left.known.part (part_at k left e)) in
+      let below = slice_get_within left.known.entries unit front there in
       let long = has.units in
       let h = item_at t.histories unit (omega (arith, below, long)) in
       let units = fits.units in
-      let n = item_at left.held.part.fronts unit (omega (arith, below, long, units)) in
-      let is = same_item left.held.entries unit front (take n.0 h.0) there (has.each unit n.0 h.0 n.1 h.1) in
+      let n = item_at left.known.part.fronts unit (omega (arith, below, long, units)) in
+      let is = same_item left.known.entries unit front (take n.0 h.0) there (has.each unit n.0 h.0 n.1 h.1) in
       record {
         whole = h.0;
         there = h.1;
@@ -159,7 +159,7 @@ module _ (j : Job) (o : Opening) (callers : List CallerShown) (outcomes : List (
   -- ---- cuts
   was_cut : (by unit : ℕ) (q : CallerPart) → slice_get parts by ≡ Some q → Contains q.cuts unit → WasCutIn told by unit
   was_cut by unit q is cut =
-      let left = row_of_map (λ (s : CallerShown). s.held.part) callers by q is in
+      let left = row_of_map (λ (s : CallerShown). s.known.part) callers by q is in
       let xs = outcomes_at by left.0 left.1 in
       let run = w.each by left.0 xs.0 left.1 xs.1 in
       let cuts : q.cuts ≡ units_cut xs.0 =
@@ -172,14 +172,14 @@ module _ (j : Job) (o : Opening) (callers : List CallerShown) (outcomes : List (
       record { by = c.by; named = c.named; cut = was_cut c.by m.unit row.0 row.1 row.2 }
 
   marks : (k : ℕ) (left : CallerShown) → slice_get callers k ≡ Some left
-      → (m : Mark) → has_mark left.held.part.marks m ≡ true → continuing.IsCutAsMarked told m
+      → (m : Mark) → has_mark left.known.part.marks m ≡ true → continuing.IsCutAsMarked told m
   marks k left e m has =
-      let all = all_gives (λ (q : CallerPart). All (IsCutAsMarked parts) q.marks) parts k left.held.part w.stopped.marks
+      let all = all_gives (λ (q : CallerPart). All (IsCutAsMarked parts) q.marks) parts k left.known.part w.stopped.marks
       (part_at k left e) in
-      marked_truly m (marked (IsCutAsMarked parts) left.held.part.marks m all has)
+      marked_truly m (marked (IsCutAsMarked parts) left.known.part.marks m all has)
 
   -- ---- the report goes on from what each caller has seen
-  continues : (k : ℕ) (left : CallerShown) → slice_get callers k ≡ Some left → Continues o told left.held
+  continues : (k : ℕ) (left : CallerShown) → slice_get callers k ≡ Some left → Continues o told left.known
   continues k left e = record {
     layout = sym w.layout;
     base_clock = w.opened.clock_is;
@@ -213,14 +213,14 @@ module _ (j : Job) (o : Opening) (callers : List CallerShown) (outcomes : List (
   named_by unit place k xs rs e f =
       let left = caller_at k xs e in
       let run = w.each k left.0 xs left.1 e in
-      let is = same_item (map receipts_of parts) k left.0.held.part.receipts rs
-      (row_in_map receipts_of parts k left.0.held.part (part_at k left.0 left.1)) f in
+      let is = same_item (map receipts_of parts) k left.0.known.part.receipts rs
+      (row_in_map receipts_of parts k left.0.known.part (part_at k left.0 left.1)) f in
       named_alike unit place xs rs (run.worked.receipts ∙ ap (map _) is)
 
   named_once : (unit : ℕ) → AllNamedAt told unit
   named_once unit place entry there =
       let long : length outcomes ≡ length (map receipts_of parts) =
-      w.answered ∙ sym w.callers_are ∙ sym (length-map callers (λ (s : CallerShown). s.held.part)) ∙ sym (length-map parts receipts_of) in
+      w.answered ∙ sym w.callers_are ∙ sym (length-map callers (λ (s : CallerShown). s.known.part)) ∙ sym (length-map parts receipts_of) in
       sums_alike (λ (xs : List Outcome). count_by (names_entry unit place) xs)
       (λ (rs : List Receipt). count_by (names_place unit place) rs) outcomes (map receipts_of parts) long (named_by unit place)
       ∙ w.stopped.order.named_once unit place entry there

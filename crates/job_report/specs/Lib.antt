@@ -1,2 +1,2 @@
-pub mod Ranges
+pub mod FoundRuns
 pub mod Reported

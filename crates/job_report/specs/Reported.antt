@@ -6,7 +6,7 @@ use Rattle.mont_base.specs.Image.{IsPermitted, IsRecovered, clock_of}
 use Rattle.mont_base.specs.State.{State, Run}
 use Rattle.plain.specs.States.{states_of}
 use Rattle.heap_rule.specs.declared.rule.Opening.{Opening}
-use Rattle.heap_rule.specs.declared.views.CallerHeld.{CallerHeld}
+use Rattle.heap_rule.specs.declared.views.CallerKnown.{CallerKnown}
 use Rattle.heap.specs.HeapShown.{CallerShown}
 use Rattle.job_text.specs.declared.job.Job.{Job}
 use Rattle.job_text.specs.declared.outcome.Outcome.{Outcome}
@@ -18,9 +18,9 @@ use Rattle.store_stop.specs.Headline.{IsBaseOf, IsStopped}
 
 -- A caller of the job was left with this. It wasn't cut before it began, its gate showed these
 -- counts before its lines and behind them, and it cuts no caller that the job doesn't stop.
-pub record HasRun (j : Job) (o : Opening) (caller : ℕ) (left : CallerHeld)
+pub record HasRun (j : Job) (o : Opening) (caller : ℕ) (left : CallerKnown)
     (outcomes : List Outcome) : Type 0 where
-  pub begun : CallerHeld
+  pub begun : CallerKnown
   pub number : begun.caller ≡ caller
   pub uncut : begun.part.cuts ≡ []
   pub first : ℕ
@@ -41,7 +41,7 @@ pub record WasRun (j : Job) (o : Opening) (callers : List CallerShown)
   pub each :
       (caller : ℕ) (left : CallerShown) (of_caller : List Outcome)
       → slice_get callers caller ≡ Some left → slice_get outcomes caller ≡ Some of_caller
-      → HasRun j o caller left.held of_caller
+      → HasRun j o caller left.known of_caller
   pub stopped : IsStopped o.layout t.base_clock t.base callers t
   pub permitted : IsPermitted t.words.cur t.words.dur image
   pub clock : image_clock ≡ clock_of image

@@ -2,7 +2,7 @@
 //! histories that the store told when it was stopped and what recovery finds in an image of it.
 #![tactic(auto)]
 
+mod found_runs;
 mod reported;
-mod runs;
 
 pub use reported::make_report;

@@ -6,10 +6,10 @@ ghost use Rattle.heap.specs.HeapShown.{CallerShown};
 ghost use Rattle.job_text.specs.Faithful.{IsFaithful};
 ghost use Rattle.job_text.specs.PlainReport.{report_of};
 ghost use Rattle.job_worker.specs.Asking.{opened_records};
-ghost use Rattle.job_report.specs.Ranges.{AreRuns};
+ghost use Rattle.job_report.specs.FoundRuns.{AreRuns};
 ghost use Rattle.job_report.specs.Reported.{WasRun, report_made};
 
-use crate::runs::all_runs;
+use crate::found_runs::all_runs;
 use job_text::{Job, Outcome, Report};
 use mont_base::{Epoch, Sequence};
 use plain::Contents;

@@ -6,7 +6,7 @@ use Rattle.std.proofs.lemmas.List.Elements.{All-filter, All-get_or}
 use Rattle.std.proofs.lemmas.Option.{get_or_from_slice_get, slice_get_within}
 use Rattle.core_steps.proofs.RowFacts.{all_at, same_item, row_of_map, row_in_map}
 use Rattle.heap_rule.specs.declared.rule.Opening.{Opening}
-use Rattle.heap_rule.specs.declared.views.CallerHeld.{CallerHeld}
+use Rattle.heap_rule.specs.declared.views.CallerKnown.{CallerKnown}
 use Rattle.job_text.specs.declared.job.Job.{Job}
 use Rattle.job_text.specs.declared.job.Line.{Line}
 use Rattle.job_text.specs.declared.outcome.Outcome.{Outcome}
@@ -22,7 +22,7 @@ all_gives : {A : Type 0} (Q : A → Type 0) (xs : List A) (i : ℕ) (x : A) → 
 all_gives Q xs i x all e =
     subst Q (get_or_from_slice_get xs i x x e) (All-get_or Q xs i x (slice_get_within xs i x e) all)
 
-module _ {P : Type 0} (o : Opening) (has : P → Type 0) (held : P → CallerHeld) (cuts : P → ℕ) (endless : P → Bool) where
+module _ {P : Type 0} (o : Opening) (has : P → Type 0) (held : P → CallerKnown) (cuts : P → ℕ) (endless : P → Bool) where
   -- nothing was begun
   pub untouched : (lines : List Line) (p : P) → has p → IsWorked o has held cuts endless lines p p None
   untouched lines p own = record {

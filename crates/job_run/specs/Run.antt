@@ -3,7 +3,7 @@ use Rattle.std.specs.Prelude.{◌≡◌, ℕ, Bool, false, List, length, slice_g
 use Rattle.std.specs.List.{list_any}
 use Rattle.mont_base.specs.Faults.{Rose}
 use Rattle.heap_rule.specs.declared.rule.Opening.{Opening}
-use Rattle.heap_rule.specs.declared.views.CallerHeld.{CallerHeld}
+use Rattle.heap_rule.specs.declared.views.CallerKnown.{CallerKnown}
 use Rattle.heap.specs.GateAsked.{IsAskedOften}
 use Rattle.job_text.specs.declared.job.Job.{Job}
 use Rattle.job_text.specs.declared.job.Line.{Line}
@@ -19,13 +19,13 @@ was_cut_in (Some outcomes) = list_any is_cut outcomes
 was_cut_in None = false
 
 -- a pass of the store, on which no call was answered yet
-pub record IsFresh {P : Type 0} (has : P → Type 0) (held : P → CallerHeld) (pass : P)
+pub record IsFresh {P : Type 0} (has : P → Type 0) (held : P → CallerKnown) (pass : P)
     : Type 0 where
   pub own : has pass
   pub unanswered : IsUnanswered (held pass)
 
 -- a store's opening, which passes are its own, and what a pass shows
-module _ {P : Type 0} (o : Opening) (has : P → Type 0) (held : P → CallerHeld) (cuts : P → ℕ)
+module _ {P : Type 0} (o : Opening) (has : P → Type 0) (held : P → CallerKnown) (cuts : P → ℕ)
     (endless : P → Bool) where
   -- The lines were carried out with these outcomes, or as far as memory allowed.
   pub record IsWorked (lines : List Line) (old new : P) (done : Option (List Outcome))

@@ -59,10 +59,10 @@ pub(crate) fn work_at<R: Wait, P, S: Asks<P>>(
     caller: usize,
     desk: &mut Desk<P>,
 )
-    requires fresh { IsFresh (S.has store.now) S.held desk.old.pass }
+    requires fresh { IsFresh (S.has store.now) S.known desk.old.pass }
     requires lines { All (λ (l : LineModel). MayBeAsked (S.opening store.now).layout l.deed)
         job.now.lines }
-    ensures { IsWorked (S.opening store.now) (S.has store.now) S.held S.cuts S.endless
+    ensures { IsWorked (S.opening store.now) (S.has store.now) S.known S.cuts S.endless
         (lines_of job.now caller) desk.old.pass desk.new.pass desk.new.done }
 {
     desk.done = outcomes_of(rt, alloc, store, job, caller as u64, &mut desk.pass);
@@ -77,10 +77,10 @@ fn outcomes_of<R: Wait, P, S: Asks<P>>(
     caller: u64,
     pass: &mut P,
 ) -> Option<Sequence<Outcome>>
-    requires fresh { IsFresh (S.has store.now) S.held pass.old }
+    requires fresh { IsFresh (S.has store.now) S.known pass.old }
     requires lines { All (λ (l : LineModel). MayBeAsked (S.opening store.now).layout l.deed)
         job.now.lines }
-    ensures { IsWorked (S.opening store.now) (S.has store.now) S.held S.cuts S.endless
+    ensures { IsWorked (S.opening store.now) (S.has store.now) S.known S.cuts S.endless
         (lines_of job.now caller) pass.old pass.new result }
 {
     let Ok(lines) = lines_asked(alloc, job, caller) else {

@@ -38,13 +38,13 @@ pub fn run_job<R: Threads + Wait + Sync, P: Send + Drop, A: Send, S: Asks<P> + A
     passes: &mut Vec<P>,
     gate: &mut A,
 ) -> Result<Ran, AllocError>
-    requires passes { All (IsFresh (S.has store.now) S.held) passes.old.items }
+    requires passes { All (IsFresh (S.has store.now) S.known) passes.old.items }
     requires lines { All (λ (l : LineModel). MayBeAsked (S.opening store.now).layout l.deed)
         job.now.lines }
-    ensures worked { IfOk result (λ ran. AreWorked (S.opening store.now) (S.has store.now) S.held
+    ensures worked { IfOk result (λ ran. AreWorked (S.opening store.now) (S.has store.now) S.known
         S.cuts S.endless job.now passes.old.items passes.new.items (map Some ran.outcomes)) }
     ensures stands { OnErr result ((done : List (Option (List OutcomeModel)))
-        × AreWorked (S.opening store.now) (S.has store.now) S.held S.cuts S.endless job.now
+        × AreWorked (S.opening store.now) (S.has store.now) S.known S.cuts S.endless job.now
         passes.old.items passes.new.items done) }
     ensures gate { (cut : Bool)
         × IsAskedOften S.gate_cuts S.gate_endless gate.old gate.new cut }
@@ -64,10 +64,10 @@ fn done_by<R: Threads + Wait + Sync, P: Send + Drop, A: Send, S: Asks<P> + Advan
     passes: &mut Vec<P>,
     gate: &mut A,
 ) -> Result<Vec<Option<Sequence<Outcome>>>, AllocError>
-    requires passes { All (IsFresh (S.has store.now) S.held) passes.old.items }
+    requires passes { All (IsFresh (S.has store.now) S.known) passes.old.items }
     requires lines { All (λ (l : LineModel). MayBeAsked (S.opening store.now).layout l.deed)
         job.now.lines }
-    ensures worked { IfOk result (λ done. AreWorked (S.opening store.now) (S.has store.now) S.held
+    ensures worked { IfOk result (λ done. AreWorked (S.opening store.now) (S.has store.now) S.known
         S.cuts S.endless job.now passes.old.items passes.new.items done.items) }
     ensures untouched { OnErr result (passes.new.items ≡ passes.old.items) }
     ensures gate { (cut : Bool)
@@ -92,10 +92,10 @@ fn run_desks<R: Threads + Wait + Sync, P: Send, A: Send, S: Asks<P> + Advances<A
     gate: &mut A,
     mut desks: Vec<Desk<P>>,
 ) -> Vec<Desk<P>>
-    requires fresh { All (λ d. IsFresh (S.has store.now) S.held d.pass) desks.items }
+    requires fresh { All (λ d. IsFresh (S.has store.now) S.known d.pass) desks.items }
     requires lines { All (λ (l : LineModel). MayBeAsked (S.opening store.now).layout l.deed)
         job.now.lines }
-    ensures worked { AreLeft (S.opening store.now) (S.has store.now) S.held S.cuts S.endless
+    ensures worked { AreLeft (S.opening store.now) (S.has store.now) S.known S.cuts S.endless
         job.now desks.items result.items }
     ensures gate { (cut : Bool)
         × IsAskedOften S.gate_cuts S.gate_endless gate.old gate.new cut }
@@ -114,10 +114,10 @@ fn run_beside<R: Threads + Wait + Sync, P: Send, A: Send, S: Asks<P> + Advances<
     gate: &mut A,
     desks: &mut [Desk<P>],
 ) -> bool
-    requires fresh { All (λ d. IsFresh (S.has store.now) S.held d.pass) desks.old }
+    requires fresh { All (λ d. IsFresh (S.has store.now) S.known d.pass) desks.old }
     requires lines { All (λ (l : LineModel). MayBeAsked (S.opening store.now).layout l.deed)
         job.now.lines }
-    ensures worked { AreLeft (S.opening store.now) (S.has store.now) S.held S.cuts S.endless
+    ensures worked { AreLeft (S.opening store.now) (S.has store.now) S.known S.cuts S.endless
         job.now desks.old desks.new }
     ensures gate { IsAskedOften S.gate_cuts S.gate_endless gate.old gate.new result }
 {
@@ -129,10 +129,10 @@ fn run_beside<R: Threads + Wait + Sync, P: Send, A: Send, S: Asks<P> + Advances<
         { make_attempts(rt, store, attempts, gate) },
         &mut ||
             requires { IsSync R.row × IsSync S.row × IsSend P.row
-                × All (λ d. IsFresh (S.has store.now) S.held d.pass) desks.now
+                × All (λ d. IsFresh (S.has store.now) S.known d.pass) desks.now
                 × All (λ (l : LineModel). MayBeAsked (S.opening store.now).layout l.deed)
                 job.now.lines }
-            ensures { AreLeft (S.opening store.entry.now) (S.has store.entry.now) S.held S.cuts
+            ensures { AreLeft (S.opening store.entry.now) (S.has store.entry.now) S.known S.cuts
                 S.endless job.entry.now desks.entry.now desks.exit.now }
         { work_all(rt, alloc, store, job, desks) },
     );
@@ -147,10 +147,10 @@ fn work_all<R: Threads + Wait + Sync, P: Send, S: Asks<P> + Sync>(
     job: &Job,
     desks: &mut [Desk<P>],
 )
-    requires fresh { All (λ d. IsFresh (S.has store.now) S.held d.pass) desks.old }
+    requires fresh { All (λ d. IsFresh (S.has store.now) S.known d.pass) desks.old }
     requires lines { All (λ (l : LineModel). MayBeAsked (S.opening store.now).layout l.deed)
         job.now.lines }
-    ensures worked { AreLeft (S.opening store.now) (S.has store.now) S.held S.cuts S.endless
+    ensures worked { AreLeft (S.opening store.now) (S.has store.now) S.known S.cuts S.endless
         job.now desks.old desks.new }
 {
     let threads = desks.len().max(1);
@@ -159,10 +159,10 @@ fn work_all<R: Threads + Wait + Sync, P: Send, S: Asks<P> + Sync>(
         desks,
         threads,
         &|caller: usize, desk: &mut Desk<P>|
-            requires { IsFresh (S.has store.now) S.held desk.now.pass
+            requires { IsFresh (S.has store.now) S.known desk.now.pass
                 × All (λ (l : LineModel). MayBeAsked (S.opening store.now).layout l.deed)
                 job.now.lines }
-            ensures { IsWorked (S.opening store.entry.now) (S.has store.entry.now) S.held S.cuts
+            ensures { IsWorked (S.opening store.entry.now) (S.has store.entry.now) S.known S.cuts
                 S.endless (lines_of job.entry.now caller) desk.entry.now.pass desk.exit.now.pass
                 desk.exit.now.done }
         { work_at(rt, alloc, store, job, caller, desk) },

@@ -41,7 +41,7 @@ impl Asks<Guest> for Hall {
 
     ghost has = { λ h g. Stands h.layout g.clock 0 };
 
-    ghost held = { λ g. shows g.clock 0 0 [] [] [] };
+    ghost known = { λ g. shows g.clock 0 0 [] [] [] };
 
     ghost cuts = { λ g. 0 };
 

@@ -12,7 +12,7 @@ use Rattle.mont_base.specs.Room.{room_of}
 use Rattle.mont_base.specs.Seen.{IsEntryAt}
 use Rattle.mont_base.specs.State.{State, unit_of_op}
 use Rattle.heap_rule.specs.declared.rule.Opening.{Opening}
-use Rattle.heap_rule.specs.declared.views.CallerHeld.{CallerHeld}
+use Rattle.heap_rule.specs.declared.views.CallerKnown.{CallerKnown}
 use Rattle.job_text.specs.declared.job.Deed.{Deed}
 use Rattle.job_text.specs.declared.job.Deed.TheVariants.{Call}
 use Rattle.job_text.specs.declared.outcome.Outcome.{Outcome}
@@ -29,13 +29,13 @@ use Rattle.job_worker.proofs.Later.{found_more, some_moment}
 
 -- ---- answered
 -- the entry that the report has at the place
-answered_there : (o : Opening) (t : Report) (q r : CallerHeld) (op : Op) (receipt : Receipt)
+answered_there : (o : Opening) (t : Report) (q r : CallerKnown) (op : Op) (receipt : Receipt)
     → HasContinued o q r op receipt → Continues o t r → IsEntryAt t.histories receipt.unit receipt.place receipt.entry
 answered_there o t q r op receipt h c =
     subst (λ (n : ℕ). IsEntryAt t.histories receipt.unit n receipt.entry) (sym h.place)
     (entry_there t.histories r.entries receipt.unit h.history receipt.entry c.seen h.seen)
 
-answered_behind : (o : Opening) (t : Report) (q r : CallerHeld) (op : Op) (receipt : Receipt)
+answered_behind : (o : Opening) (t : Report) (q r : CallerKnown) (op : Op) (receipt : Receipt)
     → HasContinued o q r op receipt → Continues o t r
     → ComesBehind t.histories q (outcomes.At receipt.unit receipt.place)
 answered_behind o t q r op receipt h c =
@@ -57,7 +57,7 @@ answered_behind o t q r op receipt h c =
       settled = λ clock e. absurd (none-some clock e);
     }
 
-answered_before : (o : Opening) (t : Report) (q r : CallerHeld) (op : Op) (receipt : Receipt)
+answered_before : (o : Opening) (t : Report) (q r : CallerKnown) (op : Op) (receipt : Receipt)
     → HasContinued o q r op receipt → Continues o t r
     → IsBefore t.histories r (outcomes.At receipt.unit receipt.place)
 answered_before o t q r op receipt h c =
@@ -82,7 +82,7 @@ answered_before o t q r op receipt h c =
       clocks = λ clock e. absurd (none-some clock e);
     }
 
-pub ends_at : (o : Opening) (q r : CallerHeld) (op : Op) (receipt : Receipt) → HasContinued o q r op receipt
+pub ends_at : (o : Opening) (q r : CallerKnown) (op : Op) (receipt : Receipt) → HasContinued o q r op receipt
     → Ends o q r (Call op) (outcomes.At receipt.unit receipt.place)
 ends_at o q r op receipt h = record {
   goes_on = h.goes_on;
@@ -105,7 +105,7 @@ ends_at o q r op receipt h = record {
 }
 
 -- ---- outcomes that name nothing
-pub silent_before : (histories : List (List Entry)) (r : CallerHeld) (x : Outcome) → place_of x ≡ None
+pub silent_before : (histories : List (List Entry)) (r : CallerKnown) (x : Outcome) → place_of x ≡ None
     → ((epoch : ℕ) → HasEpoch histories x epoch → ⊥) → clock_of x ≡ None → IsBefore histories r x
 silent_before histories r x place epoch clock = record {
   places = λ u n e. absurd (none-some (u, n) (sym place ∙ e));
@@ -113,7 +113,7 @@ silent_before histories r x place epoch clock = record {
   clocks = λ n e. absurd (none-some n (sym clock ∙ e));
 }
 
-pub silent_behind : (histories : List (List Entry)) (q : CallerHeld) (x : Outcome) → place_of x ≡ None
+pub silent_behind : (histories : List (List Entry)) (q : CallerKnown) (x : Outcome) → place_of x ≡ None
     → ((epoch : ℕ) → HasEpoch histories x epoch → ⊥) → tick_of x ≡ None
     → ((clock : ℕ) → settled_of x ≡ Some clock → IsSettled q clock) → ComesBehind histories q x
 silent_behind histories q x place epoch tick settled = record {
@@ -134,7 +134,7 @@ room_lacks o t need free clock op layout few unit base h (n, f) = record {
   few = few;
 }
 
-reached_then : (o : Opening) (t : Report) (q r : CallerHeld) (op : Op) (need free clock : ℕ)
+reached_then : (o : Opening) (t : Report) (q r : CallerKnown) (op : Op) (need free clock : ℕ)
     → HasNoRoom o q r op need free clock → Continues o t r → IsReached t clock
 reached_then o t q r op need free clock h c =
     let base = c.base_clock in
@@ -143,7 +143,7 @@ reached_then o t q r op need free clock h c =
     let image = c.durable in
     record { begun = omega (arith, base, begun); last = omega (arith, learnt, image) }
 
-lacks_then : (o : Opening) (t : Report) (q r : CallerHeld) (before after : List Outcome) (op : Op) (need free clock : ℕ)
+lacks_then : (o : Opening) (t : Report) (q r : CallerKnown) (before after : List Outcome) (op : Op) (need free clock : ℕ)
     → HasNoRoom o q r op need free clock → Continues o t r → All (IsBefore t.histories q) before → All (IsAhead r) after
     → SomeMoment t before after op
     (λ unit base h. LacksRoom (length (effects_then base h op)) (room_of t.layout.slots base h clock) need free)
@@ -175,7 +175,7 @@ fewer : (needed room need free : ℕ) → LacksRoom needed room need free → ro
 fewer needed room need free l =
     let n = l.as_needed in let f = l.as_free in let few = l.few in omega (arith, n, f, few)
 
-pub may_be_full : (o : Opening) (t : Report) (q r : CallerHeld) (before after : List Outcome) (op : Op) (need free clock : ℕ)
+pub may_be_full : (o : Opening) (t : Report) (q r : CallerKnown) (before after : List Outcome) (op : Op) (need free clock : ℕ)
     → HasNoRoom o q r op need free clock → Continues o t r → All (IsBefore t.histories q) before → All (IsAhead r) after
     → MayBeFull t before after op
 may_be_full o t q r before after op need free clock h c b a = record {
@@ -191,7 +191,7 @@ may_be_full o t q r before after op need free clock h c b a = record {
 
 -- ---- refused
 -- no call was answered, and no unit was left cut
-pub kept_ends : (o : Opening) (q r : CallerHeld) (deed : Deed) (x : Outcome) → KeepsAnswers q r
+pub kept_ends : (o : Opening) (q r : CallerKnown) (deed : Deed) (x : Outcome) → KeepsAnswers q r
     → count_by is_at (x ∷ []) ≡ 0 → places_named (x ∷ []) ≡ [] → units_cut (x ∷ []) ≡ []
     → ((t : Report) → Continues o t r → IsTold o t q r deed x) → Ends o q r deed x
 kept_ends o q r deed x k none nowhere uncut told = record {
@@ -204,7 +204,7 @@ kept_ends o q r deed x k none nowhere uncut told = record {
   told = told;
 }
 
-pub ends_full : (o : Opening) (q r : CallerHeld) (op : Op) (need free clock : ℕ) → q.part.newest + 2 ≤ q.part.durable
+pub ends_full : (o : Opening) (q r : CallerKnown) (op : Op) (need free clock : ℕ) → q.part.newest + 2 ≤ q.part.durable
     → HasNoRoom o q r op need free clock → Ends o q r (Call op) (outcomes.Full need free clock)
 ends_full o q r op need free clock settled h =
     kept_ends o q r (Call op) (outcomes.Full need free clock) h.keeps refl refl refl (λ t c. record {
@@ -219,7 +219,7 @@ ends_full o q r op need free clock settled h =
       before = silent_before t.histories r (outcomes.Full need free clock) refl (λ epoch e. e) refl;
     })
 
-pub ends_count : (o : Opening) (q r : CallerHeld) (op : Op) (which : Which) → HasEnd o q r op which
+pub ends_count : (o : Opening) (q r : CallerKnown) (op : Op) (which : Which) → HasEnd o q r op which
     → Ends o q r (Call op) (outcomes.CountEnd which)
 ends_count o q r op which h =
     kept_ends o q r (Call op) (outcomes.CountEnd which) h.keeps refl refl refl (λ t c. record {
@@ -233,7 +233,7 @@ ends_count o q r op which h =
       before = silent_before t.histories r (outcomes.CountEnd which) refl (λ epoch e. e) refl;
     })
 
-pub ends_halted : (o : Opening) (q r : CallerHeld) (op : Op) (unit by : ℕ) → WasHalted o q r op unit by
+pub ends_halted : (o : Opening) (q r : CallerKnown) (op : Op) (unit by : ℕ) → WasHalted o q r op unit by
     → Ends o q r (Call op) (outcomes.Halted unit by)
 ends_halted o q r op unit by h =
     kept_ends o q r (Call op) (outcomes.Halted unit by) h.keeps refl refl refl (λ t c. record {
@@ -247,7 +247,7 @@ ends_halted o q r op unit by h =
       before = silent_before t.histories r (outcomes.Halted unit by) refl (λ epoch e. e) refl;
     })
 
-pub ends_cut : (o : Opening) (q r : CallerHeld) (op : Op) (unit : ℕ) → IsCutIn o q r op unit
+pub ends_cut : (o : Opening) (q r : CallerKnown) (op : Op) (unit : ℕ) → IsCutIn o q r op unit
     → Ends o q r (Call op) (outcomes.CutIn unit)
 ends_cut o q r op unit h = record {
   goes_on = h.goes_on;

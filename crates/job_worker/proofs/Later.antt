@@ -7,7 +7,7 @@ use Rattle.mont_base.specs.declared.operation.Op.{Op}
 use Rattle.mont_base.specs.declared.operation.Receipt.{Receipt}
 use Rattle.mont_base.specs.State.{State, unit_of_op}
 use Rattle.heap_rule.specs.declared.rule.Opening.{Opening}
-use Rattle.heap_rule.specs.declared.views.CallerHeld.{CallerHeld}
+use Rattle.heap_rule.specs.declared.views.CallerKnown.{CallerKnown}
 use Rattle.job_text.specs.declared.outcome.Outcome.{Outcome}
 use Rattle.job_text.specs.Causes.{IsPoint, SomeMoment}
 use Rattle.job_text.specs.Outcomes.{is_cut, InOrder}
@@ -19,7 +19,7 @@ use Rattle.heap_rule.proofs.SeenFronts.{fronts_same, fronts_trans}
 use Rattle.job_worker.proofs.Fronts.{one_found, begins_longer, taken}
 
 -- ---- a caller that goes on
-pub goes_same : (q : CallerHeld) → GoesOn q q
+pub goes_same : (q : CallerKnown) → GoesOn q q
 goes_same q = record {
   caller = refl;
   more = [];
@@ -30,7 +30,7 @@ goes_same q = record {
   marks = λ m h. h;
 }
 
-pub goes_trans : (q r s : CallerHeld) → GoesOn q r → GoesOn r s → GoesOn q s
+pub goes_trans : (q r s : CallerKnown) → GoesOn q r → GoesOn r s → GoesOn q s
 goes_trans q r s f g = record {
   caller = g.caller ∙ f.caller;
   more = f.more ++ g.more;
@@ -41,10 +41,10 @@ goes_trans q r s f g = record {
   marks = λ m h. g.marks m (f.marks m h);
 }
 
-pub keeps_same : (q : CallerHeld) → KeepsAnswers q q
+pub keeps_same : (q : CallerKnown) → KeepsAnswers q q
 keeps_same q = record { goes_on = goes_same q; calls = refl; receipts = refl; cuts = refl }
 
-pub keeps_trans : (q r s : CallerHeld) → KeepsAnswers q r → KeepsAnswers r s → KeepsAnswers q s
+pub keeps_trans : (q r s : CallerKnown) → KeepsAnswers q r → KeepsAnswers r s → KeepsAnswers q s
 keeps_trans q r s f g = record {
   goes_on = goes_trans q r s f.goes_on g.goes_on;
   calls = g.calls ∙ f.calls;
@@ -52,7 +52,7 @@ keeps_trans q r s f g = record {
   cuts = g.cuts ∙ f.cuts;
 }
 
-pub continues_before : (o : Opening) (t : Report) (q r : CallerHeld) → GoesOn q r → Continues o t r → Continues o t q
+pub continues_before : (o : Opening) (t : Report) (q r : CallerKnown) → GoesOn q r → Continues o t r → Continues o t q
 continues_before o t q r g c = record {
   layout = c.layout;
   base_clock = c.base_clock;
@@ -64,14 +64,14 @@ continues_before o t q r g c = record {
 }
 
 -- ---- outcomes
-pub passed_later : (q r : CallerHeld) (unit place : ℕ) → GoesOn q r → IsPassed q unit place → IsPassed r unit place
+pub passed_later : (q r : CallerKnown) (unit place : ℕ) → GoesOn q r → IsPassed q unit place → IsPassed r unit place
 passed_later q r unit place g p =
     let s = g.seen unit p.front p.seen in
     let long = begins_longer s.whole p.front s.begins in
     let below = p.below in
     record { front = s.whole; seen = s.there; below = omega (arith, long, below) }
 
-pub before_later : (histories : List (List Entry)) (q r : CallerHeld) (x : Outcome) → GoesOn q r
+pub before_later : (histories : List (List Entry)) (q r : CallerKnown) (x : Outcome) → GoesOn q r
     → IsBefore histories q x → IsBefore histories r x
 before_later histories q r x g b = record {
   places = λ unit place h. passed_later q r unit place g (b.places unit place h);
@@ -79,14 +79,14 @@ before_later histories q r x g b = record {
   clocks = λ clock h. let n = b.clocks clock h in let m = g.durable in omega (arith, n, m);
 }
 
-pub ahead_earlier : (q r : CallerHeld) (x : Outcome) → GoesOn q r → IsAhead r x → IsAhead q x
+pub ahead_earlier : (q r : CallerKnown) (x : Outcome) → GoesOn q r → IsAhead r x → IsAhead q x
 ahead_earlier q r x g a unit place front named there =
     let s = g.seen unit front there in
     let long = begins_longer s.whole front s.begins in
     let n = a unit place s.whole named s.there in
     omega (arith, long, n)
 
-pub behind_earlier : (histories : List (List Entry)) (q r : CallerHeld) (x : Outcome) → GoesOn q r
+pub behind_earlier : (histories : List (List Entry)) (q r : CallerKnown) (x : Outcome) → GoesOn q r
     → ComesBehind histories r x → ComesBehind histories q x
 behind_earlier histories q r x g b =
     let m = g.newest in
@@ -101,14 +101,14 @@ behind_earlier histories q r x g b =
           record { newest = omega (arith, m, n); durable = omega (arith, d, k) };
     }
 
-pub all_before : (histories : List (List Entry)) (q r : CallerHeld) (xs : List Outcome) → GoesOn q r
+pub all_before : (histories : List (List Entry)) (q r : CallerKnown) (xs : List Outcome) → GoesOn q r
     → All (IsBefore histories q) xs → All (IsBefore histories r) xs
 all_before histories q r xs g b k d below = before_later histories q r _ g (b k d below)
 
-pub all_ahead : (q r : CallerHeld) (xs : List Outcome) → GoesOn q r → All (IsAhead r) xs → All (IsAhead q) xs
+pub all_ahead : (q r : CallerKnown) (xs : List Outcome) → GoesOn q r → All (IsAhead r) xs → All (IsAhead q) xs
 all_ahead q r xs g a k d below = ahead_earlier q r _ g (a k d below)
 
-pub in_order : (histories : List (List Entry)) (q : CallerHeld) (x y : Outcome) → is_cut x ≡ false
+pub in_order : (histories : List (List Entry)) (q : CallerKnown) (x y : Outcome) → is_cut x ≡ false
     → IsBefore histories q x → ComesBehind histories q y → InOrder histories x y
 in_order histories q x y uncut b n = record {
   uncut = uncut;
@@ -123,7 +123,7 @@ in_order histories q x y uncut b n = record {
 }
 
 -- ---- the moment of a call
-pub found_more : (o : Opening) (r : CallerHeld) (op : Op) (F G : ℕ → State → List Entry → Type 0)
+pub found_more : (o : Opening) (r : CallerKnown) (op : Op) (F G : ℕ → State → List Entry → Type 0)
     → ((unit : ℕ) (base : State) (h : List Entry) → F unit base h → G unit base h) → WasFound o r op F → WasFound o r op G
 found_more o r op F G more w = record {
   unit = w.unit;
@@ -135,7 +135,7 @@ found_more o r op F G more w = record {
 }
 
 -- places that were passed are below the front, and those ahead of it aren't
-pub is_point : (o : Opening) (t : Report) (q r : CallerHeld) (before after : List Outcome) (unit : ℕ) (whole front : List Entry)
+pub is_point : (o : Opening) (t : Report) (q r : CallerKnown) (before after : List Outcome) (unit : ℕ) (whole front : List Entry)
     → GoesOn q r → All (IsBefore t.histories q) before → All (IsAhead r) after → length front ≤ length whole
     → slice_get r.entries unit ≡ Some front → IsPoint before after unit whole (length front)
 is_point o t q r before after unit whole front g b a long seen = record {
@@ -148,7 +148,7 @@ is_point o t q r before after unit whole front g b a long seen = record {
   ahead = λ k d below place named. a k d below unit place front named seen;
 }
 
-pub some_moment : (o : Opening) (t : Report) (q r : CallerHeld) (before after : List Outcome) (op : Op)
+pub some_moment : (o : Opening) (t : Report) (q r : CallerKnown) (before after : List Outcome) (op : Op)
     (F : ℕ → State → List Entry → Type 0) → GoesOn q r → Continues o t r → All (IsBefore t.histories q) before
     → All (IsAhead r) after → WasFound o r op F → SomeMoment t before after op F
 some_moment o t q r before after op F g c b a w =

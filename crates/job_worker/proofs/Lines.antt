@@ -14,7 +14,7 @@ use Rattle.mont_base.specs.declared.operation.Receipt.{Receipt}
 use Rattle.mont_base.specs.Faults.{Rose}
 use Rattle.heap.specs.GateAsked.{IsAskedOften}
 use Rattle.heap_rule.specs.declared.rule.Opening.{Opening}
-use Rattle.heap_rule.specs.declared.views.CallerHeld.{CallerHeld}
+use Rattle.heap_rule.specs.declared.views.CallerKnown.{CallerKnown}
 use Rattle.job_text.specs.declared.job.Line.{Line}
 use Rattle.job_text.specs.declared.outcome.Outcome.{Outcome}
 use Rattle.job_text.specs.declared.outcome.Outcome.TheVariants as outcomes
@@ -30,7 +30,7 @@ use Rattle.job_worker.proofs.Gates.{asked_more}
 use Rattle.job_worker.proofs.Later.{goes_same, goes_trans, continues_before, all_before, all_ahead, in_order}
 
 -- ---- none yet
-pub no_ends : (o : Opening) (q : CallerHeld) (lines : List Line) → IsUnanswered q → AreEnds o q q lines []
+pub no_ends : (o : Opening) (q : CallerKnown) (lines : List Line) → IsUnanswered q → AreEnds o q q lines []
 no_ends o q lines u = record {
   goes_on = goes_same q;
   calls = u.calls;
@@ -83,7 +83,7 @@ answers_last o t M who l xs x after h =
     (subst (λ (v : List Outcome). Answers t M (opened_records o) who xs (v ++ after) l.deed x)
     (sym (drop-append-add xs (x ∷ []) 1)) h)
 
-more_answers : (o : Opening) (t : Report) (q r s : CallerHeld) (lines : List Line) (xs : List Outcome) (line : Line)
+more_answers : (o : Opening) (t : Report) (q r s : CallerKnown) (lines : List Line) (xs : List Outcome) (line : Line)
     (x : Outcome) → AreUncut xs → AreTold o t q r lines xs → IsTold o t r s line.deed x → r.caller ≡ q.caller → GoesOn r s
     → count_by is_at xs ≡ r.part.calls → slice_get lines (length xs) ≡ Some line
     → (first last : ℕ) (after : List Outcome)
@@ -109,7 +109,7 @@ more_answers o t q r s lines xs line x u told new same g calls here first last a
           (drop (i + 1) (xs ++ x ∷ []) ++ after) l.deed v) (sym h.1) out)
     ]
 
-more_told : (o : Opening) (t : Report) (q r s : CallerHeld) (lines : List Line) (xs : List Outcome) (line : Line)
+more_told : (o : Opening) (t : Report) (q r s : CallerKnown) (lines : List Line) (xs : List Outcome) (line : Line)
     (x : Outcome) → AreUncut xs → AreTold o t q r lines xs → IsTold o t r s line.deed x → r.caller ≡ q.caller → GoesOn r s
     → count_by is_at xs ≡ r.part.calls → slice_get lines (length xs) ≡ Some line
     → AreTold o t q s lines (xs ++ x ∷ [])
@@ -121,7 +121,7 @@ more_told o t q r s lines xs line x u told new same g calls here = record {
       (λ k d below. in_order t.histories r _ x (u k d below) (told.before k d below) new.behind);
 }
 
-pub more_ends : (o : Opening) (q r s : CallerHeld) (lines : List Line) (xs : List Outcome) (line : Line) (x : Outcome)
+pub more_ends : (o : Opening) (q r s : CallerKnown) (lines : List Line) (xs : List Outcome) (line : Line) (x : Outcome)
     → AreUncut xs → AreEnds o q r lines xs → Ends o r s line.deed x → slice_get lines (length xs) ≡ Some line
     → AreEnds o q s lines (xs ++ x ∷ [])
 more_ends o q r s lines xs line x u w e here = record {
@@ -143,7 +143,7 @@ more_uncut xs x u e =
     All-append (λ y. is_cut y ≡ false) xs (x ∷ []) u (All-cons (λ y. is_cut y ≡ false) x [] e (All-nil (λ y. is_cut y ≡ false)))
 
 -- ---- all of them
-pub all_lines : (o : Opening) (q r : CallerHeld) (lines : List Line) (xs : List Outcome) (first last : ℕ)
+pub all_lines : (o : Opening) (q r : CallerKnown) (lines : List Line) (xs : List Outcome) (first last : ℕ)
     → AreEnds o q r lines xs → length xs ≤ length lines
     → (length xs < length lines → Any (λ x. is_cut x ≡ true) xs)
     → (Any (λ x. is_cut x ≡ true) xs → Rose first last) → HasWorked o (Rose first last) q r lines xs
@@ -174,7 +174,7 @@ no_units (x ∷ xs) u =
     ap (λ (v : Option ℕ). cons_option v (units_cut xs)) (uncut_unit x (u 0 x (omega arith)))
     ∙ no_units xs (λ k d below. u (suc k) d (omega (arith, below)))
 
-pub uncut_cuts : (o : Opening) (q r : CallerHeld) (lines : List Line) (xs : List Outcome) → AreEnds o q r lines xs
+pub uncut_cuts : (o : Opening) (q r : CallerKnown) (lines : List Line) (xs : List Outcome) → AreEnds o q r lines xs
     → AreUncut xs → r.part.cuts ≡ q.part.cuts
 uncut_cuts o q r lines xs w u =
     w.cuts ∙ ap (λ (v : List ℕ). q.part.cuts ++ v) (no_units xs u) ∙ append-nil q.part.cuts
@@ -186,14 +186,14 @@ line_there lines xs i line count below is =
     subst (λ (n : ℕ). slice_get lines n ≡ Some line) (sym count) (slice_get_read lines (length lines) i line refl below is)
 
 -- What is shown when the caller has stopped. The passes show what their gates counted.
-pub record HasDone {P : Type 0} (cuts : P → ℕ) (endless : P → Bool) (held : P → CallerHeld) (has : P → Type 0)
+pub record HasDone {P : Type 0} (cuts : P → ℕ) (endless : P → Bool) (held : P → CallerKnown) (has : P → Type 0)
     (o : Opening) (lines : List Line) (start now : P) (xs : List Outcome) : Type 0 where
   pub pass : has now
   pub goes_on : GoesOn (held start) (held now)
   pub gate : IsAskedOften cuts endless start now (list_any is_cut xs)
   pub worked : HasWorked o (Rose (cuts start) (cuts now)) (held start) (held now) lines xs
 
-module _ {P : Type 0} (cuts : P → ℕ) (endless : P → Bool) (held : P → CallerHeld) (has : P → Type 0) (o : Opening)
+module _ {P : Type 0} (cuts : P → ℕ) (endless : P → Bool) (held : P → CallerKnown) (has : P → Type 0) (o : Opening)
     (lines : List Line) where
   pub done_all : (start now : P) (xs : List Outcome) → has now → IsAskedOften cuts endless start now false
       → length xs ≡ length lines → AreUncut xs → AreEnds o (held start) (held now) lines xs

@@ -9,9 +9,9 @@ use Rattle.mont_base.specs.declared.refusal.CallRefusal.{CallRefusal}
 use Rattle.mont_base.specs.declared.refusal.CallRefusal.TheVariants as calls
 use Rattle.mont_base.specs.Faults.{Rose}
 use Rattle.heap_rule.specs.declared.rule.Opening.{Opening}
-use Rattle.heap_rule.specs.declared.views.CallerHeld.{CallerHeld}
-use Rattle.advance.specs.declared.refusal.AdvanceRefusal.{AdvanceRefusal}
-use Rattle.advance.specs.declared.refusal.AdvanceRefusal.TheVariants as advances
+use Rattle.heap_rule.specs.declared.views.CallerKnown.{CallerKnown}
+use Rattle.advance.specs.declared.advance_refusal.AdvanceRefusal.{AdvanceRefusal}
+use Rattle.advance.specs.declared.advance_refusal.AdvanceRefusal.TheVariants as advances
 use Rattle.caller.specs.declared.sync_refusal.SyncRefusal.{SyncRefusal}
 use Rattle.caller.specs.declared.sync_refusal.SyncRefusal.TheVariants as syncs
 use Rattle.job_text.specs.declared.job.Deed.{Deed}
@@ -30,7 +30,7 @@ use Rattle.job_worker.proofs.Calls.{silent_before, silent_behind, kept_ends, may
 
 -- ---- waits that were refused
 -- the report tells the cause
-wait_told : (M : Type 0) (o : Opening) (t : Report) (r : CallerHeld) (why : SyncRefusal) → LeavesUnsynced r why
+wait_told : (M : Type 0) (o : Opening) (t : Report) (r : CallerKnown) (why : SyncRefusal) → LeavesUnsynced r why
     → Continues o t r → (is_cut (outcome_of_sync why) ≡ true → M) → EndsWait t M (outcome_of_sync why)
 wait_told M o t r (syncs.Stuck unit epoch) h c cut =
     let m = c.marks (record { unit = unit; by = None }) h.marked in
@@ -41,13 +41,13 @@ wait_told M o t r syncs.Cut h c cut = cut refl
 wait_told M o t r syncs.ClockEnd h c cut = let image = c.durable in let last = c.last in omega (arith, h, image, last)
 
 -- a wait of this line ends so
-abbrev Waits : Opening → CallerHeld → CallerHeld → Deed → SyncRefusal → Type 0
+abbrev Waits : Opening → CallerKnown → CallerKnown → Deed → SyncRefusal → Type 0
 Waits o q r deed why =
     (t : Report) (first last : ℕ) (before after : List Outcome) → Continues o t r → All (IsBefore t.histories q) before
     → All (IsAhead r) after → EndsWait t (Rose first last) (outcome_of_sync why)
     → Answers t (Rose first last) (opened_records o) q.caller before after deed (outcome_of_sync why)
 
-wait_answers : (o : Opening) (t : Report) (q r : CallerHeld) (deed : Deed) (why : SyncRefusal) → LeavesUnsynced r why
+wait_answers : (o : Opening) (t : Report) (q r : CallerKnown) (deed : Deed) (why : SyncRefusal) → LeavesUnsynced r why
     → Waits o q r deed why → Continues o t r → (first last : ℕ) (before after : List Outcome)
     → (is_cut (outcome_of_sync why) ≡ true → Rose first last) → All (IsBefore t.histories q) before
     → All (IsAhead r) after → count_by is_at before ≡ q.part.calls
@@ -55,7 +55,7 @@ wait_answers : (o : Opening) (t : Report) (q r : CallerHeld) (deed : Deed) (why 
 wait_answers o t q r deed why h w c first last before after cut b a n =
     w t first last before after c b a (wait_told (Rose first last) o t r why h c cut)
 
-pub ends_refused : (o : Opening) (q r : CallerHeld) (deed : Deed) (why : SyncRefusal) → KeepsAnswers q r
+pub ends_refused : (o : Opening) (q r : CallerKnown) (deed : Deed) (why : SyncRefusal) → KeepsAnswers q r
     → LeavesUnsynced r why → Waits o q r deed why → Ends o q r deed (outcome_of_sync why)
 ends_refused o q r deed (syncs.Stuck unit epoch) k h w =
     let x = outcomes.Stuck unit epoch in
@@ -77,17 +77,17 @@ ends_refused o q r deed syncs.ClockEnd k h w =
       before = silent_before t.histories r outcomes.ClockEnd refl (λ e f. f) refl;
     })
 
-tick_waits : (o : Opening) (q r : CallerHeld) (why : SyncRefusal) → Waits o q r Tick why
+tick_waits : (o : Opening) (q r : CallerKnown) (why : SyncRefusal) → Waits o q r Tick why
 tick_waits o q r (syncs.Stuck unit epoch) t first last before after c b a w = w
 tick_waits o q r syncs.Cut t first last before after c b a w = w
 tick_waits o q r syncs.ClockEnd t first last before after c b a w = w
 
-pub ends_tick_refused : (o : Opening) (q r : CallerHeld) (why : SyncRefusal) → KeepsAnswers q r → LeavesUnsynced r why
+pub ends_tick_refused : (o : Opening) (q r : CallerKnown) (why : SyncRefusal) → KeepsAnswers q r → LeavesUnsynced r why
     → Ends o q r Tick (outcome_of_sync why)
 ends_tick_refused o q r why k h = ends_refused o q r Tick why k h (tick_waits o q r why)
 
 -- ---- a tick
-pub ends_ticked : (o : Opening) (q m r : CallerHeld) (clock : ℕ) → KeepsAnswers q m → KeepsAnswers m r
+pub ends_ticked : (o : Opening) (q m r : CallerKnown) (clock : ℕ) → KeepsAnswers q m → KeepsAnswers m r
     → HasMoved o m r clock → Ends o q r Tick (outcomes.Ticked clock)
 ends_ticked o q m r clock k l h =
     let newest = k.goes_on.newest in
@@ -117,7 +117,7 @@ ends_ticked o q m r clock k l h =
     })
 
 -- ---- a call line that waits like a sync
-full_waits : (o : Opening) (q m r : CallerHeld) (op : Op) (need free clock : ℕ) (why : SyncRefusal)
+full_waits : (o : Opening) (q m r : CallerKnown) (op : Op) (need free clock : ℕ) (why : SyncRefusal)
     → HasNoRoom o q m op need free clock → GoesOn m r → Waits o q r (Call op) why
 full_waits o q m r op need free clock (syncs.Stuck unit epoch) h g t first last before after c b a w =
     (w, may_be_full o t q m before after op need free clock h (continues_before o t m r g c) b (all_ahead m r after g a))
@@ -126,13 +126,13 @@ full_waits o q m r op need free clock syncs.Cut h g t first last before after c 
 full_waits o q m r op need free clock syncs.ClockEnd h g t first last before after c b a w =
     (w, may_be_full o t q m before after op need free clock h (continues_before o t m r g c) b (all_ahead m r after g a))
 
-pub ends_full_unsynced : (o : Opening) (q m r : CallerHeld) (op : Op) (need free clock : ℕ) (why : SyncRefusal)
+pub ends_full_unsynced : (o : Opening) (q m r : CallerKnown) (op : Op) (need free clock : ℕ) (why : SyncRefusal)
     → HasNoRoom o q m op need free clock → KeepsAnswers m r → LeavesUnsynced r why → Ends o q r (Call op) (outcome_of_sync why)
 ends_full_unsynced o q m r op need free clock why h k l =
     ends_refused o q r (Call op) why (keeps_trans q m r h.keeps k) l (full_waits o q m r op need free clock why h k.goes_on)
 
 -- ---- a call, by its answer
-pub ends_call : (o : Opening) (q r : CallerHeld) (op : Op) (answer : Result Receipt CallRefusal)
+pub ends_call : (o : Opening) (q r : CallerKnown) (op : Op) (answer : Result Receipt CallRefusal)
     → IfOk answer (λ receipt. HasContinued o q r op receipt) → IfErr answer (λ why. HasLearntWhy o q r op why)
     → ((need free clock : ℕ) → answer ≡ Err (calls.Full need free clock) → q.part.newest + 2 ≤ q.part.durable)
     → IfOk (outcome_of_call answer) (λ x. Ends o q r (Call op) x)
@@ -144,7 +144,7 @@ ends_call o q r op (Err (calls.Full need free clock)) h w settled =
     ends_full o q r op need free clock (settled need free clock refl) w
 ends_call o q r op (Err (calls.Cut unit)) h w settled = ends_cut o q r op unit w
 
-pub lacks_memory : (o : Opening) (q r : CallerHeld) (op : Op) (answer : Result Receipt CallRefusal)
+pub lacks_memory : (o : Opening) (q r : CallerKnown) (op : Op) (answer : Result Receipt CallRefusal)
     → IfErr answer (λ why. HasLearntWhy o q r op why) → OnErr (outcome_of_call answer) (KeepsAnswers q r)
 lacks_memory o q r op (Ok receipt) w = tt
 lacks_memory o q r op (Err (calls.Halted unit by)) w = tt
@@ -154,7 +154,7 @@ lacks_memory o q r op (Err (calls.Full need free clock)) w = tt
 lacks_memory o q r op (Err (calls.Cut unit)) w = tt
 
 -- ---- a line that began earlier
-told_earlier : (o : Opening) (t : Report) (q m r : CallerHeld) (deed : Deed) (x : Outcome) → KeepsAnswers q m
+told_earlier : (o : Opening) (t : Report) (q m r : CallerKnown) (deed : Deed) (x : Outcome) → KeepsAnswers q m
     → IsTold o t m r deed x → IsTold o t q r deed x
 told_earlier o t q m r deed x k s = record {
   answers = λ first last before after cut b a n.
@@ -165,7 +165,7 @@ told_earlier o t q m r deed x k s = record {
   before = s.before;
 }
 
-pub ends_earlier : (o : Opening) (q m r : CallerHeld) (deed : Deed) (x : Outcome) → KeepsAnswers q m → Ends o m r deed x
+pub ends_earlier : (o : Opening) (q m r : CallerKnown) (deed : Deed) (x : Outcome) → KeepsAnswers q m → Ends o m r deed x
     → Ends o q r deed x
 ends_earlier o q m r deed x k e = record {
   goes_on = goes_trans q m r k.goes_on e.goes_on;
@@ -177,13 +177,13 @@ ends_earlier o q m r deed x k e = record {
 }
 
 -- ---- ticks that were refused
-pub heard_stuck : (r : CallerHeld) (answer : Result ℕ AdvanceRefusal) (unit epoch : ℕ) (cut : Bool) → cut ≡ true
+pub heard_stuck : (r : CallerKnown) (answer : Result ℕ AdvanceRefusal) (unit epoch : ℕ) (cut : Bool) → cut ≡ true
     → answer ≡ Err (advances.NotYet unit epoch cut) → IfErr answer (HasHeard r) → LeavesUnsynced r (syncs.Stuck unit epoch)
 heard_stuck r answer unit epoch cut is e h =
     subst (λ (b : Bool). HasHeard r (advances.NotYet unit epoch b)) is
     (subst (λ (v : Result ℕ AdvanceRefusal). IfErr v (HasHeard r)) e h)
 
-pub heard_end : (r : CallerHeld) (answer : Result ℕ AdvanceRefusal) → answer ≡ Err advances.ClockEnd
+pub heard_end : (r : CallerKnown) (answer : Result ℕ AdvanceRefusal) → answer ≡ Err advances.ClockEnd
     → IfErr answer (HasHeard r) → LeavesUnsynced r syncs.ClockEnd
 heard_end r answer e h = subst (λ (v : Result ℕ AdvanceRefusal). IfErr v (HasHeard r)) e h
 
@@ -197,13 +197,13 @@ on_err_more (Ok a) P Q more h = tt
 on_err_more (Err e) P Q more h = more h
 
 -- the unit was full
-pub record FoundFull (o : Opening) (q r : CallerHeld) (op : Op) : Type 0 where
+pub record FoundFull (o : Opening) (q r : CallerKnown) (op : Op) : Type 0 where
   pub need : ℕ
   pub free : ℕ
   pub clock : ℕ
   pub room : HasNoRoom o q r op need free clock
 
-pub found_full : (o : Opening) (q r : CallerHeld) (op : Op) (answer : Result Receipt CallRefusal) → was_full answer ≡ true
+pub found_full : (o : Opening) (q r : CallerKnown) (op : Op) (answer : Result Receipt CallRefusal) → was_full answer ≡ true
     → IfErr answer (λ why. HasLearntWhy o q r op why) → FoundFull o q r op
 found_full o q r op (Ok receipt) full w = absurd (false≢true full)
 found_full o q r op (Err (calls.Halted unit by)) full w = absurd (false≢true full)
@@ -212,14 +212,14 @@ found_full o q r op (Err calls.Memory) full w = absurd (false≢true full)
 found_full o q r op (Err (calls.Full need free clock)) full w = record { need = need; free = free; clock = clock; room = w }
 found_full o q r op (Err (calls.Cut unit)) full w = absurd (false≢true full)
 
-pub ends_first : (o : Opening) (q r : CallerHeld) (op : Op) (answer : Result Receipt CallRefusal) → was_full answer ≡ false
+pub ends_first : (o : Opening) (q r : CallerKnown) (op : Op) (answer : Result Receipt CallRefusal) → was_full answer ≡ false
     → IfOk answer (λ receipt. HasContinued o q r op receipt) → IfErr answer (λ why. HasLearntWhy o q r op why)
     → IfOk (outcome_of_call answer) (λ x. Ends o q r (Call op) x)
 ends_first o q r op answer full h w =
     ends_call o q r op answer h w (λ need free clock e. absurd (false≢true (sym full ∙ ap was_full e)))
 
 -- a sync came between
-pub ends_second : (o : Opening) (q m n r : CallerHeld) (op : Op) (clock : ℕ) (answer : Result Receipt CallRefusal)
+pub ends_second : (o : Opening) (q m n r : CallerKnown) (op : Op) (clock : ℕ) (answer : Result Receipt CallRefusal)
     → FoundFull o q m op → KeepsAnswers m n → HasSynced m n clock → IfOk answer (λ receipt. HasContinued o n r op receipt)
     → IfErr answer (λ why. HasLearntWhy o n r op why) → IfOk (outcome_of_call answer) (λ x. Ends o q r (Call op) x)
 ends_second o q m n r op clock answer f k s h w =
@@ -230,7 +230,7 @@ ends_second o q m n r op clock answer f k s h w =
     (λ x. ends_earlier o q n r (Call op) x (keeps_trans q m n f.room.keeps k))
     (ends_call o n r op answer h w (λ need free at e. settled))
 
-pub keeps_second : (o : Opening) (q m n r : CallerHeld) (op : Op) (answer : Result Receipt CallRefusal)
+pub keeps_second : (o : Opening) (q m n r : CallerKnown) (op : Op) (answer : Result Receipt CallRefusal)
     → FoundFull o q m op → KeepsAnswers m n → IfErr answer (λ why. HasLearntWhy o n r op why)
     → OnErr (outcome_of_call answer) (KeepsAnswers q r)
 keeps_second o q m n r op answer f k w =

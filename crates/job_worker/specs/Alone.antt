@@ -8,7 +8,7 @@ use Rattle.mont_base.specs.declared.operation.Receipt.{Receipt}
 use Rattle.mont_base.specs.Layout.{Shape, kind_of}
 use Rattle.core_steps.specs.declared.parts.Mark.{Mark}
 use Rattle.heap_rule.specs.declared.rule.Opening.{Opening}
-use Rattle.heap_rule.specs.declared.views.CallerHeld.{CallerHeld}
+use Rattle.heap_rule.specs.declared.views.CallerKnown.{CallerKnown}
 
 -- it opens with nothing in its slots
 abbrev pub alone_opening : Shape → Opening
@@ -19,7 +19,7 @@ abbrev pub alone_marks : List Mark
 alone_marks = record { unit = 0; by = Some 1 } ∷ record { unit = 0; by = None } ∷ []
 
 abbrev pub held_alone :
-    ℕ → ℕ → ℕ → List Entry → List Receipt → List ℕ → CallerHeld
+    ℕ → ℕ → ℕ → List Entry → List Receipt → List ℕ → CallerKnown
 held_alone clock newest calls entries receipts cuts = record {
   caller = 0;
   part = record {

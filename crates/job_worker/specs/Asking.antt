@@ -15,9 +15,9 @@ use Rattle.mont_base.specs.Layout.{Shape, units_of}
 use Rattle.mont_base.specs.Room.{room_of}
 use Rattle.mont_base.specs.State.{State, unit_of_op}
 use Rattle.heap_rule.specs.declared.rule.Opening.{Opening}
-use Rattle.heap_rule.specs.declared.views.CallerHeld.{CallerHeld}
-use Rattle.advance.specs.declared.refusal.AdvanceRefusal.{AdvanceRefusal}
-use Rattle.advance.specs.declared.refusal.AdvanceRefusal.TheVariants as advances
+use Rattle.heap_rule.specs.declared.views.CallerKnown.{CallerKnown}
+use Rattle.advance.specs.declared.advance_refusal.AdvanceRefusal.{AdvanceRefusal}
+use Rattle.advance.specs.declared.advance_refusal.AdvanceRefusal.TheVariants as advances
 use Rattle.caller.specs.declared.sync_refusal.SyncRefusal.{SyncRefusal}
 use Rattle.caller.specs.declared.sync_refusal.SyncRefusal.TheVariants as syncs
 use Rattle.caller.specs.Telling.{has_mark}
@@ -37,7 +37,7 @@ opened_records o =
 
 -- ---- in every refusal
 -- no answer is lost, and none came
-pub record KeepsAnswers (q r : CallerHeld) : Type 0 where
+pub record KeepsAnswers (q r : CallerKnown) : Type 0 where
   pub goes_on : GoesOn q r
   pub calls : r.part.calls ≡ q.part.calls
   pub receipts : r.part.receipts ≡ q.part.receipts
@@ -47,7 +47,7 @@ pub record KeepsAnswers (q r : CallerHeld) : Type 0 where
 -- The call is one entry of the unit's history. The entry stands behind all that the caller had
 -- seen, at no epoch below what it had seen or knew to be durable; from then on the caller has seen
 -- it, and all entries before it.
-pub record HasContinued (o : Opening) (q r : CallerHeld) (op : Op) (receipt : Receipt)
+pub record HasContinued (o : Opening) (q r : CallerKnown) (op : Op) (receipt : Receipt)
     : Type 0 where
   pub goes_on : GoesOn q r
   pub of_unit : unit_of_op o.layout op ≡ Some receipt.unit
@@ -76,7 +76,7 @@ pub record FoundFrom (states : List State) (unit : ℕ) (Found : State → Type 
 
 -- The caller has seen all entries that the operation's unit had when it was asked, and this held of
 -- the state that it was opened with and of these entries.
-pub record WasFound (o : Opening) (r : CallerHeld) (op : Op)
+pub record WasFound (o : Opening) (r : CallerKnown) (op : Op)
     (Found : ℕ → State → List Entry → Type 0) : Type 0 where
   pub unit : ℕ
   pub of_unit : unit_of_op o.layout op ≡ Some unit
@@ -88,38 +88,39 @@ pub record WasFound (o : Opening) (r : CallerHeld) (op : Op)
 
 -- The unit had less room than the operation needs, at a durable clock that isn't below the one that
 -- the caller knew, and that it knows now.
-pub record HasNoRoom (o : Opening) (q r : CallerHeld) (op : Op) (need free clock : ℕ) : Type 0 where
-  pub keeps : KeepsAnswers q r
-  pub few : free < need
-  pub begun : clock_of o.words ≤ clock
-  pub known : q.part.durable ≤ clock
-  pub learnt : clock ≤ r.part.durable
-  pub found :
-      WasFound o r op
-      (λ unit base h. (length (effects_then base h op) ≡ need)
-      × (room_of o.layout.slots base h clock ≡ free))
+pub record HasNoRoom (o : Opening) (q r : CallerKnown) (op : Op) (need free clock : ℕ) : Type 0
+  where
+    pub keeps : KeepsAnswers q r
+    pub few : free < need
+    pub begun : clock_of o.words ≤ clock
+    pub known : q.part.durable ≤ clock
+    pub learnt : clock ≤ r.part.durable
+    pub found :
+        WasFound o r op
+        (λ unit base h. (length (effects_then base h op) ≡ need)
+        × (room_of o.layout.slots base h clock ≡ free))
 
-pub record HasEnd (o : Opening) (q r : CallerHeld) (op : Op) (which : Which) : Type 0 where
+pub record HasEnd (o : Opening) (q r : CallerKnown) (op : Op) (which : Which) : Type 0 where
   pub keeps : KeepsAnswers q r
   pub found :
       WasFound o r op
       (λ unit base h. IsAtEnd (records_in (opened_records o) unit) q.part.calls which op base h)
 
 -- A caller was cut in the unit before.
-pub record WasHalted (o : Opening) (q r : CallerHeld) (op : Op) (unit by : ℕ) : Type 0 where
+pub record WasHalted (o : Opening) (q r : CallerKnown) (op : Op) (unit by : ℕ) : Type 0 where
   pub keeps : KeepsAnswers q r
   pub of_unit : unit_of_op o.layout op ≡ Some unit
   pub marked : has_mark r.part.marks (record { unit = unit; by = Some by }) ≡ true
 
 -- This caller was cut in the unit.
-pub record IsCutIn (o : Opening) (q r : CallerHeld) (op : Op) (unit : ℕ) : Type 0 where
+pub record IsCutIn (o : Opening) (q r : CallerKnown) (op : Op) (unit : ℕ) : Type 0 where
   pub goes_on : GoesOn q r
   pub of_unit : unit_of_op o.layout op ≡ Some unit
   pub calls : r.part.calls ≡ q.part.calls
   pub receipts : r.part.receipts ≡ q.part.receipts
   pub cuts : r.part.cuts ≡ q.part.cuts ++ unit ∷ []
 
-abbrev pub HasLearntWhy : Opening → CallerHeld → CallerHeld → Op → CallRefusal → Type 0
+abbrev pub HasLearntWhy : Opening → CallerKnown → CallerKnown → Op → CallRefusal → Type 0
 HasLearntWhy o q r op (calls.Halted unit by) = WasHalted o q r op unit by
 HasLearntWhy o q r op (calls.CountEnd which) = HasEnd o q r op which
 HasLearntWhy o q r op calls.Memory = KeepsAnswers q r
@@ -129,30 +130,30 @@ HasLearntWhy o q r op (calls.Cut unit) = IsCutIn o q r op unit
 -- ---- ticks and syncs
 -- The clock moved on, past the one that the store opened with and past every durable clock that the
 -- caller knew, and not to below an epoch that it had seen.
-pub record HasMoved (o : Opening) (q r : CallerHeld) (clock : ℕ) : Type 0 where
+pub record HasMoved (o : Opening) (q r : CallerKnown) (clock : ℕ) : Type 0 where
   pub begun : clock_of o.words < clock
   pub past : q.part.durable < clock
   pub reached : q.part.newest ≤ clock
   pub learnt : clock ≤ r.part.durable
 
 -- A caller was cut in the unit, which announces an epoch below a durable clock for good.
-pub record IsHeldUp (r : CallerHeld) (unit epoch : ℕ) : Type 0 where
+pub record IsHeldUp (r : CallerKnown) (unit epoch : ℕ) : Type 0 where
   pub marked : has_mark r.part.marks (record { unit = unit; by = None }) ≡ true
   pub below : epoch < r.part.durable
 
 -- what is known of an advance that was refused, once the caller has heard of it
-abbrev pub HasHeard : CallerHeld → AdvanceRefusal → Type 0
+abbrev pub HasHeard : CallerKnown → AdvanceRefusal → Type 0
 HasHeard r (advances.NotYet unit epoch true) = IsHeldUp r unit epoch
 HasHeard r advances.ClockEnd = LAST ≤ r.part.durable
 HasHeard r _ = Unit {0}
 
 -- All that the caller has seen is durable, by a clock that isn't below one that it knew.
-pub record HasSynced (q r : CallerHeld) (clock : ℕ) : Type 0 where
+pub record HasSynced (q r : CallerKnown) (clock : ℕ) : Type 0 where
   pub known : q.part.durable ≤ clock
   pub past : r.part.newest + 2 ≤ clock
   pub learnt : clock ≤ r.part.durable
 
-abbrev pub LeavesUnsynced : CallerHeld → SyncRefusal → Type 0
+abbrev pub LeavesUnsynced : CallerKnown → SyncRefusal → Type 0
 LeavesUnsynced r (syncs.Stuck unit epoch) = IsHeldUp r unit epoch
 LeavesUnsynced r syncs.ClockEnd = LAST ≤ r.part.durable
 LeavesUnsynced r syncs.Cut = Unit {0}

@@ -6,7 +6,7 @@ use Rattle.mont_base.specs.Image.{clock_of, IsRecovered}
 use Rattle.core_steps.specs.declared.parts.Mark.{Mark}
 use Rattle.core_steps.specs.Notes.{NamesCaller}
 use Rattle.heap_rule.specs.declared.rule.Opening.{Opening}
-use Rattle.heap_rule.specs.declared.views.CallerHeld.{CallerHeld}
+use Rattle.heap_rule.specs.declared.views.CallerKnown.{CallerKnown}
 use Rattle.heap_rule.specs.SeenEntries.{AreFronts}
 use Rattle.caller.specs.Telling.{has_mark}
 use Rattle.job_text.specs.Causes.{WasCutIn}
@@ -15,7 +15,7 @@ use Rattle.job_text.specs.Report.{Report}
 -- ---- a caller, earlier and later
 -- It is the same caller. It has lost no receipt, it has forgotten no entry that it saw, no mark and
 -- no clock.
-pub record GoesOn (q r : CallerHeld) : Type 0 where
+pub record GoesOn (q r : CallerKnown) : Type 0 where
   pub caller : r.caller ≡ q.caller
   pub more : List Receipt
   pub receipts : r.part.receipts ≡ q.part.receipts ++ more
@@ -35,7 +35,7 @@ pub record IsCutAsMarked (t : Report) (m : Mark) : Type 0 where
 -- The report is of a store that opened so. The entries that the caller has seen of each unit are
 -- the first of its history, the image's clock isn't below a durable one that the caller knows, and
 -- the caller's marks are true.
-pub record Continues (o : Opening) (t : Report) (q : CallerHeld) : Type 0 where
+pub record Continues (o : Opening) (t : Report) (q : CallerKnown) : Type 0 where
   pub layout : t.layout ≡ o.layout
   pub base_clock : t.base_clock ≡ clock_of o.words
   pub base : IsRecovered o.layout o.words t.base

@@ -9,7 +9,7 @@ use Rattle.mont_base.specs.declared.refusal.CallRefusal.TheVariants as calls
 use Rattle.mont_base.specs.Faults.{Rose}
 use Rattle.mont_base.specs.Layout.{Shape}
 use Rattle.heap_rule.specs.declared.rule.Opening.{Opening}
-use Rattle.heap_rule.specs.declared.views.CallerHeld.{CallerHeld}
+use Rattle.heap_rule.specs.declared.views.CallerKnown.{CallerKnown}
 use Rattle.caller.specs.declared.sync_refusal.SyncRefusal.{SyncRefusal}
 use Rattle.caller.specs.declared.sync_refusal.SyncRefusal.TheVariants as syncs
 use Rattle.job_text.specs.declared.job.Deed.{Deed}
@@ -62,37 +62,37 @@ place_answered receipt = (receipt.unit, receipt.place)
 
 -- ---- before and behind what a caller has seen
 -- the caller has seen the entry at the place
-pub record IsPassed (q : CallerHeld) (unit place : ℕ) : Type 0 where
+pub record IsPassed (q : CallerKnown) (unit place : ℕ) : Type 0 where
   pub front : List Entry
   pub seen : slice_get q.entries unit ≡ Some front
   pub below : place < length front
 
 -- An outcome that the caller had.
-pub record IsBefore (histories : List (List Entry)) (q : CallerHeld) (x : Outcome) : Type 0 where
+pub record IsBefore (histories : List (List Entry)) (q : CallerKnown) (x : Outcome) : Type 0 where
   pub places : (unit place : ℕ) → place_of x ≡ Some (unit, place) → IsPassed q unit place
   pub epochs : (epoch : ℕ) → HasEpoch histories x epoch → epoch ≤ q.part.newest
   pub clocks : (clock : ℕ) → clock_of x ≡ Some clock → clock ≤ q.part.durable
 
 -- It names no entry that the caller has seen.
-abbrev pub IsAhead : CallerHeld → Outcome → Type 0
+abbrev pub IsAhead : CallerKnown → Outcome → Type 0
 IsAhead q x =
     (unit place : ℕ) (front : List Entry) → place_of x ≡ Some (unit, place)
     → slice_get q.entries unit ≡ Some front → length front ≤ place
 
-pub record IsLater (q : CallerHeld) (epoch : ℕ) : Type 0 where
+pub record IsLater (q : CallerKnown) (epoch : ℕ) : Type 0 where
   pub newest : q.part.newest ≤ epoch
   pub durable : q.part.durable ≤ epoch
 
-pub record IsPast (q : CallerHeld) (clock : ℕ) : Type 0 where
+pub record IsPast (q : CallerKnown) (clock : ℕ) : Type 0 where
   pub newest : q.part.newest ≤ clock
   pub durable : q.part.durable < clock
 
-pub record IsSettled (q : CallerHeld) (clock : ℕ) : Type 0 where
+pub record IsSettled (q : CallerKnown) (clock : ℕ) : Type 0 where
   pub newest : q.part.newest + 2 ≤ clock
   pub durable : q.part.durable ≤ clock
 
 -- An outcome that came behind all that the caller had seen.
-pub record ComesBehind (histories : List (List Entry)) (q : CallerHeld) (x : Outcome)
+pub record ComesBehind (histories : List (List Entry)) (q : CallerKnown) (x : Outcome)
     : Type 0 where
   pub places : IsAhead q x
   pub epochs : (epoch : ℕ) → HasEpoch histories x epoch → IsLater q epoch
@@ -103,7 +103,7 @@ pub record ComesBehind (histories : List (List Entry)) (q : CallerHeld) (x : Out
 -- What a report has to tell of a line, of which the caller had this outcome: whatever outcomes the
 -- caller had before it, and whatever came behind it. A gate was asked that shows these counts.
 pub record IsTold
-    (o : Opening) (t : Report) (q r : CallerHeld) (deed : Deed) (x : Outcome) : Type 0 where
+    (o : Opening) (t : Report) (q r : CallerKnown) (deed : Deed) (x : Outcome) : Type 0 where
   pub answers :
       (first last : ℕ) (before after : List Outcome) → (is_cut x ≡ true → Rose first last)
       → All (IsBefore t.histories q) before → All (IsAhead r) after
@@ -113,7 +113,7 @@ pub record IsTold
   pub before : IsBefore t.histories r x
 
 -- A line was carried out, and this is its outcome.
-pub record Ends (o : Opening) (q r : CallerHeld) (deed : Deed) (x : Outcome) : Type 0 where
+pub record Ends (o : Opening) (q r : CallerKnown) (deed : Deed) (x : Outcome) : Type 0 where
   pub goes_on : GoesOn q r
   pub calls : r.part.calls ≡ q.part.calls + count_by is_at (x ∷ [])
   pub receipts :
@@ -127,7 +127,7 @@ abbrev pub AreUncut : List Outcome → Type 0
 AreUncut xs = All (λ x. is_cut x ≡ false) xs
 
 pub record AreTold
-    (o : Opening) (t : Report) (q r : CallerHeld) (lines : List Line) (xs : List Outcome)
+    (o : Opening) (t : Report) (q r : CallerKnown) (lines : List Line) (xs : List Outcome)
     : Type 0 where
   pub answers :
       (first last : ℕ) (after : List Outcome)
@@ -139,7 +139,7 @@ pub record AreTold
   pub order : AllPairs (InOrder t.histories) xs
 
 -- These are the outcomes of the first lines.
-pub record AreEnds (o : Opening) (q r : CallerHeld) (lines : List Line) (xs : List Outcome)
+pub record AreEnds (o : Opening) (q r : CallerKnown) (lines : List Line) (xs : List Outcome)
     : Type 0 where
   pub goes_on : GoesOn q r
   pub calls : r.part.calls ≡ count_by is_at xs

@@ -3,7 +3,7 @@ use Rattle.std.specs.Prelude.{◌≡◌, Bool, false, List, [], ◌++◌, map, A
 use Rattle.std.specs.declared.result.Result.{Result}
 use Rattle.std.specs.List.{list_any}
 use Rattle.heap_rule.specs.declared.rule.Opening.{Opening}
-use Rattle.heap_rule.specs.declared.views.CallerHeld.{CallerHeld}
+use Rattle.heap_rule.specs.declared.views.CallerKnown.{CallerKnown}
 use Rattle.job_text.specs.declared.job.Line.{Line}
 use Rattle.job_text.specs.declared.outcome.Outcome.{Outcome}
 use Rattle.job_text.specs.AnsweredLines.{AnswersLines}
@@ -14,7 +14,7 @@ use Rattle.job_worker.specs.Asking.{opened_records}
 use Rattle.job_worker.specs.Ending.{places_named, units_cut, place_answered}
 
 -- the caller wasn't answered yet
-pub record IsUnanswered (q : CallerHeld) : Type 0 where
+pub record IsUnanswered (q : CallerKnown) : Type 0 where
   pub calls : q.part.calls ≡ 0
   pub receipts : q.part.receipts ≡ []
 
@@ -22,7 +22,7 @@ pub record IsUnanswered (q : CallerHeld) : Type 0 where
 -- outcomes name the entries of its receipts, one each and in their order, and the units in which it
 -- was cut. Behind a cut there is none.
 pub record HasWorked
-    (o : Opening) (MayBeCut : Type 0) (q r : CallerHeld) (lines : List Line)
+    (o : Opening) (MayBeCut : Type 0) (q r : CallerKnown) (lines : List Line)
     (outcomes : List Outcome) : Type 0 where
   pub answers :
       (t : Report) → Continues o t r

@@ -2,7 +2,7 @@
 ghost use Rattle.std.specs.Prelude.{◌≡◌, ℕ, Bool, IfOk, IfErr};
 ghost use Rattle.heap.specs.GateAsked.{IsAskedOften};
 ghost use Rattle.heap_rule.specs.declared.rule.Opening.{Opening};
-ghost use Rattle.heap_rule.specs.declared.views.CallerHeld.{CallerHeld};
+ghost use Rattle.heap_rule.specs.declared.views.CallerKnown.{CallerKnown};
 ghost use Rattle.job_worker.specs.Asking.{HasUnit, KeepsAnswers, HasContinued, HasLearntWhy, HasMoved, HasHeard, HasSynced, LeavesUnsynced, call_was_cut, advance_was_cut, sync_was_cut};
 
 use advance::AdvanceRefusal;
@@ -19,7 +19,7 @@ pub trait Asks<P> {
     ghost has: { Self → P → Type 0 };
 
     /// What the pass shows of its caller.
-    ghost held: { P → CallerHeld };
+    ghost known: { P → CallerKnown };
 
     /// How often the pass's gate cut.
     ghost cuts: { P → ℕ };

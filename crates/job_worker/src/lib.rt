@@ -5,7 +5,7 @@
 #![tactic(auto)]
 
 mod asks;
-mod carrying;
+mod carried_lines;
 mod outcomes;
 #[cfg(test)]
 mod tests;

@@ -126,7 +126,7 @@ impl Asks<Worker> for Bench {
 
     ghost has = { λ b p. Stands b.layout p.clock p.newest };
 
-    ghost held = { λ p. shows p.clock p.newest p.calls p.entries.items p.receipts.items
+    ghost known = { λ p. shows p.clock p.newest p.calls p.entries.items p.receipts.items
         p.cuts.items };
 
     ghost cuts = { λ p. p.gate.cuts };

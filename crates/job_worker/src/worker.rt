@@ -8,7 +8,7 @@ ghost use Rattle.job_worker.specs.Ending.{MayBeAsked};
 ghost use Rattle.job_worker.specs.Worked.{IsUnanswered, HasWorked, was_cut};
 
 use crate::asks::Asks;
-use crate::carrying::carry_out;
+use crate::carried_lines::carry_out_line;
 use crate::outcomes::is_cut;
 use job_text::{Line, Outcome};
 use std::alloc::{AllocError, Global};
@@ -26,21 +26,21 @@ pub fn work<R: Wait, P, S: Asks<P>>(
     lines: &[Line],
 ) -> Result<Vec<Outcome>, AllocError>
     requires pass { S.has store.now pass.old }
-    requires unanswered { IsUnanswered (S.held pass.old) }
+    requires unanswered { IsUnanswered (S.known pass.old) }
     requires lines { All (λ (l : LineModel). MayBeAsked (S.opening store.now).layout l.deed)
         lines.now }
     ensures pass { S.has store.now pass.new }
-    ensures goes_on { GoesOn (S.held pass.old) (S.held pass.new) }
+    ensures goes_on { GoesOn (S.known pass.old) (S.known pass.new) }
     ensures gate { IsAskedOften S.cuts S.endless pass.old pass.new (was_cut result) }
     ensures worked { IfOk result (λ outcomes. HasWorked (S.opening store.now)
-        (Rose (S.cuts pass.old) (S.cuts pass.new)) (S.held pass.old) (S.held pass.new) lines.now
+        (Rose (S.cuts pass.old) (S.cuts pass.new)) (S.known pass.old) (S.known pass.new) lines.now
         outcomes.items) }
-    ensures uncut { OnErr result ((S.held pass.new).part.cuts ≡ (S.held pass.old).part.cuts) }
+    ensures uncut { OnErr result ((S.known pass.new).part.cuts ≡ (S.known pass.old).part.cuts) }
 {
     let mut outcomes = Vec::new(alloc);
     for line in lines {
         outcomes.reserve(1)?;
-        let outcome = carry_out(rt, store, pass, &line.deed)?;
+        let outcome = carry_out_line(rt, store, pass, &line.deed)?;
         outcomes.push_reserved(outcome);
         if is_cut(&outcome) {
             break;

@@ -18,7 +18,7 @@ use Rattle.mont_check.specs.declared.moments.Finding.{Finding}
 use Rattle.mont_check.specs.declared.moments.Finding.TheVariants.{Right, Wrong, Asks}
 use Rattle.mont_check.specs.declared.moments.Question.{Question}
 use Rattle.mont_check.specs.Ahead.{AreAhead}
-use Rattle.mont_check.specs.Answered.{Adds, AllMet, AnsweredLine, AnswersInOrder, AreCounted, TellsCaller}
+use Rattle.mont_check.specs.AnsweredCallers.{Adds, AllMet, AnsweredLine, AnswersInOrder, AreCounted, TellsCaller}
 use Rattle.mont_check.specs.Moments.{IsAheadOf, IsMet, IsRight, is_wrong, questions_in}
 use Rattle.mont_check.specs.LineAnswers.{TellsAnswer}
 use Rattle.mont_check.specs.Progress.{Allows, HasShown, Notes}

@@ -8,7 +8,7 @@ use Rattle.job_text.specs.declared.outcome.Outcome.TheVariants.{CutIn}
 use Rattle.job_text.specs.Causes.{WasCutIn}
 use Rattle.job_text.specs.Outcomes.{is_cut}
 use Rattle.job_text.specs.Report.{Report}
-use Rattle.mont_check.specs.Cuts.{AllCutsLast, CutsLast}
+use Rattle.mont_check.specs.CutUnits.{AllCutsLast, CutsLast}
 
 -- a cut among outcomes is the last of them
 cut_is_last :

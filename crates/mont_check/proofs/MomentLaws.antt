@@ -15,7 +15,7 @@ use Rattle.mont_check.specs.declared.cause.Cause.{Cause}
 use Rattle.mont_check.specs.declared.moments.Question.{Question}
 use Rattle.mont_check.specs.declared.progress.Progress.{Progress}
 use Rattle.mont_check.specs.Bounds.{IsAtLeast, least}
-use Rattle.mont_check.specs.Causes.{IsCause, clock_of_cause}
+use Rattle.mont_check.specs.JudgedCauses.{IsCause, clock_of_cause}
 use Rattle.mont_check.specs.Moments.{HasMoment, IsMet, IsWithin, case_of, span_of}
 use Rattle.mont_check.specs.Progress.{HasShown}
 use Rattle.mont_check.specs.Shown.{place_in}

@@ -13,7 +13,7 @@ use Rattle.mont_base.specs.Room.{retires, retired_late}
 use Rattle.mont_base.specs.State.{State, step}
 use Rattle.mont_check.specs.declared.cause.Case.{Case}
 use Rattle.mont_check.specs.declared.points.Point.{Point}
-use Rattle.mont_check.specs.Causes.{HeldAfter, clock_of_cause}
+use Rattle.mont_check.specs.JudgedCauses.{HeldAfter, clock_of_cause}
 use Rattle.mont_check.specs.Points.{ArePoints, EpochsRise, IsClosed, IsNextPoint, PointsRise, TellsPoint}
 use Rattle.mont_check.specs.Questions.{HasRoom}
 use Rattle.mont_check.specs.Walk.{closed_later, facts_after, no_facts}

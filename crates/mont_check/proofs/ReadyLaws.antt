@@ -17,11 +17,11 @@ use Rattle.mont_check.specs.declared.asked.Asked.{Asked}
 use Rattle.mont_check.specs.declared.cause.Case.{Case}
 use Rattle.mont_check.specs.declared.moments.Question.{Question}
 use Rattle.mont_check.specs.declared.moments.Span.{Span}
-use Rattle.mont_check.specs.declared.opening.Opening.{Opening}
+use Rattle.mont_check.specs.declared.opened_numbers.Opening.{Opening}
 use Rattle.mont_check.specs.declared.points.Point.{Point}
-use Rattle.mont_check.specs.Causes.{FreesAtMost, clock_of_cause}
+use Rattle.mont_check.specs.JudgedCauses.{FreesAtMost, clock_of_cause}
 use Rattle.mont_check.specs.Moments.{IsMet, IsWithin, SomePoint}
-use Rattle.mont_check.specs.Opening.{IsOpening}
+use Rattle.mont_check.specs.OpenedNumbers.{IsOpening}
 use Rattle.mont_check.specs.Points.{ArePoints, UsesFewer}
 use Rattle.mont_check.specs.Questions.{AreReady, FitsAt, HasRoom, IsMetIn, IsReady, IsReadyFor, TellsMet, facts_then}
 use Rattle.mont_check.specs.Walk.{closed_later, facts_after}

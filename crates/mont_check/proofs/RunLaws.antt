@@ -12,7 +12,7 @@ use Rattle.mont_base.specs.declared.operation.Op.TheVariants as ops
 use Rattle.mont_base.specs.History.{runs_of}
 use Rattle.mont_base.specs.Layout.{Shape}
 use Rattle.mont_base.specs.State.{State, Run, step, run_of, unit_of_op, unit_aimed, range_aim, can_range}
-use Rattle.mont_check.specs.Ranges.{IsShortOp, IsShort}
+use Rattle.mont_check.specs.JudgedRuns.{IsShortOp, IsShort}
 
 -- ---- ranges of a legal history have room
 short_range : (s : Shape) (unit own most : ℕ) (b : Bool) → can_range most ≡ b → unit_aimed s (range_aim b own) ≡ Some unit

@@ -20,7 +20,7 @@ use Rattle.mont_check.specs.declared.moments.Finding.{Finding}
 use Rattle.mont_check.specs.declared.moments.Finding.TheVariants.{Right, Wrong, Asks}
 use Rattle.mont_check.specs.declared.progress.Progress.{Progress}
 use Rattle.mont_check.specs.Bounds.{IsAtLeast, IsBelow, least}
-use Rattle.mont_check.specs.Causes.{HeldAfter, clock_of_cause}
+use Rattle.mont_check.specs.JudgedCauses.{HeldAfter, clock_of_cause}
 use Rattle.mont_check.specs.Shown.{place_in}
 use Rattle.mont_check.specs.Walk.{Facts, facts_after}
 

@@ -3,12 +3,12 @@ ghost use Rattle.std.specs.Prelude.{◌≡◌, ◌↔◌, ◌≤◌, ℕ, length
 ghost use Rattle.job_text.specs.Report.{lines_of};
 ghost use Rattle.job_text.specs.Faithful.{AnsweredAt};
 ghost use Rattle.job_text.specs.PlainReport.{report_of};
-ghost use Rattle.mont_check.specs.Answered.{AreCounted, TellsCaller, TellsLines};
-ghost use Rattle.mont_check.specs.Cuts.{AllCutsLast};
+ghost use Rattle.mont_check.specs.AnsweredCallers.{AreCounted, TellsCaller, TellsLines};
+ghost use Rattle.mont_check.specs.CutUnits.{AllCutsLast};
 ghost use Rattle.mont_check.specs.Questions.{AllRise};
 
 use crate::ahead::places_ahead;
-use crate::cuts::all_cuts_last;
+use crate::cut_units::all_cuts_last;
 use crate::line_answers::answers;
 use crate::moments::Question;
 use crate::progress::Progress;

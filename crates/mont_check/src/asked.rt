@@ -4,7 +4,7 @@ ghost use Rattle.mont_check.specs.Questions.{EndsBy, TellsFits};
 ghost use Rattle.mont_check.specs.Walk.{facts_of};
 
 use crate::moments::Question;
-use crate::opening::Opening;
+use crate::opened_numbers::Opening;
 use crate::walk::Walk;
 use std::alloc::{AllocError, Global};
 

@@ -1,10 +1,10 @@
 // What may have kept a call from being answered, at some moment of its unit's history.
 ghost use Rattle.std.specs.Prelude.{◌≡◌, IfOk, IfSome};
-ghost use Rattle.mont_check.specs.Causes.{FreesAtMost, TellsEnd, TellsHeld, clock_of_cause, is_del_v, room_in};
+ghost use Rattle.mont_check.specs.JudgedCauses.{FreesAtMost, TellsEnd, TellsHeld, clock_of_cause, is_del_v, room_in};
 ghost use Rattle.mont_check.specs.Walk.{closed_later, facts_of};
 
 use crate::last_numbers::{any_lacks_version, is_insertion, reaches_last};
-use crate::opening::Opening;
+use crate::opened_numbers::Opening;
 use crate::walk::{Walk, is_enq, sum};
 use mont_base::{Effect, Epoch, LAST, Op, Which};
 use std::alloc::{AllocError, Global};

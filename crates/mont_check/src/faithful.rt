@@ -5,8 +5,8 @@ ghost use Rattle.plain.specs.States.{state_of, states_of};
 ghost use Rattle.job_text.specs.PlainReport.{report_of};
 
 use crate::answered::are_answered;
-use crate::named::are_named_once;
-use crate::runs::are_run;
+use crate::judged_runs::are_run;
+use crate::named_entries::are_named_once;
 use crate::walk::copied;
 use job_text::{Job, Report};
 use mont_base::{Entry, Epoch, Held, LAST, Layout, Sequence, Unit};

@@ -5,11 +5,11 @@ ghost use Rattle.job_text.specs.AnsweredLines.{AnswersSync, AnswersTick, EndsWai
 ghost use Rattle.job_text.specs.Causes.{IsHalted, IsReached, IsStuck, WasCutIn};
 ghost use Rattle.job_text.specs.Faithful.{HasStop};
 ghost use Rattle.job_text.specs.PlainReport.{report_of};
-ghost use Rattle.mont_check.specs.Cuts.{AllCutsLast};
+ghost use Rattle.mont_check.specs.CutUnits.{AllCutsLast};
 ghost use Rattle.mont_check.specs.LineAnswers.{TellsAnswer, TellsCall, TellsCountEnd, TellsFull, TellsMayBeFull, first_clock};
 
 use crate::cause::Cause;
-use crate::cuts::was_cut_in;
+use crate::cut_units::was_cut_in;
 use crate::moments::{Finding, moment};
 use crate::progress::Progress;
 use crate::shown::entry_at;

@@ -11,7 +11,7 @@ ghost use Rattle.mont_check.specs.Walk.{facts_of};
 
 use crate::asked::Asked;
 use crate::moments::Question;
-use crate::opening::Opening;
+use crate::opened_numbers::Opening;
 use crate::points::{Point, closed_at, first_using, points_of};
 use crate::walk::Walk;
 use job_text::Report;

@@ -21,7 +21,7 @@ module _ {P : Type 0} (heap : HeapShown) (ticket : P → CallerShown) (receipts 
 
   abbrev pub HaveWorked : List (Option (List Outcome)) → Type 0
   HaveWorked =
-      AreWorked heap.opening IsOwn (λ (p : P). (ticket p).held) cuts endless job olds news
+      AreWorked heap.opening IsOwn (λ (p : P). (ticket p).known) cuts endless job olds news
 
   own_at : (done : List (Option (List Outcome))) → HaveWorked done → (i : ℕ) (p : P) → slice_get news i ≡ Some p → IsOwn p
   own_at done k i p e =

@@ -55,56 +55,56 @@ module _ (heap : HeapShown) (before behind : RegionShown) (q r : CallerShown) (o
   pub same_unit : before.books.unit ≡ receipt.unit
   same_unit = sym unit_is
 
-  place_is : receipt.place ≡ length before.seat.held.part.history
+  place_is : receipt.place ≡ length before.seat.known.part.history
   place_is = ap (λ (x : Receipt). x.place) a.receipt_is
 
   named : unit_of_op heap.opening.layout op ≡ Some receipt.unit
   named = a.judged.of_unit.of_unit ∙ ap Some (sym unit_is)
 
-  held_is : receipt.unit ≡ before.seat.held.unit
+  held_is : receipt.unit ≡ before.seat.known.unit
   held_is = ap (λ (x : Receipt). x.unit) a.receipt_is
 
-  fronts_are : r.held.part.fronts ≡ slice_set q.held.part.fronts receipt.unit (receipt.place + 1)
-  fronts_are = ap (λ (x : CallerShown). x.held.part.fronts) a.caller
-      ∙ (λ i. slice_set q.held.part.fronts (sym held_is i) (sym place_is i + 1))
+  fronts_are : r.known.part.fronts ≡ slice_set q.known.part.fronts receipt.unit (receipt.place + 1)
+  fronts_are = ap (λ (x : CallerShown). x.known.part.fronts) a.caller
+      ∙ (λ i. slice_set q.known.part.fronts (sym held_is i) (sym place_is i + 1))
 
-  continues : ContinuesView (view_of q.held.part) (view_of r.held.part) receipt
+  continues : ContinuesView (view_of q.known.part) (view_of r.known.part) receipt
   continues = record {
     behind = λ front at.
-        let index = get_or_from_slice_get q.held.part.fronts receipt.unit front 0 at in
+        let index = get_or_from_slice_get q.known.part.fronts receipt.unit front 0 at in
         let low = a.seen.front in
-        let moved = ap (slice_index q.held.part.fronts) held_is in
+        let moved = ap (slice_index q.known.part.fronts) held_is in
         omega (arith, index, low, moved, place_is);
     later = a.reached.not_before;
     fronts = fronts_are;
-    newest = ap (λ (x : CallerShown). x.held.part.newest) a.caller;
+    newest = ap (λ (x : CallerShown). x.known.part.newest) a.caller;
   }
 
-  receipt_again : (record { unit = before.seat.held.unit; place = length before.seat.held.part.history; entry = receipt.entry }) ≡ receipt
+  receipt_again : (record { unit = before.seat.known.unit; place = length before.seat.known.part.history; entry = receipt.entry }) ≡ receipt
   receipt_again = λ i. record { unit = sym held_is i; place = sym place_is i; entry = receipt.entry }
 
-  replies : RepliesBehind heap receipt.unit before.seat.held.part.history op receipt.entry.reply
+  replies : RepliesBehind heap receipt.unit before.seat.known.part.history op receipt.entry.reply
   replies states recovered =
-      let led = λ (u : ℕ). state_after (base_state (opened_at (clock_of heap.opening.words) states) u) before.seat.held.part.history in
-      let same = one_state heap.opening.layout before.books.unit before.seat.held.part.records a.judged.state (led before.books.unit)
+      let led = λ (u : ℕ). state_after (base_state (opened_at (clock_of heap.opening.words) states) u) before.seat.known.part.history in
+      let same = one_state heap.opening.layout before.books.unit before.seat.known.part.records a.judged.state (led before.books.unit)
       a.judged.shown (a.showed states recovered) in
       a.judged.replies ∙ ap (λ (s : State). (step s op).reply) (same ∙ ap led (sym unit_is))
 
   pub continues_caller : ContinuesCaller heap q r op receipt
   continues_caller = record {
     table = ap (λ (x : CallerShown). x.table) a.caller;
-    caller = ap (λ (x : CallerShown). x.held.caller) a.caller;
+    caller = ap (λ (x : CallerShown). x.known.caller) a.caller;
     of_unit = named;
     entry = ap (λ (x : Receipt). x.entry) a.receipt_is;
     continues = continues;
     durable = a.reached.not_behind;
-    receipts = ap (λ (x : CallerShown). x.held.part.receipts) a.caller
-        ∙ ap (λ (x : Receipt). q.held.part.receipts ++ x ∷ []) receipt_again;
-    history = before.seat.held.part.history;
+    receipts = ap (λ (x : CallerShown). x.known.part.receipts) a.caller
+        ∙ ap (λ (x : Receipt). q.known.part.receipts ++ x ∷ []) receipt_again;
+    history = before.seat.known.part.history;
     place = place_is;
     replies = replies;
-    seen = ap (λ (x : CallerShown). x.held.entries) a.caller
-        ∙ ap (λ (u : ℕ). slice_set q.held.entries u (before.seat.held.part.history ++ receipt.entry ∷ [])) (sym held_is);
+    seen = ap (λ (x : CallerShown). x.known.entries) a.caller
+        ∙ ap (λ (u : ℕ). slice_set q.known.entries u (before.seat.known.part.history ++ receipt.entry ∷ [])) (sym held_is);
   }
 
 -- ---- a refusal
@@ -118,37 +118,38 @@ fronts_rise (x ∷ xs) (y ∷ ys) zero n m e f =
     omega arith
 fronts_rise (x ∷ xs) (y ∷ ys) (suc unit) n m e f = fronts_rise xs ys unit n m e f
 
-module _ (new : RegionShown) (q r : CallerShown) (seen : IsNotBeyond q.held new.seat.held) (noted : HasNoted new q r) where
+module _ (new : RegionShown) (q r : CallerShown) (seen : IsNotBeyond q.known new.seat.known) (noted : HasNoted new q r) where
   keeps_caller : KeepsCaller q r
   keeps_caller = record {
     table = ap (λ (x : CallerShown). x.table) noted;
-    caller = ap (λ (x : CallerShown). x.held.caller) noted;
-    calls = ap (λ (x : CallerShown). x.held.part.calls) noted;
-    receipts = ap (λ (x : CallerShown). x.held.part.receipts) noted;
-    synced = ap (λ (x : CallerShown). x.held.part.synced) noted;
-    cuts = ap (λ (x : CallerShown). x.held.part.cuts) noted;
-    within = ap (λ (x : CallerShown). x.held.within) noted;
-    fronts = λ unit n m e f. fronts_rise q.held.part.fronts _ unit n m e
-        (ap (λ (x : CallerShown). slice_get x.held.part.fronts unit) (sym noted) ∙ f);
-    entries = subst (λ (x : CallerShown). AreFronts x.held.entries q.held.entries) (sym noted)
-        (fronts_heard q.held new.seat.held seen (length q.held.part.fronts));
-    marks = λ m has. subst (λ (x : CallerShown). has_mark x.held.part.marks m ≡ true) (sym noted)
-        (joined_has q.held.part.marks (mark_of new.seat.held.unit new.seat.held.part.frozen) m (or_left (has_mark q.held.part.marks m) _ has));
-    newest = let now = ap (λ (x : CallerShown). x.held.part.newest) noted in omega (arith, now);
-    durable = let now = ap (λ (x : CallerShown). x.held.part.durable) noted in omega (arith, now);
+    caller = ap (λ (x : CallerShown). x.known.caller) noted;
+    calls = ap (λ (x : CallerShown). x.known.part.calls) noted;
+    receipts = ap (λ (x : CallerShown). x.known.part.receipts) noted;
+    synced = ap (λ (x : CallerShown). x.known.part.synced) noted;
+    cuts = ap (λ (x : CallerShown). x.known.part.cuts) noted;
+    within = ap (λ (x : CallerShown). x.known.within) noted;
+    fronts = λ unit n m e f. fronts_rise q.known.part.fronts _ unit n m e
+        (ap (λ (x : CallerShown). slice_get x.known.part.fronts unit) (sym noted) ∙ f);
+    entries = subst (λ (x : CallerShown). AreFronts x.known.entries q.known.entries) (sym noted)
+        (fronts_heard q.known new.seat.known seen (length q.known.part.fronts));
+    marks = λ m has. subst (λ (x : CallerShown). has_mark x.known.part.marks m ≡ true) (sym noted)
+        (joined_has q.known.part.marks (mark_of new.seat.known.unit new.seat.known.part.frozen) m
+        (or_left (has_mark q.known.part.marks m) _ has));
+    newest = let now = ap (λ (x : CallerShown). x.known.part.newest) noted in omega (arith, now);
+    durable = let now = ap (λ (x : CallerShown). x.known.part.durable) noted in omega (arith, now);
   }
 
 module _ (heap : HeapShown) (before behind : RegionShown) (q r : CallerShown) (op : Op) (seated : IsSeated before) where
   marked : (by : ℕ) → before.books.halted ≡ Some by → WasNoted heap before behind q r
-      → has_mark r.held.part.marks (record { unit = before.books.unit; by = Some by }) ≡ true
+      → has_mark r.known.part.marks (record { unit = before.books.unit; by = Some by }) ≡ true
   marked by halted w =
       let m : Mark = record { unit = before.books.unit; by = Some by } in
-      let frozen : before.seat.held.part.frozen ≡ Some by = sym seated.halted ∙ halted in
-      let marks : List Mark = mark_of before.seat.held.unit before.seat.held.part.frozen in
+      let frozen : before.seat.known.part.frozen ≡ Some by = sym seated.halted ∙ halted in
+      let marks : List Mark = mark_of before.seat.known.unit before.seat.known.part.frozen in
       let marks_are : marks ≡ m ∷ [] = λ i. mark_of (sym seated.of_seat i) (frozen i) in
-      ap (λ (x : CallerShown). has_mark x.held.part.marks m) w.noted
-      ∙ joined_has q.held.part.marks marks m
-      (or_right (has_mark q.held.part.marks m) (has_mark marks m) (ap (λ (ms : List Mark). has_mark ms m) marks_are ∙ grind arith))
+      ap (λ (x : CallerShown). has_mark x.known.part.marks m) w.noted
+      ∙ joined_has q.known.part.marks marks m
+      (or_right (has_mark q.known.part.marks m) (has_mark marks m) (ap (λ (ms : List Mark). has_mark ms m) marks_are ∙ grind arith))
 
   -- the state on which it was planned is the one to which the entries lead
   module _ (stood : IsStanding heap before) (reply : Reply) (changes : List Change) (plan : IsPlan before op reply changes)
@@ -158,30 +159,30 @@ module _ (heap : HeapShown) (before behind : RegionShown) (q r : CallerShown) (o
     opened = base_state (opened_at (clock_of heap.opening.words) states) before.books.unit
 
     abbrev led : State
-    led = state_after opened before.seat.held.part.history
+    led = state_after opened before.seat.known.part.history
 
     planned : plan.state ≡ led
     planned =
-        one_state heap.opening.layout before.books.unit before.seat.held.part.records plan.state led
-        (subst (λ (s : Shape). HasStructure s before.books.unit before.seat.held.part.records plan.state) stood.of_heap.layout plan.shown)
+        one_state heap.opening.layout before.books.unit before.seat.known.part.records plan.state led
+        (subst (λ (s : Shape). HasStructure s before.books.unit before.seat.known.part.records plan.state) stood.of_heap.layout plan.shown)
         (showed states recovered)
 
-    makes : AllZip (Makes before.books before.seat.held.part.records) (effects_then opened before.seat.held.part.history op) changes
-    makes = subst (λ (s : State). AllZip (Makes before.books before.seat.held.part.records) (step s op).effects changes) planned plan.makes
+    makes : AllZip (Makes before.books before.seat.known.part.records) (effects_then opened before.seat.known.part.history op) changes
+    makes = subst (λ (s : State). AllZip (Makes before.books before.seat.known.part.records) (step s op).effects changes) planned plan.makes
 
-    as_many : length (effects_then opened before.seat.held.part.history op) ≡ length changes
+    as_many : length (effects_then opened before.seat.known.part.history op) ≡ length changes
     as_many =
-        sym (AllZip-long (Makes before.books before.seat.held.part.records) (effects_then opened before.seat.held.part.history op) changes
+        sym (AllZip-long (Makes before.books before.seat.known.part.records) (effects_then opened before.seat.known.part.history op) changes
         makes)
 
   module _ (stood : IsStanding heap before) (counted : HasCounted heap before) where
     needs_number : (which : Which) → HasEnd heap before behind q r op (CountEnd which) → NeedsNumber heap before.books.unit q r op which
     needs_number which k =
         let w = k.ends.1 in record {
-          history = before.seat.held.part.history;
-          kept = w.entries ∙ ap (λ (x : RegionShown). Some x.seat.held.part.history) w.same;
+          history = before.seat.known.part.history;
+          kept = w.entries ∙ ap (λ (x : RegionShown). Some x.seat.known.part.history) w.same;
           cause = λ states recovered.
-              number_at_end heap before q.held.part op seated stood.of_heap.layout states recovered which
+              number_at_end heap before q.known.part op seated stood.of_heap.layout states recovered which
               (numbers_end heap before behind q r op which stood.of_heap.layout k counted states recovered);
         }
 
@@ -193,7 +194,7 @@ module _ (heap : HeapShown) (before behind : RegionShown) (q r : CallerShown) (o
         let same_history = full.keeps.history in
         let showed = shows_before heap before behind same_unit same_history (λ identity. full.keeps.live identity)
         (sound_shows heap behind full.ready.runs.agrees.0 full.sound) in record {
-          history = before.seat.held.part.history;
+          history = before.seat.known.part.history;
           kept = full.entries ∙ ap Some same_history;
           cause = λ states recovered. record {
             as_needed = as_many stood k.reply k.changes k.plan states recovered showed ∙ sym k.leaves.0;
@@ -205,7 +206,7 @@ module _ (heap : HeapShown) (before behind : RegionShown) (q r : CallerShown) (o
         room_is : (states : List State) (recovered : IsRecovered heap.opening.layout heap.opening.words states)
             (full : IsFull heap before behind q r need free clock)
             → room_of heap.opening.layout.slots (base_state (opened_at (clock_of heap.opening.words) states) before.books.unit)
-            before.seat.held.part.history clock ≡ length behind.books.free
+            before.seat.known.part.history clock ≡ length behind.books.free
         room_is states recovered full =
             (λ i. room_of heap.opening.layout.slots
             (base_state (opened_at (clock_of heap.opening.words) states) (sym full.keeps.of_unit i)) (sym full.keeps.history i) clock)
@@ -217,12 +218,12 @@ module _ (heap : HeapShown) (before behind : RegionShown) (q r : CallerShown) (o
     tells_why Memory k = k.1
     tells_why (Full need free clock) k =
         let full = k.leaves.1 in
-        let now = ap (λ (x : CallerShown). x.held.part.durable) full.noted in
+        let now = ap (λ (x : CallerShown). x.known.part.durable) full.noted in
         let loaded = full.reclaimed.clock_is in
         (keeps_caller behind q r full.seen full.noted, needs_room need free clock k, omega (arith, now, loaded))
     tells_why (Cut unit) k =
         let halted = k.leaves.1 in
-        (k.leaves.0, record { shown = behind.seat.held; of_unit = sym halted.agrees.0 ∙ halted.of_unit; caller = halted.caller })
+        (k.leaves.0, record { shown = behind.seat.known; of_unit = sym halted.agrees.0 ∙ halted.of_unit; caller = halted.caller })
 
 -- ---- what a call answers
 module _ (heap : HeapShown) (number : ℕ) (before behind : RegionShown) (q r : CallerShown) (op : Op)

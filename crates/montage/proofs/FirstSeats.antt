@@ -24,9 +24,9 @@ use Rattle.heap.specs.HeapShown.{HeapShown, UnitShown, AdvShown, CallerShown}
 use Rattle.heap.specs.Opens.{dealt_units, dealt_callers, Opens}
 use Rattle.heap.proofs.AllSeats.{opened_are_all}
 use Rattle.heap.proofs.EmptyStores.{opens_empty}
-use Rattle.heap_rule.specs.declared.views.UnitHeld.{UnitHeld}
+use Rattle.heap_rule.specs.declared.views.UnitKnown.{UnitKnown}
 use Rattle.mont_laws.specs.Records.{live_of}
-use Rattle.slots.specs.Beginning.{BeginsWith, fresh_books}
+use Rattle.slots.specs.RegionBeginning.{BeginsWith, fresh_books}
 use Rattle.slots.specs.Books.{RegionShown, BooksShown, Agrees}
 use Rattle.structure_call.specs.Counting.{HasCounted, records_opened}
 use Rattle.structure_call.specs.Standing.{IsIdle, IsStanding}
@@ -39,7 +39,7 @@ use Rattle.montage.specs.UnitAt.{region_of, IsSeated, StandsAt, FitsNumber}
 use Rattle.montage.proofs.UnitStands.{seated_by}
 use Rattle.store_stop.specs.Headline.{IsBaseOf}
 use Rattle.heap_pass.specs.OfHeap.{IsAdvancerOf}
-use Rattle.heap_rule.specs.declared.views.AdvHeld.{AdvHeld}
+use Rattle.heap_rule.specs.declared.views.AdvKnown.{AdvKnown}
 use Rattle.advance.specs.Stage.{IsAtRest}
 
 -- ---- one behind the other
@@ -47,16 +47,17 @@ module _ (heap : HeapShown) where
   many_dealt : (n : ℕ) → length (dealt_units heap.table heap.opening n) ≡ n
   many_dealt zero = refl
   many_dealt (suc n) =
-      let x : UnitShown = record { table = heap.table; held = first_unit heap.opening n } in
+      let x : UnitShown = record { table = heap.table; known = first_unit heap.opening n } in
       let more = length-append (dealt_units heap.table heap.opening n) (x ∷ []) in
       omega (arith, more, many_dealt n)
 
   each_dealt : (n : ℕ) → n ≤ units_of heap.opening.layout → EachAt (IsFirstSeat heap) (dealt_units heap.table heap.opening n)
   each_dealt zero low = λ i x e. absurd (cc)
   each_dealt (suc n) low =
-      each_push (IsFirstSeat heap) (dealt_units heap.table heap.opening n) (record { table = heap.table; held = first_unit heap.opening n })
+      each_push (IsFirstSeat heap) (dealt_units heap.table heap.opening n)
+      (record { table = heap.table; known = first_unit heap.opening n })
       (each_dealt n (omega (arith, low)))
-      (subst (λ (k : ℕ). IsFirstSeat heap k (record { table = heap.table; held = first_unit heap.opening n })) (sym (many_dealt n))
+      (subst (λ (k : ℕ). IsFirstSeat heap k (record { table = heap.table; known = first_unit heap.opening n })) (sym (many_dealt n))
       (record { inside = omega (arith, low); shows = refl }))
 
 -- the structures of all units, by their numbers
@@ -81,13 +82,13 @@ next_fits heap n old new (Some b) items some k =
 
 -- the tickets of callers that were neither answered nor cut yet
 abbrev pub IsFirstTicket : HeapShown → CallerShown → Type 0
-IsFirstTicket heap t = IsFresh (λ (s : CallerShown). s.table ≡ heap.table) (λ (s : CallerShown). s.held) t × (t.held.part.cuts ≡ [])
+IsFirstTicket heap t = IsFresh (λ (s : CallerShown). s.table ≡ heap.table) (λ (s : CallerShown). s.known) t × (t.known.part.cuts ≡ [])
 
 dealt_are_first : (heap : HeapShown) (n : ℕ) → All (IsFirstTicket heap) (dealt_callers heap.table heap.opening n)
 dealt_are_first heap zero = All-nil (IsFirstTicket heap)
 dealt_are_first heap (suc n) =
     All-push (IsFirstTicket heap) (dealt_callers heap.table heap.opening n)
-    (record { table = heap.table; held = first_caller heap.opening n }) (dealt_are_first heap n)
+    (record { table = heap.table; known = first_caller heap.opening n }) (dealt_are_first heap n)
     (record { own = refl; unanswered = record { calls = refl; receipts = refl } }, refl)
 
 -- and the passes that show them
@@ -100,7 +101,7 @@ module _ {P : Type 0} (heap : HeapShown) (ticket : P → CallerShown) (receipts 
       (shown_by Q shows ps (All-tail (IsFirstTicket heap) (ticket p) (map ticket ps) k))
 
   abbrev IsFirstPass : P → Type 0
-  IsFirstPass = IsFresh (λ (p : P). IsWholePass heap (ticket p) (receipts p)) (λ (p : P). (ticket p).held)
+  IsFirstPass = IsFresh (λ (p : P). IsWholePass heap (ticket p) (receipts p)) (λ (p : P). (ticket p).known)
 
   -- a pass without receipts has all of a ticket that was answered nothing
   pub fresh_passes : (ps : List P) → All (IsFirstTicket heap) (map ticket ps) → All (λ (p : P). receipts p ≡ []) ps → All IsFirstPass ps
@@ -119,8 +120,8 @@ module _ {P : Type 0} (heap : HeapShown) (ticket : P → CallerShown) (receipts 
       (All-tail (λ (q : P). receipts q ≡ []) p ps empty))
 
   pub uncut_passes : (ps : List P) → All (IsFirstTicket heap) (map ticket ps)
-      → All (λ (p : P). (ticket p).held.part.cuts ≡ []) ps
-  uncut_passes = shown_by (λ (p : P). (ticket p).held.part.cuts ≡ []) (λ p first. first.1)
+      → All (λ (p : P). (ticket p).known.part.cuts ≡ []) ps
+  uncut_passes = shown_by (λ (p : P). (ticket p).known.part.cuts ≡ []) (λ p first. first.1)
 
 -- ---- what a unit's seat shows
 module _ (s : Shape) (layout : IsLayout s) (callers u : ℕ) (low : u < units_of s) where
@@ -175,14 +176,14 @@ module _ (heap : HeapShown) (units : List UnitShown) (advancer : AdvShown) (call
   }
 
   -- the advancer's seat
-  pub advancer_is : advancer ≡ record { table = heap.table; held = first_advancer heap.opening }
+  pub advancer_is : advancer ≡ record { table = heap.table; known = first_advancer heap.opening }
   advancer_is = opens.the_advancer
 
   module _ (layout : IsLayout heap.opening.layout) where
     empty : OpensEmpty heap.opening.layout heap.opening.callers
     empty = opens_empty heap.opening.layout layout heap.opening.callers
 
-    first_advancer_fits : IsAdvancerOf heap (record { table = heap.table; held = first_advancer heap.opening })
+    first_advancer_fits : IsAdvancerOf heap (record { table = heap.table; known = first_advancer heap.opening })
     first_advancer_fits = record {
       of_heap = record {
         of_table = refl;
@@ -208,17 +209,17 @@ module _ (heap : HeapShown) (units : List UnitShown) (advancer : AdvShown) (call
 -- ---- a unit in which nobody did anything yet
 module _ (heap : HeapShown) (unit : ℕ) (s : UnitShown) (unused : IsNeverUsed heap) (k : IsFirstSeat heap unit s)
     (layout : IsLayout heap.opening.layout) where
-  abbrev first : UnitHeld
+  abbrev first : UnitKnown
   first = first_unit (fresh_opening heap.opening.layout heap.opening.callers) unit
 
-  held_is : s.held ≡ first
-  held_is = ap (λ (x : UnitShown). x.held) k.shows ∙ ap (λ (o : Opening). first_unit o unit) unused
+  held_is : s.known ≡ first
+  held_is = ap (λ (x : UnitShown). x.known) k.shows ∙ ap (λ (o : Opening). first_unit o unit) unused
 
-  pub seat_of_unit : s.held.unit ≡ unit
-  seat_of_unit = ap (λ (h : UnitHeld). h.unit) held_is
+  pub seat_of_unit : s.known.unit ≡ unit
+  seat_of_unit = ap (λ (h : UnitKnown). h.unit) held_is
 
-  pub seat_begins : BeginsWith s.held.part [] []
-  seat_begins = subst (λ (h : UnitHeld). BeginsWith h.part [] []) (sym held_is)
+  pub seat_begins : BeginsWith s.known.part [] []
+  seat_begins = subst (λ (h : UnitKnown). BeginsWith h.part [] []) (sym held_is)
       (begins_with_nothing heap.opening.layout layout heap.opening.callers unit k.inside)
 
   module _ (r : RegionShown) (seat : r.seat ≡ s) (books : r.books ≡ fresh_books heap.opening.layout unit) where
@@ -234,16 +235,16 @@ module _ (heap : HeapShown) (unit : ℕ) (s : UnitShown) (unused : IsNeverUsed h
         table = ap (λ (x : UnitShown). x.table) (seat ∙ k.shows);
         layout = ap (λ (b : BooksShown). b.layout) books;
       };
-      clean = subst (λ (h : UnitHeld). IsTrue (are_clean (units_of heap.opening.layout) h.clean))
-          (sym (ap (λ (x : UnitShown). x.held) seat ∙ held_is))
+      clean = subst (λ (h : UnitKnown). IsTrue (are_clean (units_of heap.opening.layout) h.clean))
+          (sym (ap (λ (x : UnitShown). x.known) seat ∙ held_is))
           (knows_all_clean heap.opening.layout layout heap.opening.callers unit k.inside);
-      home = ap (λ (h : UnitHeld). h.turn.out) (ap (λ (x : UnitShown). x.held) seat ∙ held_is);
-      idle = λ running. subst IsIdle (sym (ap (λ (x : UnitShown). x.held) seat ∙ held_is)) idle;
+      home = ap (λ (h : UnitKnown). h.turn.out) (ap (λ (x : UnitShown). x.known) seat ∙ held_is);
+      idle = λ running. subst IsIdle (sym (ap (λ (x : UnitShown). x.known) seat ∙ held_is)) idle;
     }
 
-    pub first_is_empty : (identity : ℕ) → live_of identity r.seat.held.part.records ≡ None
+    pub first_is_empty : (identity : ℕ) → live_of identity r.seat.known.part.records ≡ None
     first_is_empty identity =
-        ap (λ (rs : List Held). live_of identity rs) (ap (λ (x : UnitShown). x.held.part.records) seat ∙ seat_begins.records_are)
+        ap (λ (rs : List Held). live_of identity rs) (ap (λ (x : UnitShown). x.known.part.records) seat ∙ seat_begins.records_are)
 
     pub first_of_unit : r.books.unit ≡ unit
     first_of_unit = ap (λ (b : BooksShown). b.unit) books
@@ -258,7 +259,7 @@ module _ (heap : HeapShown) (unit : ℕ) (s : UnitShown) (unused : IsNeverUsed h
     first_counted =
         fresh_are_counted heap r (ap (records_opened heap) first_of_unit ∙ none_opened)
         (books ∙ ap (fresh_books heap.opening.layout) (sym first_of_unit))
-        (subst (λ (x : UnitShown). BeginsWith x.held.part [] []) (sym seat) seat_begins)
+        (subst (λ (x : UnitShown). BeginsWith x.known.part [] []) (sym seat) seat_begins)
 
     pub first_stands_at : {I : Type 0} → Agrees r → (s : Structure I) → region_of s ≡ r → StandsAt heap unit s
     first_stands_at agrees s same = record {
@@ -271,12 +272,12 @@ module _ (heap : HeapShown) (unit : ℕ) (s : UnitShown) (unused : IsNeverUsed h
 -- ---- the advancer, which may begin
 module _ (heap : HeapShown) (units : List UnitShown) (advancer : AdvShown) (callers : List CallerShown)
     (k : IsFreshHeap heap units advancer callers) where
-  first_held : advancer.held ≡ first_advancer heap.opening
-  first_held = ap (λ (a : AdvShown). a.held) (advancer_is heap units advancer callers k)
+  first_held : advancer.known ≡ first_advancer heap.opening
+  first_held = ap (λ (a : AdvShown). a.known) (advancer_is heap units advancer callers k)
 
-  pub advancer_rests : IsAtRest advancer.held
+  pub advancer_rests : IsAtRest advancer.known
   advancer_rests = subst IsAtRest (sym first_held) (record { part = refl; turn = refl })
 
-  pub advancer_clock : FIRST_CLOCK ≡ advancer.held.clock
-  advancer_clock = sym (ap (λ (a : AdvHeld). a.clock) first_held
+  pub advancer_clock : FIRST_CLOCK ≡ advancer.known.clock
+  advancer_clock = sym (ap (λ (a : AdvKnown). a.clock) first_held
       ∙ ap (λ (o : Opening). clock_of o.words) (never_used heap units advancer callers k))

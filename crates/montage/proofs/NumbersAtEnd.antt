@@ -32,7 +32,7 @@ use Rattle.job_text.specs.Causes as causes
 use Rattle.job_text.specs.Causes.{IsAtEnd, greatest_by, identity_of, is_enq, is_of, version_in, effects_then}
 use Rattle.core_steps.specs.declared.parts.CallerPart.{CallerPart}
 use Rattle.heap.specs.HeapShown.{HeapShown}
-use Rattle.slots.specs.Beginning.{greatest, serial_of}
+use Rattle.slots.specs.RegionBeginning.{greatest, serial_of}
 use Rattle.slots.specs.Books.{RegionShown}
 use Rattle.structure_call.specs.Calling.{is_insertion, is_enqueuing}
 use Rattle.structure_call.specs.Counting.{LacksVersion, LacksSerial, LacksNumber, sum_over, insertions, enqueued, changes_made, is_version_of, version_if, version_among, records_opened, objects_opened, opened_with}
@@ -198,7 +198,7 @@ module _ (heap : HeapShown) (r : RegionShown) (q : CallerPart) (op : Op) (seated
   opened = opened_with heap states r.books.unit
 
   abbrev history : List Entry
-  history = r.seat.held.part.history
+  history = r.seat.known.part.history
 
   inside : r.books.unit < units_of heap.opening.layout
   inside = subst (λ (s : Shape). r.books.unit < units_of s) layout seated.inside

@@ -34,11 +34,11 @@ module _ (heap : HeapShown) (number : ℕ) (seats : List UnitShown) (k : AreSeat
         many = omega (arith, all, many, inside);
         each = each_push (IsSeatOfUnit heap) seats (region_of s).seat k.each
             (stands.stands.of_heap.table, sym stands.seated.of_seat ∙ (stands.of_unit ∙ sym many));
-        home = All-push (λ (x : UnitShown). x.held.turn.out ≡ false) seats (region_of s).seat k.home stands.stands.home;
+        home = All-push (λ (x : UnitShown). x.known.turn.out ≡ false) seats (region_of s).seat k.home stands.stands.home;
       }
 
 pub none_yet : (heap : HeapShown) → AreSeatsBelow heap 0 []
-none_yet heap = record { many = omega arith; each = λ i x e. absurd (cc); home = All-nil (λ (x : UnitShown). x.held.turn.out ≡ false) }
+none_yet heap = record { many = omega arith; each = λ i x e. absurd (cc); home = All-nil (λ (x : UnitShown). x.known.turn.out ≡ false) }
 
 pub all_taken : (heap : HeapShown) (number : ℕ) (seats : List UnitShown) (advancer : AdvShown) (callers : List CallerShown)
     → AreSeatsBelow heap number seats → units_of heap.opening.layout ≤ number → advancer.table ≡ heap.table → AreAllCallers heap callers

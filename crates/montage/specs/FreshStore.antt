@@ -33,7 +33,7 @@ IsNeverUsed heap = heap.opening ≡ fresh_opening heap.opening.layout heap.openi
 -- the seat of a unit in which nobody did anything yet
 pub record IsFirstSeat (heap : HeapShown) (unit : ℕ) (s : UnitShown) : Type 0 where
   pub inside : unit < units_of heap.opening.layout
-  pub shows : s ≡ record { table = heap.table; held = first_unit heap.opening unit }
+  pub shows : s ≡ record { table = heap.table; known = first_unit heap.opening unit }
 
 -- those of all units, by their numbers
 pub record AreFirstSeats (heap : HeapShown) (units : List UnitShown) : Type 0 where

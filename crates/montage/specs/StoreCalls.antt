@@ -16,11 +16,11 @@ use Rattle.mont_base.specs.State.{State, step, unit_of_op}
 use Rattle.job_text.specs.AnsweredLines.{records_in}
 use Rattle.job_text.specs.Causes.{effects_then, IsAtEnd, LacksRoom}
 use Rattle.core_steps.specs.declared.parts.Mark.{Mark}
-use Rattle.core_steps.specs.Answering.{entry_of}
+use Rattle.core_steps.specs.CallAnswers.{entry_of}
 use Rattle.core_steps.specs.CallerClauses.{view_of}
 use Rattle.core_steps.specs.Opened.{opened_at}
 use Rattle.core_steps.specs.Sound.{base_state}
-use Rattle.heap_rule.specs.declared.views.UnitHeld.{UnitHeld}
+use Rattle.heap_rule.specs.declared.views.UnitKnown.{UnitKnown}
 use Rattle.heap_rule.specs.SeenEntries.{AreFronts}
 use Rattle.heap_rule.specs.Views.{caller_cut}
 use Rattle.heap.specs.HeapShown.{HeapShown, CallerShown}
@@ -50,18 +50,18 @@ RepliesBehind heap unit history op reply =
 pub record ContinuesCaller
     (heap : HeapShown) (q r : CallerShown) (op : Op) (receipt : Receipt) : Type 0 where
   pub table : r.table ≡ q.table
-  pub caller : r.held.caller ≡ q.held.caller
+  pub caller : r.known.caller ≡ q.known.caller
   pub of_unit : unit_of_op heap.opening.layout op ≡ Some receipt.unit
   pub entry : receipt.entry
-      ≡ entry_of q.held.caller q.held.part op receipt.entry.reply receipt.entry.epoch
-  pub continues : ContinuesView (view_of q.held.part) (view_of r.held.part) receipt
-  pub durable : q.held.part.durable ≤ receipt.entry.epoch
-  pub receipts : r.held.part.receipts ≡ q.held.part.receipts ++ receipt ∷ []
+      ≡ entry_of q.known.caller q.known.part op receipt.entry.reply receipt.entry.epoch
+  pub continues : ContinuesView (view_of q.known.part) (view_of r.known.part) receipt
+  pub durable : q.known.part.durable ≤ receipt.entry.epoch
+  pub receipts : r.known.part.receipts ≡ q.known.part.receipts ++ receipt ∷ []
   pub history : List Entry
   pub place : receipt.place ≡ length history
   pub replies : RepliesBehind heap receipt.unit history op receipt.entry.reply
-  pub seen : r.held.entries
-      ≡ slice_set q.held.entries receipt.unit (history ++ receipt.entry ∷ [])
+  pub seen : r.known.entries
+      ≡ slice_set q.known.entries receipt.unit (history ++ receipt.entry ∷ [])
 
 -- and what the unit was before and behind it
 pub record IsAnswered
@@ -79,20 +79,20 @@ pub record IsAnswered
 -- than the caller has seen. Of each unit it has seen the entries that it had, and maybe more.
 pub record KeepsCaller (q r : CallerShown) : Type 0 where
   pub table : r.table ≡ q.table
-  pub caller : r.held.caller ≡ q.held.caller
-  pub calls : r.held.part.calls ≡ q.held.part.calls
-  pub receipts : r.held.part.receipts ≡ q.held.part.receipts
-  pub synced : r.held.part.synced ≡ q.held.part.synced
-  pub cuts : r.held.part.cuts ≡ q.held.part.cuts
-  pub within : r.held.within ≡ q.held.within
+  pub caller : r.known.caller ≡ q.known.caller
+  pub calls : r.known.part.calls ≡ q.known.part.calls
+  pub receipts : r.known.part.receipts ≡ q.known.part.receipts
+  pub synced : r.known.part.synced ≡ q.known.part.synced
+  pub cuts : r.known.part.cuts ≡ q.known.part.cuts
+  pub within : r.known.within ≡ q.known.within
   pub fronts :
-      (unit n m : ℕ) → slice_get q.held.part.fronts unit ≡ Some n
-      → slice_get r.held.part.fronts unit ≡ Some m → n ≤ m
-  pub entries : AreFronts r.held.entries q.held.entries
-  pub newest : q.held.part.newest ≤ r.held.part.newest
-  pub durable : q.held.part.durable ≤ r.held.part.durable
-  pub marks : (m : Mark) → has_mark q.held.part.marks m ≡ true
-      → has_mark r.held.part.marks m ≡ true
+      (unit n m : ℕ) → slice_get q.known.part.fronts unit ≡ Some n
+      → slice_get r.known.part.fronts unit ≡ Some m → n ≤ m
+  pub entries : AreFronts r.known.entries q.known.entries
+  pub newest : q.known.part.newest ≤ r.known.part.newest
+  pub durable : q.known.part.durable ≤ r.known.part.durable
+  pub marks : (m : Mark) → has_mark q.known.part.marks m ≡ true
+      → has_mark r.known.part.marks m ≡ true
 
 -- A cause held of what the unit held when the store was opened and of its entries, all of which
 -- the caller has now seen.
@@ -100,7 +100,7 @@ pub record HasLearntCause
     (heap : HeapShown) (unit : ℕ) (r : CallerShown) (Holds : State → List Entry → Type 0)
     : Type 0 where
   pub history : List Entry
-  pub kept : slice_get r.held.entries unit ≡ Some history
+  pub kept : slice_get r.known.entries unit ≡ Some history
   pub cause : HoldsOfBase heap unit (λ base. Holds base history)
 
 -- The operation needed so many slots then, and so many are free of those that the unit has, where
@@ -115,26 +115,26 @@ NeedsRoom heap unit r op need free clock = HasLearntCause heap unit r (λ base h
 abbrev pub NeedsNumber : HeapShown → ℕ → CallerShown → CallerShown → Op → Which → Type 0
 NeedsNumber heap unit q r op which =
     HasLearntCause heap unit r
-    (IsAtEnd (records_in (opened_records heap.opening) unit) q.held.part.calls which op)
+    (IsAtEnd (records_in (opened_records heap.opening) unit) q.known.part.calls which op)
 
 -- The caller was cut in the unit, which its seat shows so, and learnt nothing. Where the unit is
 -- left within an epoch, the caller keeps which.
 pub record WasLeft (unit : ℕ) (q r : CallerShown) : Type 0 where
-  pub shown : UnitHeld
+  pub shown : UnitKnown
   pub of_unit : shown.unit ≡ unit
-  pub caller : r ≡ record { table = q.table; held = caller_cut q.held shown }
+  pub caller : r ≡ record { table = q.table; known = caller_cut q.known shown }
 
 -- what a refusal of an operation of the unit tells
 abbrev pub TellsWhy :
     HeapShown → ℕ → CallerShown → CallerShown → Op → CallRefusal → Type 0
 TellsWhy heap unit q r op (Halted halted by) =
     (halted ≡ unit) × KeepsCaller q r
-    × (has_mark r.held.part.marks (record { unit = unit; by = Some by }) ≡ true)
+    × (has_mark r.known.part.marks (record { unit = unit; by = Some by }) ≡ true)
 TellsWhy heap unit q r op (CountEnd which) =
     KeepsCaller q r × NeedsNumber heap unit q r op which
 TellsWhy heap unit q r op Memory = r ≡ q
 TellsWhy heap unit q r op (Full need free clock) =
-    KeepsCaller q r × NeedsRoom heap unit r op need free clock × (clock ≤ r.held.part.durable)
+    KeepsCaller q r × NeedsRoom heap unit r op need free clock × (clock ≤ r.known.part.durable)
 TellsWhy heap unit q r op (Cut cut) =
     (cut ≡ unit) × WasLeft unit q r
 

@@ -18,10 +18,10 @@ region_of (Graph unit) = unit.region
 -- A region's books are those of the unit that its seat shows, a unit of the layout: they tell who
 -- was cut in it, and how many entries it has.
 pub record IsSeated (r : RegionShown) : Type 0 where
-  pub of_seat : r.books.unit ≡ r.seat.held.unit
+  pub of_seat : r.books.unit ≡ r.seat.known.unit
   pub inside : r.books.unit < units_of r.books.layout
-  pub halted : r.books.halted ≡ r.seat.held.part.frozen
-  pub places : r.books.places ≡ length r.seat.held.part.history
+  pub halted : r.books.halted ≡ r.seat.known.part.frozen
+  pub places : r.books.places ≡ length r.seat.known.part.history
 
 -- a structure of the heap's unit of this number, which stands as between two calls, and has counted
 -- the numbers that it gave

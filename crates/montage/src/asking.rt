@@ -18,7 +18,7 @@ impl<N: HeapName, I: Index, G: Gate> Asks<Pass<G>> for Store<N, I> {
 
     ghost has = { λ s p. IsWholePass s p.ticket p.receipts.items };
 
-    ghost held = { λ p. p.ticket.held };
+    ghost known = { λ p. p.ticket.known };
 
     ghost cuts = { λ p. G.cuts p.gate };
 

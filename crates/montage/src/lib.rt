@@ -6,6 +6,7 @@
 mod asking;
 mod attempting;
 mod graph_calls;
+mod locked_calls;
 mod map_calls;
 mod open_refusal;
 mod queue_calls;
@@ -15,7 +16,6 @@ mod store_end;
 mod store_opening;
 mod ticking;
 mod unit_at;
-mod unit_calls;
 
 pub use job_run::Ran;
 pub use open_refusal::OpenRefusal;

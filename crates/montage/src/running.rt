@@ -32,19 +32,19 @@ pub fn run<R: Threads + Wait + Sync, N: HeapName + Send, I: Index + Send, G: Gat
     gate: &mut G,
 ) -> Result<Ran, AllocError>
     requires passes { All (IsFresh (λ p. IsWholePass N.heap p.ticket p.receipts.items)
-        (λ p. p.ticket.held)) passes.old.items }
+        (λ p. p.ticket.known)) passes.old.items }
     requires lines { All (λ (l : LineModel). MayBeAsked N.heap.opening.layout l.deed)
         job.now.lines }
     ensures callers { AreAllCallers N.heap (map (λ p. p.ticket) passes.old.items)
         → AreAllCallers N.heap (map (λ p. p.ticket) passes.new.items) }
     ensures whole { All (λ p. IsWhole p.ticket p.receipts.items) passes.new.items }
     ensures worked { IfOk result (λ ran. AreWorked N.heap.opening
-        (λ p. IsWholePass N.heap p.ticket p.receipts.items) (λ p. p.ticket.held)
+        (λ p. IsWholePass N.heap p.ticket p.receipts.items) (λ p. p.ticket.known)
         (λ p. G.cuts p.gate) (λ p. G.endless p.gate) job.now passes.old.items passes.new.items
         (map Some ran.outcomes)) }
     ensures stands { OnErr result ((done : List (Option (List OutcomeModel)))
         × AreWorked N.heap.opening (λ p. IsWholePass N.heap p.ticket p.receipts.items)
-        (λ p. p.ticket.held) (λ p. G.cuts p.gate) (λ p. G.endless p.gate) job.now
+        (λ p. p.ticket.known) (λ p. G.cuts p.gate) (λ p. G.endless p.gate) job.now
         passes.old.items passes.new.items done) }
     ensures gate { (cut : Bool) × IsAskedOften G.cuts G.endless gate.old gate.new cut }
 {

@@ -49,8 +49,8 @@ impl<N: HeapName, I: Index> Store<N, I> {
             ≡ seats.callers.items) }
         ensures callers { IfOk result (λ r. AreAllCallers N.heap (map (λ p. p.ticket) r.1.items)) }
         ensures fresh { IfOk result (λ r. All (IsFresh
-            (λ p. IsWholePass N.heap p.ticket p.receipts.items) (λ p. p.ticket.held)) r.1.items) }
-        ensures uncut { IfOk result (λ r. All (λ p. p.ticket.held.part.cuts ≡ []) r.1.items) }
+            (λ p. IsWholePass N.heap p.ticket p.receipts.items) (λ p. p.ticket.known)) r.1.items) }
+        ensures uncut { IfOk result (λ r. All (λ p. p.ticket.known.part.cuts ≡ []) r.1.items) }
         ensures gates { IfOk result (λ r. map (λ p. p.gate) r.1.items ≡ gates.items) }
         ensures boxes { OnOk result (HaveEmptyBoxes N.heap.opening.layout
             (map (λ b. finite.len (I.places b)) indexes.items)) }

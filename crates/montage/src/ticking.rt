@@ -49,8 +49,8 @@ impl<N: HeapName, I: Index> Store<N, I> {
         ensures receipts { pass.new.receipts ≡ pass.old.receipts }
         ensures seen { KeepsSeen pass.old.ticket pass.new.ticket }
         ensures synced { IfOk result (λ clock. HasSynced pass.old.ticket pass.new.ticket clock) }
-        ensures unsynced { OnErr result (pass.new.ticket.held.part.synced
-            ≡ pass.old.ticket.held.part.synced) }
+        ensures unsynced { OnErr result (pass.new.ticket.known.part.synced
+            ≡ pass.old.ticket.known.part.synced) }
         ensures refused { IfErr result (λ why. LeavesUnsynced N.heap pass.old.ticket
             pass.new.ticket why) }
     {
@@ -65,8 +65,8 @@ fn take_note<G: Gate>(heap: &Heap, advancer: &mut Advancer, pass: &mut Pass<G>)
     ensures advancer { advancer.new ≡ advancer.old }
     ensures caller { pass.new.ticket ≡ record {
       table = pass.old.ticket.table;
-      held = caller_heard pass.old.ticket.held
-          (note_of_advancer (length pass.old.ticket.held.part.fronts) advancer.old.held);
+      known = caller_heard pass.old.ticket.known
+          (note_of_advancer (length pass.old.ticket.known.part.fronts) advancer.old.known);
     } }
     ensures gate { pass.new.gate ≡ pass.old.gate }
     ensures receipts { pass.new.receipts ≡ pass.old.receipts }

@@ -17,7 +17,7 @@ use Rattle.job_text.specs.Faithful.{HasStop, IsFaithful}
 use Rattle.job_text.specs.Outcomes.{is_cut}
 use Rattle.job_text.specs.Report.{Report, lines_of}
 use Rattle.store_stop.proofs.Items.{item_read}
-use Rattle.montage_tool.specs.Run.{IsCarriedOut, AreCarriedOut}
+use Rattle.montage_tool.specs.ReportedRun.{IsCarriedOut, AreCarriedOut}
 
 none_of_none : (who : ℕ) → Any (λ (s : Stop). s.who ≡ who) [] → ⊥
 none_of_none who a = omega (arith, a.2)

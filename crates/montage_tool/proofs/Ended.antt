@@ -33,8 +33,8 @@ use Rattle.store_stop.specs.declared.headline.Stopped.{Stopped}
 use Rattle.store_stop.specs.Headline.{IsBaseOf, IsStopped}
 use Rattle.store_stop.proofs.Items.{all_gives}
 use Rattle.montage.specs.Store.{AreAllCallers}
-use Rattle.montage_tool.specs.Gates.{AreGates}
-use Rattle.montage_tool.specs.Run.{opening_of, HasEnded, IsPickOf, IsRun}
+use Rattle.montage_tool.specs.RunGates.{AreGates}
+use Rattle.montage_tool.specs.ReportedRun.{opening_of, HasEnded, IsPickOf, IsRun}
 use Rattle.montage_tool.proofs.CarriedOut.{carried_out}
 use Rattle.montage_tool.proofs.Opened.{no_records, first_clock, nothing_there}
 use Rattle.montage_tool.proofs.Passes.{each_has_run}
@@ -61,7 +61,7 @@ module _ {P : Type 0} (j : Job) (heap : HeapShown) (opening : heap.opening ≡ o
     (gates : AreGates j.stops j.callers (map gate olds)) where
   abbrev Worked : List (Option (List Outcome)) → Type 0
   Worked done =
-      AreWorked heap.opening has (λ (p : P). (ticket p).held) (λ (p : P). (gate p).cuts) (λ (p : P). is_endless (gate p)) j olds news done
+      AreWorked heap.opening has (λ (p : P). (ticket p).known) (λ (p : P). (gate p).cuts) (λ (p : P). is_endless (gate p)) j olds news done
 
   many_olds : length olds ≡ j.callers
   many_olds = sym (length-map olds gate) ∙ gates.many
@@ -75,7 +75,7 @@ module _ {P : Type 0} (j : Job) (heap : HeapShown) (opening : heap.opening ≡ o
     callers_are = length-map news ticket ∙ worked.passes ∙ many_olds;
     answered = sym (length-map outcomes Some) ∙ worked.callers ∙ many_olds;
     each = λ caller left of_caller e f.
-        subst (λ (o : Opening). HasRun j o caller left.held of_caller) opening
+        subst (λ (o : Opening). HasRun j o caller left.known of_caller) opening
         (each_has_run heap has ticket gate olds dealt j news outcomes worked gates caller left of_caller e f);
     stopped = subst (λ (o : Opening). IsStopped o.layout t.base_clock t.base (map ticket news) t) opening stopped;
   }
@@ -181,7 +181,7 @@ module _ {P : Type 0} (j : Job) (heap : HeapShown) (units : List UnitShown) (adv
   module _ (news : List P) where
     abbrev Leaves : List (Option (List Outcome)) → Type 0
     Leaves done =
-        AreWorked heap.opening has (λ (p : P). (ticket p).held) (λ (p : P). (gate p).cuts) (λ (p : P). is_endless (gate p)) j olds
+        AreWorked heap.opening has (λ (p : P). (ticket p).known) (λ (p : P). (gate p).cuts) (λ (p : P). is_endless (gate p)) j olds
         news done
 
     module _ {F : Type 0} (ran : Result Ran F) (worked : IfOk ran (λ (r : Ran). Leaves (map Some r.outcomes))) where

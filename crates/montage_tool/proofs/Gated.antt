@@ -7,7 +7,7 @@ use Rattle.mont_base.specs.Gates.{is_endless}
 use Rattle.core_steps.proofs.Decisions.{eq_true}
 use Rattle.heap.specs.GateAsked.{IsAskedOften}
 use Rattle.job_text.specs.declared.job.Stop.{Stop}
-use Rattle.montage_tool.specs.Gates.{gate_of}
+use Rattle.montage_tool.specs.RunGates.{gate_of}
 
 abbrev IsStopped : List Stop → ℕ → Type 0
 IsStopped stops who = Any (λ (s : Stop). s.who ≡ who) stops

@@ -27,8 +27,8 @@ use Rattle.montage_tool.specs.declared.status.SourceName.{SourceName}
 use Rattle.montage_tool.specs.declared.status.SourceName.TheVariants as sources
 use Rattle.montage_tool.specs.declared.status.SinkName.{SinkName}
 use Rattle.montage_tool.specs.declared.status.SinkName.TheVariants as sinks
-use Rattle.montage_tool.specs.Run.{IsRun}
-use Rattle.montage_tool.specs.Program.{IsTold}
+use Rattle.montage_tool.specs.ReportedRun.{IsRun}
+use Rattle.montage_tool.specs.Program.{IsSaid}
 use Rattle.montage_tool.specs.Montage.{IsJobOf, IsUnserved, Reports, IsSent, RefusesBoxes, IsReported, RunsJob, status_of_refusal}
 
 -- what is known of the source once a job was read
@@ -321,7 +321,7 @@ module _
 module _ {O : Type 0} (taken : O → Option (List ℕ)) (faults : O → ℕ) (out told : O) (line : List ℕ) where
   pub told_line : {E : Type 0} (result : Result (Unit {0}) E) → OnOk result (Appends (taken out) (taken told) line)
       → OnErr result (AppendsPrefix (taken out) (taken told) line) → HasCause (faults out) (faults told) result
-      → IsTold taken faults out told line
+      → IsSaid taken faults out told line
   told_line (Ok done) all part cause = record {
     front = (length line, omega arith, subst (Appends (taken out) (taken told)) (sym (take_all (length line) line (omega arith))) all);
     later = cause.later;

@@ -1,5 +1,5 @@
-pub mod Gates
-pub mod Run
+pub mod RunGates
+pub mod ReportedRun
 pub mod Delivery
 pub mod Status
 pub mod Forms

@@ -24,7 +24,7 @@ use Rattle.montage_tool.specs.declared.status.SourceName.{SourceName}
 use Rattle.montage_tool.specs.declared.status.SourceName.TheVariants as sources
 use Rattle.montage_tool.specs.declared.status.SinkName.{SinkName}
 use Rattle.montage_tool.specs.declared.status.SinkName.TheVariants as sinks
-use Rattle.montage_tool.specs.Run.{IsRun}
+use Rattle.montage_tool.specs.ReportedRun.{IsRun}
 
 -- a job that a source had left: where the source tells its bytes, they are the job's text
 pub record IsJobOf (left : Option (List ℕ)) (job : Job) : Type 0 where
@@ -125,7 +125,8 @@ pub record RunsJob {J O : Type 0} (left : J → Option (List ℕ)) (read_faults 
       → (j : Job) × IsJobOf (left job) j × IsFirstLack j.layout boxes unit len
   pub lacks_box :
       (j : Job) (unit : ℕ) (len : Option ℕ) → IsJob j → left job ≡ Some (job_text j)
-      → serves_all j.layout ≡ true → IsFirstLack j.layout boxes unit len → ¬ Rose (read_faults job) (read_faults read)
+      → serves_all j.layout ≡ true → IsFirstLack j.layout boxes unit len
+      → ¬ Rose (read_faults job) (read_faults read)
       → (status ≡ BadIndex unit len) ⊎ (status ≡ Memory)
   -- the source failed where that is said, and else it didn't
   pub read_fault :

@@ -26,7 +26,7 @@ pub record Answers {J O : Type 0} (left : J → Option (List ℕ)) (read_faults 
   pub unasked : ¬ AreRun words → read ≡ job
 
 -- A line is told once: a front of it, and the whole where the sink doesn't fail.
-pub record IsTold {O : Type 0} (taken : O → Option (List ℕ)) (faults : O → ℕ) (out told : O)
+pub record IsSaid {O : Type 0} (taken : O → Option (List ℕ)) (faults : O → ℕ) (out told : O)
     (line : List ℕ) : Type 0 where
   pub front : AppendsPrefix (taken out) (taken told) line
   pub later : faults out ≤ faults told

@@ -1,6 +1,6 @@
 // The gates of a job's callers, and of its advancer.
 ghost use Rattle.std.specs.Prelude.{◌≡◌, IfOk};
-ghost use Rattle.montage_tool.specs.Gates.{gate_of, AreGates};
+ghost use Rattle.montage_tool.specs.RunGates.{gate_of, AreGates};
 
 use job_text::{Job, Stop};
 use mont_base::Fuel;

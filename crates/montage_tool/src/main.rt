@@ -13,9 +13,9 @@ mod gates;
 #[cfg(test)]
 mod meeting;
 mod program;
+mod reported_run;
 #[cfg(test)]
 mod rows;
-mod run;
 mod status;
 #[cfg(test)]
 mod tests;
@@ -26,7 +26,7 @@ use command_line::{file_word, words_of};
 use forms::files_of;
 use index_kit::{Index, ProbeIndex, SortedIndex};
 use mont_base::{Sink, Source};
-use program::{answer, exit_of, tell};
+use program::{answer, exit_of, say};
 use status::Status;
 use std::alloc::AllocError;
 use std::process::ExitCode;
@@ -73,6 +73,6 @@ fn main(rt: HostRuntime) -> ExitCode {
         Err(status) => status,
     };
     // Where there is no memory for its line, the exit status alone tells it.
-    let _ = tell(rt.alloc(), &mut out, &status);
+    let _ = say(rt.alloc(), &mut out, &status);
     exit_of(&status)
 }

@@ -3,7 +3,7 @@ ghost use Rattle.std.specs.Prelude.{◌≡◌, Ok, IfOk, OnOk, OnErr, map, strin
 ghost use Rattle.std.specs.FinMap as finite;
 ghost use Rattle.std.specs.Process.{exit_status};
 ghost use Rattle.montage_tool.specs.Montage.{IsSent};
-ghost use Rattle.montage_tool.specs.Program.{Answers, IsTold};
+ghost use Rattle.montage_tool.specs.Program.{Answers, IsSaid};
 ghost use Rattle.montage_tool.specs.Status.{exit_code_of, status_line};
 
 use crate::about::question_of;
@@ -60,9 +60,9 @@ pub(crate) fn exit_of(status: &Status) -> ExitCode
 }
 
 // Tells a status other than `Done` by its line. Without memory for the line nothing is written.
-pub(crate) fn tell<O: Sink>(alloc: Global, out: &mut O, status: &Status) -> Result<(), AllocError>
+pub(crate) fn say<O: Sink>(alloc: Global, out: &mut O, status: &Status) -> Result<(), AllocError>
     ensures told { OnOk result
-        (IsTold O.taken O.faults out.old out.new (status_line status.now)) }
+        (IsSaid O.taken O.faults out.old out.new (status_line status.now)) }
     ensures untold { OnErr result (out.new ≡ out.old) }
     ensures done { status.now ≡ Status.Done → (result ≡ Ok tt) × (out.new ≡ out.old) }
 {
@@ -70,13 +70,13 @@ pub(crate) fn tell<O: Sink>(alloc: Global, out: &mut O, status: &Status) -> Resu
         return Ok(());
     }
     let line = line_of(alloc, status)?;
-    tell_line(out, &line);
+    say_line(out, &line);
     Ok(())
 }
 
 // Writes a line. Where the sink fails there is nobody left to tell.
-fn tell_line<O: Sink>(out: &mut O, line: &str)
-    ensures { IsTold O.taken O.faults out.old out.new line.now }
+fn say_line<O: Sink>(out: &mut O, line: &str)
+    ensures { IsSaid O.taken O.faults out.old out.new line.now }
 {
     let _ = deliver(out, line.as_bytes());
 }

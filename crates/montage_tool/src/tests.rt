@@ -2,7 +2,7 @@
 ghost use Rattle.std.specs.Prelude.{◌<◌};
 
 use crate::about::{HELP, VERSION};
-use crate::program::{answer, exit_of, tell};
+use crate::program::{answer, exit_of, say};
 use crate::rows::{ALONE, FOUR_MAPS, ROWS, TWO_QUEUES};
 use crate::status::{SinkName, SourceName, Status};
 use index_kit::{Index, ProbeIndex, SortedIndex};
@@ -412,11 +412,11 @@ fn each_status_ends_with_its_exit_status_and_its_line(rt: HostRuntime) -> Result
     for (status, code, line) in table {
         assert_eq!(rt; exit_of(&status), ExitCode::from(code), "{status:?}");
         let mut sink = MemSink::new(alloc, 64, 9, Vec::new(alloc))?;
-        assert_eq!(rt; tell(alloc, &mut sink, &status), Ok(()));
+        assert_eq!(rt; say(alloc, &mut sink, &status), Ok(()));
         assert_eq!(rt; sink.taken(), line.as_bytes());
         // a sink that fails is no want of memory
         let mut sink = MemSink::new(alloc, 64, 9, vec![in alloc; 0u64]?)?;
-        assert_eq!(rt; tell(alloc, &mut sink, &status), Ok(()));
+        assert_eq!(rt; say(alloc, &mut sink, &status), Ok(()));
         assert_eq!(rt; sink.taken().len(), 0);
     }
     Ok(())

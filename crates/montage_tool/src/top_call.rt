@@ -7,12 +7,12 @@ ghost use Rattle.job_text.specs.ReportText.{report_text};
 ghost use Rattle.montage.specs.FreshStore.{serves_all};
 ghost use Rattle.montage.specs.MapBoxes.{HaveEmptyBoxes, LacksBox};
 ghost use Rattle.montage_tool.specs.Montage.{IsSent, IsReported, RunsJob, status_of_refusal, status_of_opening};
-ghost use Rattle.montage_tool.specs.Run.{IsRun};
+ghost use Rattle.montage_tool.specs.ReportedRun.{IsRun};
 ghost use Rattle.montage_tool.specs.Forms.{AreRun};
 
 use crate::delivery::deliver;
 use crate::forms::{Form, form_of};
-use crate::run::run_job;
+use crate::reported_run::run_for_report;
 use crate::status::{SinkName, SourceName, Status};
 use index_kit::Index;
 use job_text::{Job, JobFault, JobRefusal, read_job, write_report};
@@ -120,7 +120,7 @@ fn report_job<R: Threads + Wait + Sync, O: Sink, B: Index + Send>(
     ensures { IsReported O.taken O.faults (map (λ b. finite.len (B.places b)) indexes.items)
         out.old out.new job.now result }
 {
-    match report_of_run(rt, alloc, job, indexes) {
+    match report_of_job(rt, alloc, job, indexes) {
         Ok(bytes) => send(out, &bytes),
         Err(refusal) => unopened(refusal),
     }
@@ -137,7 +137,7 @@ fn unopened(refusal: OpenRefusal) -> Status
 }
 
 // The text of the report of a run of the job.
-fn report_of_run<R: Threads + Wait + Sync, B: Index + Send>(
+fn report_of_job<R: Threads + Wait + Sync, B: Index + Send>(
     rt: &R,
     alloc: Global,
     job: &Job,
@@ -152,7 +152,7 @@ fn report_of_run<R: Threads + Wait + Sync, B: Index + Send>(
     ensures lacks { IfErr result (λ why. LacksBox job.now.layout
         (map (λ b. finite.len (B.places b)) indexes.items) why) }
 {
-    let report = run_job(rt, alloc, job, indexes)?;
+    let report = run_for_report(rt, alloc, job, indexes)?;
     Ok(write_report(alloc, &report)?)
 }
 

@@ -9,15 +9,15 @@ use Rattle.mont_base.specs.declared.refusal.CallRefusal.TheVariants.{Halted, Cou
 use Rattle.heap.specs.HeapShown.{HeapShown, CallerShown}
 use Rattle.heap.specs.Stops.{IsSeatOfCaller}
 use Rattle.montage.specs.StoreCalls.{IsAnswered, IsRefused, KeepsCaller, TellsWhy}
-use Rattle.montage_worked.specs.Callers.{IsSameCaller}
+use Rattle.montage_worked.specs.WorkedCallers.{IsSameCaller}
 
 of_answers : (q r : CallerShown) → KeepsCaller q r → IsSameCaller q r
 of_answers q r k = record { table = k.table; caller = k.caller }
 
-of_ticket : (q r s : CallerShown) → r ≡ s → s.table ≡ q.table → s.held.caller ≡ q.held.caller → IsSameCaller q r
+of_ticket : (q r s : CallerShown) → r ≡ s → s.table ≡ q.table → s.known.caller ≡ q.known.caller → IsSameCaller q r
 of_ticket q r s is table caller = record {
   table = ap (λ (x : CallerShown). x.table) is ∙ table;
-  caller = ap (λ (x : CallerShown). x.held.caller) is ∙ caller;
+  caller = ap (λ (x : CallerShown). x.known.caller) is ∙ caller;
 }
 
 of_why : (heap : HeapShown) (unit : ℕ) (q r : CallerShown) (op : Op) (why : CallRefusal) → TellsWhy heap unit q r op why
@@ -28,7 +28,7 @@ of_why heap unit q r op Memory k = of_ticket q r q k refl refl
 of_why heap unit q r op (Full need free clock) k = of_answers q r k.0
 of_why heap unit q r op (Cut cut) k = record {
   table = ap (λ (x : CallerShown). x.table) k.1.caller;
-  caller = ap (λ (x : CallerShown). x.held.caller) k.1.caller;
+  caller = ap (λ (x : CallerShown). x.known.caller) k.1.caller;
 }
 
 pub same_caller : (heap : HeapShown) (q r : CallerShown) (op : Op) (x : Result Receipt CallRefusal)

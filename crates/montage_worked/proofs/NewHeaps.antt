@@ -6,7 +6,7 @@ use Rattle.heap_rule.specs.declared.rule.Opening.{Opening}
 use Rattle.heap.specs.FreshOpening.{fresh_opening}
 use Rattle.heap.specs.HeapShown.{HeapShown, UnitShown, AdvShown, CallerShown}
 use Rattle.heap.specs.Opens.{Opens}
-use Rattle.montage_worked.specs.Opened.{IsNewHeap}
+use Rattle.montage_worked.specs.OpenedStores.{IsNewHeap}
 
 pub is_new : (layout : Shape) (many : ℕ) (heap : HeapShown) (units : List UnitShown) (advancer : AdvShown) (callers : List CallerShown)
     → Opens (fresh_opening layout many) heap units advancer callers → IsNewHeap many heap units advancer callers

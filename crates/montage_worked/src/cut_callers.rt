@@ -1,9 +1,9 @@
 // Callers that are cut in the middle of a call.
-use crate::callers::Caller;
 use crate::draws::Draws;
-use crate::judging::judge;
+use crate::judged_stores::judge;
 use crate::opened::{indexes, new_heap};
 use crate::playing::{Play, played};
+use crate::worked_callers::Caller;
 use crate::wrong::Wrong;
 use caller::SyncRefusal;
 use heap_pass::HeapName;

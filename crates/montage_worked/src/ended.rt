@@ -2,7 +2,7 @@
 ghost use Rattle.std.specs.Prelude.{◌≡◌, map, vec_len, IfOk};
 ghost use Rattle.montage.specs.Store.{AreAllCallers};
 
-use crate::callers::Caller;
+use crate::worked_callers::Caller;
 use heap_pass::{HeapName, Pass};
 use index_kit::Index;
 use mont_base::{Gate, Receipt, Sequence};

@@ -2,10 +2,10 @@
 // unit answers, while it is held.
 ghost use Rattle.std.specs.Prelude.{◌≡◌, ℕ, false, true};
 
-use crate::callers::Caller;
-use crate::judging::judge;
+use crate::judged_stores::judge;
 use crate::opened::{indexes, new_heap};
 use crate::playing::{Part, played_in_threads};
+use crate::worked_callers::Caller;
 use advance::AdvanceRefusal;
 use heap_pass::HeapName;
 use index_kit::Index;

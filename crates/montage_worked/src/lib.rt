@@ -6,7 +6,7 @@
 #![tactic(auto)]
 
 #[cfg(test)]
-mod callers;
+mod call_replies;
 #[cfg(test)]
 mod cut_callers;
 #[cfg(test)]
@@ -16,20 +16,20 @@ mod ended;
 #[cfg(test)]
 mod held_put;
 #[cfg(test)]
-mod images;
-#[cfg(test)]
-mod judging;
+mod judged_stores;
 #[cfg(test)]
 mod many_callers;
 #[cfg(test)]
 mod opened;
 #[cfg(test)]
-mod playing;
+mod permitted_images;
 #[cfg(test)]
-mod replies;
+mod playing;
 #[cfg(test)]
 mod structure_calls;
 #[cfg(test)]
 mod syncs;
+#[cfg(test)]
+mod worked_callers;
 #[cfg(test)]
 mod wrong;

@@ -1,9 +1,9 @@
 // Threads call a store beside an advancer.
-use crate::callers::Caller;
 use crate::draws::Draws;
-use crate::judging::judge;
+use crate::judged_stores::judge;
 use crate::opened::{indexes, new_heap};
 use crate::playing::{Part, played_in_threads};
+use crate::worked_callers::Caller;
 use heap_pass::HeapName;
 use index_kit::Index;
 use mont_base::{CallRefusal, Op, Steady, Unit};

@@ -2,9 +2,9 @@
 ghost use Rattle.std.specs.Prelude.{◌≡◌, ◌≤◌, [], map, vec_len, vec_capacity, IfOk};
 ghost use Rattle.heap.specs.Stops.{AreCallersOf};
 ghost use Rattle.montage.specs.FreshStore.{IsFreshHeap};
-ghost use Rattle.montage_worked.specs.Opened.{IsNewHeap};
+ghost use Rattle.montage_worked.specs.OpenedStores.{IsNewHeap};
 
-use crate::callers::Caller;
+use crate::worked_callers::Caller;
 use heap::{Heap, Seats};
 use heap_pass::{HeapName, Pass};
 use index_kit::{Index, SortedIndex};

@@ -1,10 +1,10 @@
 // What callers do with a store, between its opening and its stop.
 ghost use Rattle.std.specs.Prelude.{◌≡◌, vec_len};
-ghost use Rattle.montage_worked.specs.Opened.{IsNewHeap};
+ghost use Rattle.montage_worked.specs.OpenedStores.{IsNewHeap};
 
-use crate::callers::Caller;
 use crate::ended::{Ended, end};
 use crate::opened::open;
+use crate::worked_callers::Caller;
 use crate::wrong::Wrong;
 use heap::{Heap, Seats};
 use heap_pass::HeapName;

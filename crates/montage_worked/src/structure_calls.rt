@@ -1,7 +1,7 @@
 // The structure call of an operation. What it asks of the store is tested first.
 ghost use Rattle.std.specs.Prelude.{◌≡◌, Some, IsTrue};
 ghost use Rattle.mont_base.specs.Layout.{kind_of};
-ghost use Rattle.montage_worked.specs.Callers.{IsSameCaller};
+ghost use Rattle.montage_worked.specs.WorkedCallers.{IsSameCaller};
 
 use heap_pass::{HeapName, Pass};
 use index_kit::Index;
@@ -14,7 +14,7 @@ use std::sync::Wait;
 pub(crate) struct NoSuchCall;
 
 // Carries an operation out by the call of its name.
-pub(crate) fn carry_out<R: Wait, N: HeapName, I: Index, G: Gate>(
+pub(crate) fn carry_out_call<R: Wait, N: HeapName, I: Index, G: Gate>(
     rt: &R,
     store: &Store<N, I>,
     pass: &mut Pass<G>,

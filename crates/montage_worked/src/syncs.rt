@@ -1,10 +1,10 @@
 // What one caller was told by another gets durable with what it does itself.
-use crate::callers::Caller;
 use crate::ended::Ended;
-use crate::images::{picked, rebuilt};
-use crate::judging::judge;
+use crate::judged_stores::judge;
 use crate::opened::{indexes, new_heap};
+use crate::permitted_images::{picked, rebuilt};
 use crate::playing::{Play, played};
+use crate::worked_callers::Caller;
 use crate::wrong::Wrong;
 use heap_pass::HeapName;
 use index_kit::Index;

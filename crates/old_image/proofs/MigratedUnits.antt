@@ -17,10 +17,10 @@ use Rattle.mont_laws.proofs.UnitSlots.{slots_have_units}
 use Rattle.mont_image.specs.StoredImage.{IsImage}
 use Rattle.scan.specs.Scanned.{IsReadable, all_slots}
 use Rattle.scan.proofs.Ranges.{range_append}
-use Rattle.image_units.specs.declared.refusal.RecoverRefusal.{RecoverRefusal}
-use Rattle.image_units.specs.declared.refusal.RecoverRefusal.TheVariants as refusals
+use Rattle.image_units.specs.declared.recovery_refusal.RecoverRefusal.{RecoverRefusal}
+use Rattle.image_units.specs.declared.recovery_refusal.RecoverRefusal.TheVariants as refusals
 use Rattle.image_units.specs.Found.{all_records}
-use Rattle.image_units.specs.Versions.{HasNoRepeat, IsRepeatRefusal}
+use Rattle.image_units.specs.FoundVersions.{HasNoRepeat, IsRepeatRefusal}
 use Rattle.image_units.proofs.Accepted.{unit_of_record}
 use Rattle.image_units.proofs.UnitVersions.{units_apart}
 use Rattle.old_image.specs.OldSlots.{objects_in, widened}

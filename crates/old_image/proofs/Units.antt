@@ -10,8 +10,8 @@ use Rattle.mont_base.specs.Layout.{Shape, is_of_kind, kind_of}
 use Rattle.mont_base.specs.Structure.{first_fault, map_fault, object_fault, structure_of}
 use Rattle.mont_image.specs.StoredImage.{IsOldKinds}
 use Rattle.plain.specs.Built.{IsFirstFault, MakesStructure}
-use Rattle.image_units.specs.declared.refusal.RecoverRefusal.{RecoverRefusal}
-use Rattle.image_units.specs.declared.refusal.RecoverRefusal.TheVariants as refusals
+use Rattle.image_units.specs.declared.recovery_refusal.RecoverRefusal.{RecoverRefusal}
+use Rattle.image_units.specs.declared.recovery_refusal.RecoverRefusal.TheVariants as refusals
 use Rattle.old_image.specs.OldStructure.{IsFirstOldFault, old_map_fault, old_object_fault, old_structure_of, renewed_object}
 use Rattle.old_image.specs.Renewal.{AreFrontPairs, AreRenewed, EndsAt, HoldsNumbers, IsObjectRefusal, IsOldObjectRefusal, RenewsUnit}
 use Rattle.old_image.proofs.Fronts.{fault_behind, fault_of_front, front_fault, same_map}
@@ -32,7 +32,8 @@ module _ (s : Shape) (unit : ℕ) (os : List Object) (kind : UnitKind) (of_unit 
 module _ (s : Shape) (unit : ℕ) (old : IsOldKinds s.kinds) (of_unit : kind_of s unit ≡ Some kinds.Map)
     (os pairs : List Object) (spare : Option ℕ) (f : AreFrontPairs os pairs spare) where
   fault_is : first_fault (old_map_fault s unit) [] f.front ≡ object_fault s unit kinds.Map pairs
-  fault_is = sym (front_fault s unit old (ap (λ (o : Option UnitKind). is_of_kind o kinds.Ordered) of_unit) f.front f.numbers) ∙ ap (first_fault (map_fault s unit) []) (sym f.pairs_are)
+  fault_is = sym (front_fault s unit old (ap (λ (o : Option UnitKind). is_of_kind o kinds.Ordered) of_unit) f.front f.numbers)
+      ∙ ap (first_fault (map_fault s unit) []) (sym f.pairs_are)
 
   sound_front : MakesStructure s unit pairs → first_fault (old_map_fault s unit) [] f.front ≡ None
   sound_front m = fault_is ∙ sound_is s unit pairs kinds.Map of_unit m

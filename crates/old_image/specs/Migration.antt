@@ -12,11 +12,11 @@ use Rattle.mont_base.specs.Record.{slot_words}
 use Rattle.mont_base.specs.State.{State}
 use Rattle.mont_base.specs.Versions.{live_objects, object_of}
 use Rattle.scan.specs.Scanned.{IsLowestFault, IsReadable}
-use Rattle.image_units.specs.declared.refusal.RecoverRefusal.{RecoverRefusal}
-use Rattle.image_units.specs.declared.refusal.RecoverRefusal.TheVariants as refusals
+use Rattle.image_units.specs.declared.recovery_refusal.RecoverRefusal.{RecoverRefusal}
+use Rattle.image_units.specs.declared.recovery_refusal.RecoverRefusal.TheVariants as refusals
 use Rattle.image_units.specs.FirstRefusal.{IsTwice}
 use Rattle.image_units.specs.Found.{all_records}
-use Rattle.image_units.specs.Versions.{HasNoRepeat}
+use Rattle.image_units.specs.FoundVersions.{HasNoRepeat}
 use Rattle.old_image.specs.OldSlots.{live_at, objects_in, widened}
 use Rattle.old_image.specs.OldStructure.{IsFirstOldFault, IsOldRecovered, MakesOldStructure, renewed_object, renewed_body}
 

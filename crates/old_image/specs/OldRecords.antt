@@ -2,8 +2,8 @@
 use Rattle.std.specs.Prelude.{ℕ, List}
 use Rattle.mont_base.specs.Layout.{Shape}
 use Rattle.scan.specs.Scanned.{IsLowestFault}
-use Rattle.image_units.specs.declared.refusal.RecoverRefusal.{RecoverRefusal}
-use Rattle.image_units.specs.declared.refusal.RecoverRefusal.TheVariants.{Slot, Twice, Object, Memory}
+use Rattle.image_units.specs.declared.recovery_refusal.RecoverRefusal.{RecoverRefusal}
+use Rattle.image_units.specs.declared.recovery_refusal.RecoverRefusal.TheVariants.{Slot, Twice, Object, Memory}
 
 -- the lowest slot with a fault, or want of memory
 abbrev pub IsSlotRefusal : Shape → List ℕ → RecoverRefusal → Type 0

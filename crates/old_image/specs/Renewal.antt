@@ -7,8 +7,8 @@ use Rattle.mont_base.specs.declared.record.ObjectFault.{ObjectFault}
 use Rattle.mont_base.specs.Layout.{Shape, kind_of}
 use Rattle.mont_base.specs.Structure.{object_fault, structure_of}
 use Rattle.plain.specs.Built.{IsFirstFault}
-use Rattle.image_units.specs.declared.refusal.RecoverRefusal.{RecoverRefusal}
-use Rattle.image_units.specs.declared.refusal.RecoverRefusal.TheVariants as refusals
+use Rattle.image_units.specs.declared.recovery_refusal.RecoverRefusal.{RecoverRefusal}
+use Rattle.image_units.specs.declared.recovery_refusal.RecoverRefusal.TheVariants as refusals
 use Rattle.old_image.specs.OldStructure.{IsFirstOldFault, number_pair_at, old_object_fault, old_structure_of, renewed_object}
 
 -- ---- a unit

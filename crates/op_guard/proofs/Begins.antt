@@ -33,7 +33,7 @@ ready_shown heap r q ready = record {
     of_heap = record { table = ready.runs.of_heap.table; layout = ready.runs.of_heap.layout };
     agrees = ready.runs.agrees;
     running = ready.runs.running;
-    clean = are_clean-append (units_of heap.opening.layout) r.seat.held.clean q.held.clean ready.runs.clean;
+    clean = are_clean-append (units_of heap.opening.layout) r.seat.known.clean q.known.clean ready.runs.clean;
   };
   rests = ready.rests;
   home = ready.home;
@@ -63,38 +63,38 @@ runs_at heap r stage steps loaded seat runs comes =
 pub runs_out : (heap : HeapShown) (r : RegionShown) (seat : UnitShown) → IsRunning heap r → IsOut r.seat seat
     → IsRunning heap (region_with r seat)
 runs_out heap r seat runs out =
-    runs_at heap r seat.held.part.stage seat.held.steps seat.held.loaded seat runs out.only
+    runs_at heap r seat.known.part.stage seat.known.steps seat.known.loaded seat runs out.only
 
 -- and has its list at home
-pub home_out : (r : RegionShown) (seat : UnitShown) → r.seat.held.turn ≡ home_turn → IsOut r.seat seat → seat.held.turn.out ≡ false
-home_out r seat home out = ap (λ (s : UnitShown). s.held.turn.out) out.only ∙ ap (λ (t : UnitTurn). t.out) home
+pub home_out : (r : RegionShown) (seat : UnitShown) → r.seat.known.turn ≡ home_turn → IsOut r.seat seat → seat.known.turn.out ≡ false
+home_out r seat home out = ap (λ (s : UnitShown). s.known.turn.out) out.only ∙ ap (λ (t : UnitTurn). t.out) home
 
 -- an operation is under way, once the unit is within the epoch
 begun_within : (heap : HeapShown) (old r : RegionShown) (q : CallerShown) (need epoch steps : ℕ) (seat : UnitShown)
     → IsReady heap r → KeepsUnit old r → need ≤ length r.books.free → Comes r.seat seat (Within epoch) steps epoch
-    → IsClock r.seat.held.learnt r.seat.held.part epoch → q.held.part.newest ≤ epoch → q.held.part.durable ≤ epoch
+    → IsClock r.seat.known.learnt r.seat.known.part epoch → q.known.part.newest ≤ epoch → q.known.part.durable ≤ epoch
     → (need ≤ length old.books.free → r.books ≡ old.books)
     → (length old.books.free < need → HasClosedFirst old (region_with r seat) q epoch)
-    → HasBegun heap old (region_with r seat) q need (guard_at r.books.unit q.held.caller epoch need)
+    → HasBegun heap old (region_with r seat) q need (guard_at r.books.unit q.known.caller epoch need)
 begun_within heap old r q need epoch steps seat ready keeps room comes clock newest durable same closed =
     let runs = runs_at heap r (Within epoch) steps epoch seat ready.runs comes in
     let low = clock.low in
-    let before : old.seat.held.part.durable ≤ r.seat.held.part.durable = keeps.durable in
-    let known : r.seat.held.part.durable ≤ epoch = clock.after_durable in
-    let entries : last_epoch r.seat.held.part.history ≤ epoch = clock.after_entries in
+    let before : old.seat.known.part.durable ≤ r.seat.known.part.durable = keeps.durable in
+    let known : r.seat.known.part.durable ≤ epoch = clock.after_durable in
+    let entries : last_epoch r.seat.known.part.history ≤ epoch = clock.after_entries in
     record {
-      guard_is = ap (λ (u : ℕ). guard_at u q.held.caller epoch need) keeps.of_unit;
+      guard_is = ap (λ (u : ℕ). guard_at u q.known.caller epoch need) keeps.of_unit;
       under_way = record {
         runs = runs;
         of_unit = refl;
-        registered = subst (λ (s : UnitShown). MayWrite s.held.part epoch) (sym comes) (record {
+        registered = subst (λ (s : UnitShown). MayWrite s.known.part epoch) (sym comes) (record {
           stage = refl;
           whole = ready.rests.writing;
           some = omega arith;
           last = clock.high;
         });
-        home = ap (λ (s : UnitShown). s.held.turn) comes ∙ ready.home;
-        wrote = ap (λ (s : UnitShown). length s.held.part.written) comes ∙ ap length ready.rests.written;
+        home = ap (λ (s : UnitShown). s.known.turn) comes ∙ ready.home;
+        wrote = ap (λ (s : UnitShown). length s.known.part.written) comes ∙ ap length ready.rests.written;
         few = omega arith;
         room = omega arith;
       };
@@ -107,11 +107,11 @@ begun_within heap old r q need epoch steps seat ready keeps room comes clock new
       };
       keeps = record {
         of_unit = keeps.of_unit;
-        history = ap (λ (s : UnitShown). s.held.part.history) comes ∙ keeps.history;
-        live = λ identity. ap (λ (s : UnitShown). live_of identity s.held.part.records) comes ∙ keeps.live identity;
+        history = ap (λ (s : UnitShown). s.known.part.history) comes ∙ keeps.history;
+        live = λ identity. ap (λ (s : UnitShown). live_of identity s.known.part.records) comes ∙ keeps.live identity;
         identity = keeps.identity;
         serial = keeps.serial;
-        durable = subst (λ (s : UnitShown). old.seat.held.part.durable ≤ s.held.part.durable) (sym comes) before;
+        durable = subst (λ (s : UnitShown). old.seat.known.part.durable ≤ s.known.part.durable) (sym comes) before;
       };
       enough = same;
       reclaimed = closed;
@@ -119,16 +119,16 @@ begun_within heap old r q need epoch steps seat ready keeps room comes clock new
 
 -- behind room that was made
 pub has_begun : (heap : HeapShown) (old r : RegionShown) (q : CallerShown) (need epoch : ℕ) (seat : UnitShown)
-    → IsReady heap r → KeepsUnit old r → r.seat.held.learnt ≡ learnt_more old.seat.held.learnt q.held.part
+    → IsReady heap r → KeepsUnit old r → r.seat.known.learnt ≡ learnt_more old.seat.known.learnt q.known.part
     → need ≤ length r.books.free → HasMadeRoom old r q need
-    → IsRegistered r.seat seat epoch → IsClock r.seat.held.learnt r.seat.held.part epoch
-    → HasBegun heap old (region_with r seat) q need (guard_at r.books.unit q.held.caller epoch need)
+    → IsRegistered r.seat seat epoch → IsClock r.seat.known.learnt r.seat.known.part epoch
+    → HasBegun heap old (region_with r seat) q need (guard_at r.books.unit q.known.caller epoch need)
 has_begun heap old r q need epoch seat ready keeps knows room made registered clock =
-    let newest : max old.seat.held.learnt.newest q.held.part.newest ≤ epoch =
+    let newest : max old.seat.known.learnt.newest q.known.part.newest ≤ epoch =
     subst (λ (l : Learnt). l.newest ≤ epoch) knows clock.not_before in
-    let durable : max old.seat.held.learnt.durable q.held.part.durable ≤ epoch =
+    let durable : max old.seat.known.learnt.durable q.known.part.durable ≤ epoch =
     subst (λ (l : Learnt). l.durable ≤ epoch) knows clock.not_behind in
-    begun_within heap old r q need epoch seat.held.steps seat ready keeps room registered.within clock (omega arith) (omega arith)
+    begun_within heap old r q need epoch seat.known.steps seat ready keeps room registered.within clock (omega arith) (omega arith)
     (λ few. ap (λ (s : RegionShown). s.books) (made.enough few))
     (λ few. let k = made.reclaimed few in
     record { emptied = r; clock = k.0; reclaimed = k.1; registered = registered; books = refl })
@@ -136,14 +136,14 @@ has_begun heap old r q need epoch seat ready keeps knows room made registered cl
 -- at an epoch that was asked for
 pub has_begun_at : (heap : HeapShown) (old : RegionShown) (q : CallerShown) (need epoch : ℕ) (seat : UnitShown)
     → IsReady heap old → HasLearntOf old q → need ≤ length old.books.free → IsRegisteredAt old.seat seat epoch
-    → HasBegun heap old (region_with old seat) q need (guard_at old.books.unit q.held.caller epoch need)
+    → HasBegun heap old (region_with old seat) q need (guard_at old.books.unit q.known.caller epoch need)
 has_begun_at heap old q need epoch seat ready learnt room registered =
     let clock = registered.clock in
     let newest = clock.not_before in
     let durable = clock.not_behind in
     let seen = learnt.newest in
     let known = learnt.durable in
-    begun_within heap old old q need epoch (old.seat.held.steps + 2) seat ready
+    begun_within heap old old q need epoch (old.seat.known.steps + 2) seat ready
     (record { of_unit = refl; history = refl; live = λ identity. refl; identity = refl; serial = refl; durable = omega arith })
     room registered.within clock (omega arith) (omega arith) (λ enough. refl) (λ few. absurd (omega arith))
 
@@ -158,10 +158,10 @@ pub has_stayed_out : (heap : HeapShown) (old : RegionShown) (epoch clock : ℕ) 
     → HasMoved old.seat seat epoch clock → HasStayedOut heap old (region_with old seat) epoch clock
 has_stayed_out heap old epoch clock seat ready moved = record {
   ready = record {
-    runs = runs_at heap old old.seat.held.part.stage (old.seat.held.steps + 3) clock seat ready.runs moved.as_before;
-    rests = subst (λ (s : UnitShown). IsAtRest s.held.part) (sym moved.as_before)
+    runs = runs_at heap old old.seat.known.part.stage (old.seat.known.steps + 3) clock seat ready.runs moved.as_before;
+    rests = subst (λ (s : UnitShown). IsAtRest s.known.part) (sym moved.as_before)
         (record { stage = ready.rests.stage; written = ready.rests.written; writing = ready.rests.writing });
-    home = ap (λ (s : UnitShown). s.held.turn) moved.as_before ∙ ready.home;
+    home = ap (λ (s : UnitShown). s.known.turn) moved.as_before ∙ ready.home;
   };
   books = refl;
   moved = moved;
@@ -169,8 +169,8 @@ has_stayed_out heap old epoch clock seat ready moved = record {
 
 -- the same of what has these values
 pub begun_as : (heap : HeapShown) (old r now : RegionShown) (q : CallerShown) (need epoch unit by : ℕ) (seat : UnitShown)
-    → now ≡ region_with r seat → unit ≡ r.books.unit → by ≡ q.held.caller
-    → HasBegun heap old (region_with r seat) q need (guard_at r.books.unit q.held.caller epoch need)
+    → now ≡ region_with r seat → unit ≡ r.books.unit → by ≡ q.known.caller
+    → HasBegun heap old (region_with r seat) q need (guard_at r.books.unit q.known.caller epoch need)
     → HasBegun heap old now q need (guard_at unit by epoch need)
 begun_as heap old r now q need epoch unit by seat now_is unit_is by_is =
     subst (λ (x : RegionShown × ℕ × ℕ). HasBegun heap old x.0 q need (guard_at x.1 x.2 epoch need))

@@ -6,17 +6,17 @@ use Rattle.heap.specs.HeapShown.{HeapShown, UnitShown}
 use Rattle.heap_rule.specs.Plays.{IsNotBeyond}
 use Rattle.heap_rule.specs.SoundUnits.{IsSoundUnit}
 use Rattle.heap_rule.specs.Views.{unit_gave}
-use Rattle.heap_rule.specs.declared.views.CallerHeld.{CallerHeld}
-use Rattle.heap_rule.specs.declared.views.UnitHeld.{UnitHeld}
+use Rattle.heap_rule.specs.declared.views.CallerKnown.{CallerKnown}
+use Rattle.heap_rule.specs.declared.views.UnitKnown.{UnitKnown}
 use Rattle.slots.specs.Books.{RegionShown}
 use Rattle.slots.specs.Reclaiming.{IsSound}
 
 -- the seat of a unit whose list was given back
 abbrev pub seat_gave : RegionShown → UnitShown
-seat_gave r = record { table = r.seat.table; held = unit_gave r.seat.held }
+seat_gave r = record { table = r.seat.table; known = unit_gave r.seat.known }
 
 -- What a caller has seen of a unit is told by the unit's number and its history.
-pub seen_at : (q : CallerHeld) (h k : UnitHeld) → k.unit ≡ h.unit → k.part.history ≡ h.part.history → IsNotBeyond q k → IsNotBeyond q h
+pub seen_at : (q : CallerKnown) (h k : UnitKnown) → k.unit ≡ h.unit → k.part.history ≡ h.part.history → IsNotBeyond q k → IsNotBeyond q h
 seen_at q h k same_unit same_history seen = record {
   front = subst (λ (u : ℕ). slice_index q.part.fronts u ≤ length h.part.history) same_unit
       (subst (λ (es : List Entry). slice_index q.part.fronts k.unit ≤ length es) same_history seen.front);
@@ -27,9 +27,9 @@ seen_at q h k same_unit same_history seen = record {
 
 module _ (heap : HeapShown) (old : RegionShown) (lent : UnitShown) (is : lent ≡ seat_gave old) where
   -- a turn isn't among the unit's clauses
-  pub sound_gave : (now durable : ℕ) × IsSoundUnit heap.opening now durable lent.held → IsSound heap old
+  pub sound_gave : (now durable : ℕ) × IsSoundUnit heap.opening now durable lent.known → IsSound heap old
   sound_gave k =
-      let s = subst (λ (x : UnitShown). IsSoundUnit heap.opening k.0 k.1 x.held) is k.2 in (
+      let s = subst (λ (x : UnitShown). IsSoundUnit heap.opening k.0 k.1 x.known) is k.2 in (
         k.0,
         (
           k.1,
@@ -49,13 +49,13 @@ module _ (heap : HeapShown) (old : RegionShown) (lent : UnitShown) (is : lent �
       )
 
   -- nor does a turn tell what the caller had seen
-  pub seen_gave : (q : CallerHeld) → IsNotBeyond q lent.held → IsNotBeyond q old.seat.held
+  pub seen_gave : (q : CallerKnown) → IsNotBeyond q lent.known → IsNotBeyond q old.seat.known
   seen_gave q k =
-      let given = subst (λ (x : UnitShown). IsNotBeyond q x.held) is k in
+      let given = subst (λ (x : UnitShown). IsNotBeyond q x.known) is k in
       record { front = given.front; entries = given.entries }
 
 -- and behind the answer
 pub sound_after : (heap : HeapShown) (new : RegionShown) (seat : UnitShown) → new.seat ≡ seat
-    → (now durable : ℕ) × IsSoundUnit heap.opening now durable seat.held → IsSound heap new
+    → (now durable : ℕ) × IsSoundUnit heap.opening now durable seat.known → IsSound heap new
 sound_after heap new seat is k =
-    (k.0, (k.1, subst (λ (x : UnitShown). IsSoundUnit heap.opening k.0 k.1 x.held) (sym is) k.2))
+    (k.0, (k.1, subst (λ (x : UnitShown). IsSoundUnit heap.opening k.0 k.1 x.known) (sym is) k.2))

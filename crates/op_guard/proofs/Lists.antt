@@ -3,7 +3,7 @@ use Rattle.std.proofs.Common.{◌≡◌, ℕ, ◌+◌, ◌≤◌, List, [], ◌�
 use Rattle.std.proofs.lemmas.List.{length-map}
 use Rattle.mont_base.specs.declared.record.Held.{Held}
 use Rattle.mont_base.specs.SlotLists.{Roomy}
-use Rattle.heap_rule.specs.declared.views.UnitHeld.{UnitHeld}
+use Rattle.heap_rule.specs.declared.views.UnitKnown.{UnitKnown}
 use Rattle.heap_rule.specs.declared.views.UnitTurn.{UnitTurn}
 use Rattle.heap_rule.specs.Views.{home_turn, listed_in, slots_written}
 use Rattle.slots.specs.declared.books.Written.{Written}
@@ -27,25 +27,26 @@ room_to_push now before left all room e some fits =
     omega (arith, long, left_long, all_long)
 
 -- the list as it was taken out
-abbrev pub list_taken : UnitHeld → Roomy
+abbrev pub list_taken : UnitKnown → Roomy
 list_taken h = record { slots = listed_in h ++ h.turn.pushed; room = h.room }
 
 -- the list as it is to be given back
-abbrev pub list_due : UnitHeld → Roomy
+abbrev pub list_due : UnitKnown → Roomy
 list_due h = record { slots = listed_in h ++ slots_written h.part; room = h.room }
 
-module _ (r : RegionShown) (list : Roomy) (agrees : Agrees r) (home : r.seat.held.turn ≡ home_turn)
-    (taken : list ≡ list_taken r.seat.held) where
-  none_pushed : list.slots ≡ listed_in r.seat.held
+module _ (r : RegionShown) (list : Roomy) (agrees : Agrees r) (home : r.seat.known.turn ≡ home_turn)
+    (taken : list ≡ list_taken r.seat.known) where
+  none_pushed : list.slots ≡ listed_in r.seat.known
   none_pushed =
-      ap (λ (l : Roomy). l.slots) taken ∙ ap (λ (t : UnitTurn). listed_in r.seat.held ++ t.pushed) home ∙ append-nil (listed_in r.seat.held)
+      ap (λ (l : Roomy). l.slots) taken ∙ ap (λ (t : UnitTurn). listed_in r.seat.known ++ t.pushed) home
+      ∙ append-nil (listed_in r.seat.known)
 
   pub list_pushed : (now : Roomy) → now ≡ record { slots = list.slots ++ slots_of_written r.books.written; room = list.room }
-      → now ≡ list_due r.seat.held
+      → now ≡ list_due r.seat.known
   list_pushed now pushed =
       pushed ∙ (λ i. record {
         slots = none_pushed i ++ written i;
         room = (ap (λ (l : Roomy). l.room) taken) i;
       }) where
-        written : slots_of_written r.books.written ≡ slots_written r.seat.held.part
-        written = ap slots_of_written agrees.1.written_are ∙ same_slots r.seat.held.part.records r.seat.held.part.written
+        written : slots_of_written r.books.written ≡ slots_written r.seat.known.part
+        written = ap slots_of_written agrees.1.written_are ∙ same_slots r.seat.known.part.records r.seat.known.part.written

@@ -16,7 +16,7 @@ use Rattle.core_steps.specs.Sound.{base_state}
 use Rattle.core_steps.proofs.Decisions.{both}
 use Rattle.core_steps.proofs.UnitRoom.{unit_used_undue}
 use Rattle.heap.specs.HeapShown.{HeapShown, UnitShown, CallerShown}
-use Rattle.heap_rule.specs.declared.views.UnitHeld.{UnitHeld}
+use Rattle.heap_rule.specs.declared.views.UnitKnown.{UnitKnown}
 use Rattle.heap_rule.specs.Plays.{IsDurable, IsNotBeyond, HasSeenAll}
 use Rattle.heap_rule.specs.Views.{is_among, are_clean, unit_closed, unit_persisted, unit_loaded_durable}
 use Rattle.slots.specs.Books.{BooksShown, RegionShown, Agrees, IsAtRest, StaysOpen}
@@ -49,7 +49,7 @@ none_left clock (t ∷ ts) left e = by (is_due clock t) refl (none_left clock ts
       ap (due_at clock) (sym (e ∙ ap (λ (l : List Retired). l ++ left) (due_cons clock t ts false f))) ∙ due_cons clock t ts false f
 
 -- each close takes steps
-pub steps_emptied : (h : UnitHeld) (closed : List Retired) → h.steps ≤ (unit_emptied h closed).steps
+pub steps_emptied : (h : UnitKnown) (closed : List Retired) → h.steps ≤ (unit_emptied h closed).steps
 steps_emptied h [] = omega arith
 steps_emptied h (t ∷ ts) =
     let behind = steps_emptied (unit_persisted (unit_closed h t.slot) t.slot) ts in
@@ -67,29 +67,29 @@ among_clean (suc n) u clean low all =
     ]
 
 -- it has no lost slot
-pub none_lost : (heap : HeapShown) (r : RegionShown) → IsRunning heap r → IsSound heap r → r.seat.held.part.lost ≡ []
+pub none_lost : (heap : HeapShown) (r : RegionShown) → IsRunning heap r → IsSound heap r → r.seat.known.part.lost ≡ []
 none_lost heap r runs sound =
     let k = sound.1.1 in
-    let of_seat : r.books.unit ≡ r.seat.held.unit = runs.agrees.0 in
+    let of_seat : r.books.unit ≡ r.seat.known.unit = runs.agrees.0 in
     let inside : r.books.unit < units_of heap.opening.layout =
     subst (λ (s : Shape). r.books.unit < units_of s) runs.of_heap.layout runs.agrees.1.own.inside in
-    let of_unit : r.seat.held.unit < units_of heap.opening.layout = subst (λ (u : ℕ). u < units_of heap.opening.layout) of_seat inside in
-    k.clean (among_clean (units_of heap.opening.layout) r.seat.held.unit r.seat.held.clean of_unit runs.clean)
+    let of_unit : r.seat.known.unit < units_of heap.opening.layout = subst (λ (u : ℕ). u < units_of heap.opening.layout) of_seat inside in
+    k.clean (among_clean (units_of heap.opening.layout) r.seat.known.unit r.seat.known.clean of_unit runs.clean)
 
-pub room_at : (heap : HeapShown) (r : RegionShown) (clock : ℕ) → IsRunning heap r → IsAtRest r.seat.held.part
-    → r.seat.held.part.durable ≡ clock → clock_of heap.opening.words ≤ clock → due_at clock r.books.retired ≡ [] → IsSound heap r
+pub room_at : (heap : HeapShown) (r : RegionShown) (clock : ℕ) → IsRunning heap r → IsAtRest r.seat.known.part
+    → r.seat.known.part.durable ≡ clock → clock_of heap.opening.words ≤ clock → due_at clock r.books.retired ≡ [] → IsSound heap r
     → HasRoomAt heap r clock
 room_at heap r clock runs rests durable begun none sound = λ states recovered.
     let k = sound.1.1 in
-    let p = r.seat.held.part in
+    let p = r.seat.known.part in
     let base : ℕ → State = base_state (opened_at (clock_of heap.opening.words) states) in
     let undue : (slot : ℕ) → IsFirstDue p.retired p.durable slot → ⊥ =
     subst (λ (x : ℕ). (slot : ℕ) → IsFirstDue p.retired x slot → ⊥) (sym durable)
     (none_first clock p.retired (ap (due_at clock) (sym runs.agrees.1.retired_are) ∙ none)) in
     let begun_at : clock_of heap.opening.words ≤ p.durable = omega arith in
-    let used : length p.records ≡ used_slots (base r.seat.held.unit) p.history p.durable =
-    unit_used_undue heap.opening.layout (clock_of heap.opening.words) sound.0 sound.1.0 r.seat.held.unit
-    (base r.seat.held.unit) p (k.fits states recovered) begun_at undue in
+    let used : length p.records ≡ used_slots (base r.seat.known.unit) p.history p.durable =
+    unit_used_undue heap.opening.layout (clock_of heap.opening.words) sound.0 sound.1.0 r.seat.known.unit
+    (base r.seat.known.unit) p (k.fits states recovered) begun_at undue in
     let here : length p.records ≡ used_slots (base r.books.unit) p.history clock =
     used ∙ (λ j. used_slots (base (sym runs.agrees.0 j)) p.history (durable j)) in
     let many = runs.agrees.1.slots.many in
@@ -105,9 +105,9 @@ pub record HasEmptied (heap : HeapShown) (old new : RegionShown) (clock : ℕ) :
   pub closed : HasClosed old new clock (due_at clock old.books.retired)
   pub agrees : Agrees new
   pub stays : StaysOpen heap old new
-  pub rests : IsAtRest new.seat.held.part
+  pub rests : IsAtRest new.seat.known.part
   pub live : KeepsLive old new
-  pub found : IsDurable (max old.seat.held.part.durable old.seat.held.learnt.durable) clock
+  pub found : IsDurable (max old.seat.known.part.durable old.seat.known.learnt.durable) clock
   pub begun : clock_of heap.opening.words ≤ clock
   pub sound : IsSound heap new
 
@@ -116,7 +116,7 @@ module _ (heap : HeapShown) (old new : RegionShown) (clock : ℕ) (k : HasEmptie
   ready_emptied = record {
     runs = stays_running heap old new k.ready.runs k.stays k.agrees;
     rests = k.rests;
-    home = ap (λ (h : UnitHeld). h.turn) k.closed.others_are ∙ k.ready.home;
+    home = ap (λ (h : UnitKnown). h.turn) k.closed.others_are ∙ k.ready.home;
   }
 
   pub keeps_emptied : KeepsUnit old new
@@ -131,10 +131,10 @@ module _ (heap : HeapShown) (old new : RegionShown) (clock : ℕ) (k : HasEmptie
 
   pub reclaimed_emptied : IsReclaimedBy old new clock
   reclaimed_emptied =
-      let loaded = unit_loaded_durable old.seat.held clock in
+      let loaded = unit_loaded_durable old.seat.known clock in
       let more = steps_emptied loaded (due_at clock old.books.retired) in
-      let steps : new.seat.held.steps ≡ (unit_emptied loaded (due_at clock old.books.retired)).steps =
-      ap (λ (s : UnitShown). s.held.steps) k.closed.seat_is in
+      let steps : new.seat.known.steps ≡ (unit_emptied loaded (due_at clock old.books.retired)).steps =
+      ap (λ (s : UnitShown). s.known.steps) k.closed.seat_is in
       record {
         closed = k.closed;
         clock_is = ap (λ (p : UnitPart). p.durable) k.closed.part_is;
@@ -144,11 +144,11 @@ module _ (heap : HeapShown) (old new : RegionShown) (clock : ℕ) (k : HasEmptie
       }
 
   -- it has learnt no more
-  pub learnt_emptied : new.seat.held.learnt ≡ old.seat.held.learnt
-  learnt_emptied = ap (λ (h : UnitHeld). h.learnt) k.closed.others_are
+  pub learnt_emptied : new.seat.known.learnt ≡ old.seat.known.learnt
+  learnt_emptied = ap (λ (h : UnitKnown). h.learnt) k.closed.others_are
 
   -- the unit's number
-  pub same_unit : new.seat.held.unit ≡ old.books.unit
+  pub same_unit : new.seat.known.unit ≡ old.books.unit
   same_unit = sym k.agrees.0 ∙ ap (λ (b : BooksShown). b.unit) k.closed.books_are
 
 -- ---- where its seat had taken a note of the caller
@@ -182,7 +182,7 @@ made_emptied heap old new q need clock k few = record {
 -- too few are free, and the caller took a note
 pub is_full : (heap : HeapShown) (old new : RegionShown) (q r : CallerShown) (need free clock : ℕ)
     → HasEmptied heap (region_shown old q) new clock → free ≡ length new.books.free → free < need → HasNoted new q r
-    → IsNotBeyond q.held new.seat.held → HasSeenAll r.held new.seat.held → IsFull heap old new q r need free clock
+    → IsNotBeyond q.known new.seat.known → HasSeenAll r.known new.seat.known → IsFull heap old new q r need free clock
 is_full heap old new q r need free clock k is fewer noted had_seen seen =
     let shown = region_shown old q in
     let ready_now = ready_emptied heap shown new clock k in
@@ -200,7 +200,7 @@ is_full heap old new q r need free clock k is fewer noted had_seen seen =
       room = room_at heap new clock ready_now.runs k.rests reclaimed.clock_is k.begun reclaimed.none_due k.sound;
       seen = had_seen;
       noted = noted;
-      front = ap (slice_index r.held.part.fronts) (sym unit) ∙ seen.front;
-      entries = ap (slice_get r.held.entries) (sym unit) ∙ seen.entries;
+      front = ap (slice_index r.known.part.fronts) (sym unit) ∙ seen.front;
+      entries = ap (slice_get r.known.entries) (sym unit) ∙ seen.entries;
       sound = k.sound;
     }

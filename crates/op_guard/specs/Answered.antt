@@ -3,7 +3,7 @@ use Rattle.std.specs.Prelude.{◌≡◌, ℕ, max, List, map}
 use Rattle.mont_base.specs.declared.operation.Op.{Op}
 use Rattle.mont_base.specs.declared.operation.Receipt.{Receipt}
 use Rattle.mont_base.specs.declared.operation.Reply.{Reply}
-use Rattle.core_steps.specs.Answering.{after_leave, after_read}
+use Rattle.core_steps.specs.CallAnswers.{after_leave, after_read}
 use Rattle.heap.specs.HeapShown.{HeapShown, CallerShown}
 use Rattle.heap.specs.Receipts.{receipt_of}
 use Rattle.heap_rule.specs.Plays.{IsClock, IsNotBeyond, answer_of}
@@ -18,13 +18,13 @@ use Rattle.op_guard.specs.Regions.{IsReady}
 pub record HasAnswered
     (heap : HeapShown) (old new : RegionShown) (q r : CallerShown) (op : Op) (reply : Reply)
     (epoch : ℕ) (receipt : Receipt) : Type 0 where
-  pub receipt_is : receipt ≡ receipt_of old.seat.held (answer_of q.held op reply epoch)
-  pub seen : IsNotBeyond q.held old.seat.held
+  pub receipt_is : receipt ≡ receipt_of old.seat.known (answer_of q.known op reply epoch)
+  pub seen : IsNotBeyond q.known old.seat.known
   pub caller : r ≡ record {
     table = q.table;
-    held = caller_answered q.held old.seat.held receipt.entry;
+    known = caller_answered q.known old.seat.known receipt.entry;
   }
-  pub books : new.books ≡ books_showing old.books new.seat.held.part
+  pub books : new.books ≡ books_showing old.books new.seat.known.part
   pub ready : IsReady heap new
   pub sound_before : IsSound heap old
   pub sound : IsSound heap new
@@ -38,15 +38,15 @@ pub record HasCommitted
     (heap : HeapShown) (old new : RegionShown) (q r : CallerShown) (op : Op) (reply : Reply)
     (epoch : ℕ) (receipt : Receipt) : Type 0 where
   pub answered : HasAnswered heap old new q r op reply epoch receipt
-  pub part : new.seat.held.part ≡ after_leave old.seat.held.part receipt.entry
+  pub part : new.seat.known.part ≡ after_leave old.seat.known.part receipt.entry
 
 -- nothing but the history changed, and the entry's epoch is the clock that was loaded
 pub record HasRead
     (heap : HeapShown) (old new : RegionShown) (q r : CallerShown) (op : Op) (reply : Reply)
     (receipt : Receipt) : Type 0 where
   pub answered : HasAnswered heap old new q r op reply receipt.entry.epoch receipt
-  pub part : new.seat.held.part ≡ after_read old.seat.held.part receipt.entry
+  pub part : new.seat.known.part ≡ after_read old.seat.known.part receipt.entry
   pub clock : IsClock (record {
-    newest = max old.seat.held.learnt.newest q.held.part.newest;
-    durable = max old.seat.held.learnt.durable q.held.part.durable;
-  }) old.seat.held.part receipt.entry.epoch
+    newest = max old.seat.known.learnt.newest q.known.part.newest;
+    durable = max old.seat.known.learnt.durable q.known.part.durable;
+  }) old.seat.known.part receipt.entry.epoch

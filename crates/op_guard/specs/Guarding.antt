@@ -29,18 +29,18 @@ use Rattle.op_guard.specs.Regions.{IsReady, IsUnderWay, KeepsUnit, WasHalted, re
 -- below the durable clock that the unit knows
 pub record IsReachedBy (q : CallerShown) (r : RegionShown) (epoch : ℕ) : Type 0 where
   pub first : FIRST_CLOCK ≤ epoch
-  pub not_before : q.held.part.newest ≤ epoch
-  pub not_behind : q.held.part.durable ≤ epoch
-  pub after_entries : last_epoch r.seat.held.part.history ≤ epoch
-  pub after_durable : r.seat.held.part.durable ≤ epoch
+  pub not_before : q.known.part.newest ≤ epoch
+  pub not_behind : q.known.part.durable ≤ epoch
+  pub after_entries : last_epoch r.seat.known.part.history ≤ epoch
+  pub after_durable : r.seat.known.part.durable ≤ epoch
 
 -- The durable clock was loaded in this call, and all that it lets be closed is closed. Of the unit
 -- nothing else changed.
 pub record IsReclaimedBy (old new : RegionShown) (clock : ℕ) : Type 0 where
   pub closed : HasClosed old new clock (due_at clock old.books.retired)
-  pub clock_is : new.seat.held.part.durable ≡ clock
-  pub found : IsDurable (max old.seat.held.part.durable old.seat.held.learnt.durable) clock
-  pub loads : old.seat.held.steps < new.seat.held.steps
+  pub clock_is : new.seat.known.part.durable ≡ clock
+  pub found : IsDurable (max old.seat.known.part.durable old.seat.known.learnt.durable) clock
+  pub loads : old.seat.known.steps < new.seat.known.steps
   pub none_due : due_at clock new.books.retired ≡ []
 
 -- Room was made for so many slots: the unit's seat took a note of the caller, and where too few
@@ -63,7 +63,7 @@ pub record HasBegun
     : Type 0 where
   pub guard_is : g ≡ record {
     unit = old.books.unit;
-    by = q.held.caller;
+    by = q.known.caller;
     epoch = g.epoch;
     need = need;
     written = 0;
@@ -78,8 +78,8 @@ pub record HasBegun
 -- ---- begun at an epoch that was asked for
 -- the unit's seat knows the newest epoch and the durable clock that the caller knows
 pub record HasLearntOf (r : RegionShown) (q : CallerShown) : Type 0 where
-  pub newest : q.held.part.newest ≤ r.seat.held.learnt.newest
-  pub durable : q.held.part.durable ≤ r.seat.held.learnt.durable
+  pub newest : q.known.part.newest ≤ r.seat.known.learnt.newest
+  pub durable : q.known.part.durable ≤ r.seat.known.learnt.durable
 
 -- The clock showed another epoch, and no operation is under way. Nothing else of the unit changed
 -- than how many steps it made, and which word it loaded last.
@@ -106,13 +106,13 @@ HasRoomAt heap r clock =
     → length r.books.free
     ≡ room_of heap.opening.layout.slots
     (base_state (opened_at (clock_of heap.opening.words) states) r.books.unit)
-    r.seat.held.part.history clock
+    r.seat.known.part.history clock
 
 -- the caller took a note of the unit, and nothing else of it changed
 abbrev pub HasNoted : RegionShown → CallerShown → CallerShown → Type 0
 HasNoted new q r = r ≡ record {
   table = q.table;
-  held = caller_heard q.held (note_of_unit (length q.held.part.fronts) new.seat.held);
+  known = caller_heard q.known (note_of_unit (length q.known.part.fronts) new.seat.known);
 }
 
 -- Too few slots are free, though the unit's seat took a note of the caller, and then all was closed
@@ -124,17 +124,17 @@ pub record IsFull
   pub ready : IsReady heap new
   pub keeps : KeepsUnit old new
   pub reclaimed : IsReclaimedBy (region_shown old q) new clock
-  pub known : q.held.part.durable ≤ clock
+  pub known : q.known.part.durable ≤ clock
   pub begun : clock_of heap.opening.words ≤ clock
   pub free_is : free ≡ length new.books.free
   pub fewer : free < need
   pub room : HasRoomAt heap new clock
   -- what the caller had seen of the unit stood first there
-  pub seen : IsNotBeyond q.held new.seat.held
+  pub seen : IsNotBeyond q.known new.seat.known
   pub noted : HasNoted new q r
   -- so it has seen all entries of the unit
-  pub front : slice_index r.held.part.fronts old.books.unit ≡ length new.seat.held.part.history
-  pub entries : slice_get r.held.entries old.books.unit ≡ Some new.seat.held.part.history
+  pub front : slice_index r.known.part.fronts old.books.unit ≡ length new.seat.known.part.history
+  pub entries : slice_get r.known.entries old.books.unit ≡ Some new.seat.known.part.history
   pub sound : IsSound heap new
 
 abbrev pub LeavesRefused :
@@ -160,4 +160,4 @@ pub record WentBack (heap : HeapShown) (old new : RegionShown) : Type 0 where
   pub ready : IsReady heap new
   pub books : new.books ≡ old.books
   pub seat : new.seat
-      ≡ record { table = old.seat.table; held = unit_withdrew old.seat.held }
+      ≡ record { table = old.seat.table; known = unit_withdrew old.seat.known }

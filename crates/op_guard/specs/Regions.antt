@@ -13,18 +13,18 @@ pub record IsRunning (heap : HeapShown) (r : RegionShown) : Type 0 where
   pub of_heap : IsRegionOf heap r
   pub agrees : Agrees r
   pub running : r.books.halted ≡ None
-  pub clean : IsTrue (are_clean (units_of heap.opening.layout) r.seat.held.clean)
+  pub clean : IsTrue (are_clean (units_of heap.opening.layout) r.seat.known.clean)
 
 -- no operation is under way
 pub record IsReady (heap : HeapShown) (r : RegionShown) : Type 0 where
   pub runs : IsRunning heap r
-  pub rests : IsAtRest r.seat.held.part
-  pub home : r.seat.held.turn ≡ home_turn
+  pub rests : IsAtRest r.seat.known.part
+  pub home : r.seat.known.turn ≡ home_turn
 
 -- the region once the unit's seat has taken a note of the caller
 abbrev pub region_shown : RegionShown → CallerShown → RegionShown
 region_shown r q = record {
-  seat = record { table = r.seat.table; held = unit_shown r.seat.held q.held };
+  seat = record { table = r.seat.table; known = unit_shown r.seat.known q.known };
   books = r.books;
 }
 
@@ -33,9 +33,9 @@ region_shown r q = record {
 pub record IsUnderWay (heap : HeapShown) (g : Guard) (r : RegionShown) : Type 0 where
   pub runs : IsRunning heap r
   pub of_unit : g.unit ≡ r.books.unit
-  pub registered : MayWrite r.seat.held.part g.epoch
-  pub home : r.seat.held.turn ≡ home_turn
-  pub wrote : length r.seat.held.part.written ≡ g.written
+  pub registered : MayWrite r.seat.known.part g.epoch
+  pub home : r.seat.known.turn ≡ home_turn
+  pub wrote : length r.seat.known.part.written ≡ g.written
   pub few : g.written ≤ g.need
   pub room : g.need ≤ length r.books.free + g.written
 
@@ -44,15 +44,15 @@ pub record IsUnderWay (heap : HeapShown) (g : Guard) (r : RegionShown) : Type 0 
 -- next, and the durable clock that the unit knows isn't lower.
 pub record KeepsUnit (old new : RegionShown) : Type 0 where
   pub of_unit : new.books.unit ≡ old.books.unit
-  pub history : new.seat.held.part.history ≡ old.seat.held.part.history
+  pub history : new.seat.known.part.history ≡ old.seat.known.part.history
   pub live : KeepsLive old new
   pub identity : new.books.identity ≡ old.books.identity
   pub serial : new.books.serial ≡ old.books.serial
-  pub durable : old.seat.held.part.durable ≤ new.seat.held.part.durable
+  pub durable : old.seat.known.part.durable ≤ new.seat.known.part.durable
 
 -- the unit is where it was in its epoch
 abbrev pub KeepsStage : RegionShown → RegionShown → Type 0
-KeepsStage old new = new.seat.held.part.stage ≡ old.seat.held.part.stage
+KeepsStage old new = new.seat.known.part.stage ≡ old.seat.known.part.stage
 
 -- ---- A caller was cut in the unit, which is halted. It got no entry, and nothing was learnt. The
 -- unit's list is at home. Where the unit is left within an epoch, the caller keeps which.
@@ -61,8 +61,8 @@ pub record WasHalted
   pub of_heap : IsRegionOf heap new
   pub agrees : Agrees new
   pub of_unit : new.books.unit ≡ old.books.unit
-  pub by : new.books.halted ≡ Some q.held.caller
-  pub clean : IsTrue (are_clean (units_of heap.opening.layout) new.seat.held.clean)
-  pub home : new.seat.held.turn.out ≡ false
-  pub history : new.seat.held.part.history ≡ old.seat.held.part.history
-  pub caller : r ≡ record { table = q.table; held = caller_cut q.held new.seat.held }
+  pub by : new.books.halted ≡ Some q.known.caller
+  pub clean : IsTrue (are_clean (units_of heap.opening.layout) new.seat.known.clean)
+  pub home : new.seat.known.turn.out ≡ false
+  pub history : new.seat.known.part.history ≡ old.seat.known.part.history
+  pub caller : r ≡ record { table = q.table; known = caller_cut q.known new.seat.known }

@@ -110,8 +110,8 @@ pub fn make_room<G: Gate>(
     ensures ready { OnOk result (IsReady heap.now region.new) }
     ensures room { OnOk result (need ≤ length region.new.books.free) }
     ensures keeps { OnOk result (KeepsUnit region.old region.new) }
-    ensures learnt { OnOk result (region.new.seat.held.learnt
-        ≡ learnt_more region.old.seat.held.learnt pass.old.ticket.held.part) }
+    ensures learnt { OnOk result (region.new.seat.known.learnt
+        ≡ learnt_more region.old.seat.known.learnt pass.old.ticket.known.part) }
     ensures made { OnOk result (HasMadeRoom region.old region.new pass.old.ticket need) }
     ensures caller { OnOk result (pass.new.ticket ≡ pass.old.ticket) }
     ensures refused { IfErr result (λ refusal. LeavesRefused heap.now region.old region.new

@@ -1,6 +1,6 @@
 // How an operation ends: its slots are listed for the advancer, and the unit leaves with one entry.
 ghost use Rattle.std.specs.Prelude.{◌≡◌, ◌≤◌, ◌+◌, [], ◌∷◌, ◌++◌, IfOk, OnOk, OnErr, IsTrue, is_err, length};
-ghost use Rattle.core_steps.specs.Answering.{CanLeave};
+ghost use Rattle.core_steps.specs.CallAnswers.{CanLeave};
 ghost use Rattle.core_steps.specs.Stages.{is_within};
 ghost use Rattle.heap.specs.GateAsked.{IsAskedOften};
 ghost use Rattle.heap_pass.specs.Spare.{spare_of};
@@ -27,10 +27,10 @@ pub fn commit<G: Gate>(
 ) -> Result<Receipt, Cut>
     requires under_way { IsUnderWay heap.now guard region.old }
     requires pass { pass.old.ticket.table ≡ heap.now.table }
-    requires by { guard.by ≡ pass.old.ticket.held.caller }
+    requires by { guard.by ≡ pass.old.ticket.known.caller }
     requires spare { 1 ≤ spare_of pass.old.receipts }
     requires may { CanLeave heap.now.opening.layout region.old.books.unit
-        region.old.seat.held.part pass.old.ticket.held.part op.now reply.now guard.epoch }
+        region.old.seat.known.part pass.old.ticket.known.part op.now reply.now guard.epoch }
     ensures gate { IsAskedOften G.cuts G.endless pass.old.gate pass.new.gate (is_err result) }
     ensures committed { IfOk result (λ receipt. HasCommitted heap.now region.old region.new
         pass.old.ticket pass.new.ticket op.now reply.now guard.epoch receipt) }
@@ -68,12 +68,12 @@ pub fn commit<G: Gate>(
 // Pushes the written slots behind the unit's list of its epoch.
 fn list_written(heap: &Heap, region: &mut Region)
     requires runs { IsRunning heap.now region.old }
-    requires within { IsTrue (is_within region.old.seat.held.part.stage) }
-    requires home { region.old.seat.held.turn ≡ home_turn }
+    requires within { IsTrue (is_within region.old.seat.known.part.stage) }
+    requires home { region.old.seat.known.turn ≡ home_turn }
     ensures books { region.new.books ≡ region.old.books }
     ensures seat { region.new.seat ≡ record {
       table = region.old.seat.table;
-      held = unit_gave region.old.seat.held;
+      known = unit_gave region.old.seat.known;
     } }
 {
     let mut list = heap.take_list(region.seat_mut());

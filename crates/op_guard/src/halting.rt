@@ -9,7 +9,7 @@ use slots::Region;
 /// Halts a unit for good, as one in which the caller was cut. No gate is asked.
 pub fn halt(heap: &Heap, region: &mut Region, ticket: &mut Ticket)
     requires runs { IsRunning heap.now region.old }
-    requires home { region.old.seat.held.turn.out ≡ false }
+    requires home { region.old.seat.known.turn.out ≡ false }
     requires ticket { ticket.old.table ≡ heap.now.table }
     ensures halted { WasHalted heap.now region.old region.new ticket.old ticket.new }
     ensures stage { KeepsStage region.old region.new }
@@ -25,7 +25,7 @@ pub(crate) fn or_halt<T>(
     ticket: &mut Ticket,
 ) -> Result<T, Cut>
     requires runs { OnErr answer (IsRunning heap.now region.old) }
-    requires home { OnErr answer (region.old.seat.held.turn.out ≡ false) }
+    requires home { OnErr answer (region.old.seat.known.turn.out ≡ false) }
     requires ticket { ticket.old.table ≡ heap.now.table }
     ensures same { result ≡ answer }
     ensures ok { OnOk answer ((region.new ≡ region.old) × (ticket.new ≡ ticket.old)) }

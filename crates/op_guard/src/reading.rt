@@ -1,6 +1,6 @@
 // An operation that changes nothing.
 ghost use Rattle.std.specs.Prelude.{◌≡◌, ◌≤◌, ◌+◌, [], ◌∷◌, ◌++◌, IfOk, OnOk, OnErr, is_err};
-ghost use Rattle.core_steps.specs.Answering.{CanRead};
+ghost use Rattle.core_steps.specs.CallAnswers.{CanRead};
 ghost use Rattle.heap.specs.GateAsked.{IsAskedOften};
 ghost use Rattle.heap_pass.specs.Spare.{spare_of};
 ghost use Rattle.op_guard.specs.Answered.{HasRead};
@@ -24,7 +24,7 @@ pub fn read<G: Gate>(
     requires pass { pass.old.ticket.table ≡ heap.now.table }
     requires spare { 1 ≤ spare_of pass.old.receipts }
     requires may { CanRead heap.now.opening.layout region.old.books.unit
-        region.old.seat.held.part pass.old.ticket.held.part op.now reply.now }
+        region.old.seat.known.part pass.old.ticket.known.part op.now reply.now }
     ensures gate { IsAskedOften G.cuts G.endless pass.old.gate pass.new.gate (is_err result) }
     ensures read { IfOk result (λ receipt. HasRead heap.now region.old region.new
         pass.old.ticket pass.new.ticket op.now reply.now receipt) }

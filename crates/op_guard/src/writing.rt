@@ -23,8 +23,8 @@ pub fn change<G: Gate>(
     requires under_way { IsUnderWay heap.now guard.old region.old }
     requires needed { guard.old.written < guard.old.need }
     requires pass { pass.old.ticket.table ≡ heap.now.table }
-    requires by { guard.old.by ≡ pass.old.ticket.held.caller }
-    requires may { CanPut region.old.books region.old.seat.held.part.records change.now }
+    requires by { guard.old.by ≡ pass.old.ticket.known.caller }
+    requires may { CanPut region.old.books region.old.seat.known.part.records change.now }
     ensures gate { IsAskedOften G.cuts G.endless pass.old.gate pass.new.gate (is_err result) }
     ensures receipts { pass.new.receipts ≡ pass.old.receipts }
     ensures changed { IfOk result (λ slot. HasChanged heap.now region.old region.new guard.old
@@ -51,7 +51,7 @@ pub fn abandon<G: Gate>(
     requires under_way { IsUnderWay heap.now guard region.old }
     requires nothing { guard.written ≡ 0 }
     requires pass { pass.old.ticket.table ≡ heap.now.table }
-    requires by { guard.by ≡ pass.old.ticket.held.caller }
+    requires by { guard.by ≡ pass.old.ticket.known.caller }
     ensures gate { IsAskedOften G.cuts G.endless pass.old.gate pass.new.gate (is_err result) }
     ensures receipts { pass.new.receipts ≡ pass.old.receipts }
     ensures back { OnOk result (WentBack heap.now region.old region.new) }

@@ -7,7 +7,7 @@ use Rattle.std.specs.Cmp.Lexicographic.{nat_list_cmp_total}
 use Rattle.mont_base.specs.State.{Key, key_cmp}
 use Rattle.index_kit.specs.Index.{Places, Entries}
 use Rattle.counted_tree.specs.Order.{count_below, count_up_to}
-use Rattle.order_index.specs.Ranges.{up_to, between}
+use Rattle.order_index.specs.KeyRanges.{up_to, between}
 use Rattle.order_index.proofs.Listed.{rises}
 use Rattle.order_index.proofs.Prefixes.{up_to_first, between_middle, last_first, middle_length, middle_at}
 

@@ -5,7 +5,7 @@ ghost use Rattle.std.specs.FinMap as finite;
 ghost use Rattle.mont_base.specs.State.{key_cmp};
 ghost use Rattle.counted_tree.specs.Order.{count_below};
 ghost use Rattle.order_index.specs.OrderIndex.{IsHeldAt, IsMissingAt};
-ghost use Rattle.order_index.specs.Ranges.{up_to, between};
+ghost use Rattle.order_index.specs.KeyRanges.{up_to, between};
 
 use counted_tree::Tree;
 use index_kit::Index;

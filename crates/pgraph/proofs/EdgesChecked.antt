@@ -22,7 +22,7 @@ pub record AreChecked
     (old new : RegionShown) (q r : CallerShown) (done left all : List (Ends × Node)) : Type 0 where
   pub region : new ≡ old
   pub caller : r ≡ q
-  pub numbers : HaveNumbers q.held.part old done
+  pub numbers : HaveNumbers q.known.part old done
   pub parts : all ≡ done ++ left
 
 middle_element : {A : Type 0} (xs : List A) (x : A) (ys : List A) → Contains (xs ++ x ∷ ys) x
@@ -42,17 +42,17 @@ module _ (old new : RegionShown) (q r : CallerShown) (done left all : List (Ends
   pub next_there : Contains all e
   next_there = subst (λ (xs : List (Ends × Node)). Contains xs e) (sym checked.parts) (middle_element done e left)
 
-  pub next_live : AreLiveEdges old.seat.held.part.records all → IsLiveAt new.seat.held.part.records e.1.slot e.1.identity
-  next_live live = subst (λ (s : RegionShown). IsLiveAt s.seat.held.part.records e.1.slot e.1.identity) (sym checked.region)
-      (All-contains (λ (e : Ends × Node). IsLiveAt old.seat.held.part.records e.1.slot e.1.identity) all e live next_there)
+  pub next_live : AreLiveEdges old.seat.known.part.records all → IsLiveAt new.seat.known.part.records e.1.slot e.1.identity
+  next_live live = subst (λ (s : RegionShown). IsLiveAt s.seat.known.part.records e.1.slot e.1.identity) (sym checked.region)
+      (All-contains (λ (e : Ends × Node). IsLiveAt old.seat.known.part.records e.1.slot e.1.identity) all e live next_there)
 
-  pub next_checked : (now : RegionShown) (s : CallerShown) → now ≡ new → s ≡ r → first_at_end r.held.part new (edge_removal e ∷ []) ≡ None
+  pub next_checked : (now : RegionShown) (s : CallerShown) → now ≡ new → s ≡ r → first_at_end r.known.part new (edge_removal e ∷ []) ≡ None
       → AreChecked old now q s (done ++ e ∷ []) left all
   next_checked now s is was none = record {
     region = is ∙ checked.region;
     caller = was ∙ checked.caller;
-    numbers = All-push (λ (e : Ends × Node). first_at_end q.held.part old (edge_removal e ∷ []) ≡ None) done e checked.numbers
-        (subst (λ (x : RegionShown × CallerShown). first_at_end x.1.held.part x.0 (edge_removal e ∷ []) ≡ None)
+    numbers = All-push (λ (e : Ends × Node). first_at_end q.known.part old (edge_removal e ∷ []) ≡ None) done e checked.numbers
+        (subst (λ (x : RegionShown × CallerShown). first_at_end x.1.known.part x.0 (edge_removal e ∷ []) ≡ None)
         (λ i. (checked.region i, checked.caller i)) none);
     parts = checked.parts ∙ sym (append_assoc done (e ∷ []) left);
   }

@@ -135,11 +135,11 @@ none_live rs none = record {
 
 -- ---- the unit
 pub unit_with : (r : RegionShown) (nodes : Nodes) → Agrees r → kind_of r.books.layout r.books.unit ≡ Some unit_kinds.Graph
-    → HoldsLive r.seat.held.part.records nodes → IsGraphUnit r nodes
+    → HoldsLive r.seat.known.part.records nodes → IsGraphUnit r nodes
 unit_with r nodes agrees kind holds = record { agrees = agrees; kind = kind; indexed = λ _. holds }
 
 pub rebuilt : (r : RegionShown) (os : List Object) (nodes : Nodes) → Agrees r → kind_of r.books.layout r.books.unit ≡ Some unit_kinds.Graph
-    → os ≡ live_objects r.seat.held.part.records → ((state : State) × IsStructure r.books.layout r.books.unit os state)
-    → nodes ≡ nodes_of os os → HoldsLive r.seat.held.part.records nodes
-rebuilt r os nodes agrees kind are makes is = subst (HoldsLive r.seat.held.part.records) (sym is)
-    (nodes_rebuilt r.books.layout r.books.unit r.seat.held.part.records os makes.0 agrees.1.apart kind are makes.1)
+    → os ≡ live_objects r.seat.known.part.records → ((state : State) × IsStructure r.books.layout r.books.unit os state)
+    → nodes ≡ nodes_of os os → HoldsLive r.seat.known.part.records nodes
+rebuilt r os nodes agrees kind are makes is = subst (HoldsLive r.seat.known.part.records) (sym is)
+    (nodes_rebuilt r.books.layout r.books.unit r.seat.known.part.records os makes.0 agrees.1.apart kind are makes.1)

@@ -189,10 +189,10 @@ is_called heap shown began ran nodes stands is unit running same = record {
 
 module _ (heap : HeapShown) (old new : RegionShown) (nodes : Nodes) (called : IsCalled heap old nodes) where
   abbrev olds : List Held
-  olds = old.seat.held.part.records
+  olds = old.seat.known.part.records
 
   abbrev news : List Held
-  news = new.seat.held.part.records
+  news = new.seat.known.part.records
 
   holds : HoldsLive olds nodes
   holds = called.unit.indexed called.running
@@ -225,8 +225,8 @@ module _ (heap : HeapShown) (old new : RegionShown) (nodes : Nodes) (called : Is
   lower_identity : (t : Part) (m : Node) → IsNodeOf olds t m → m.identity < old.books.identity
   lower_identity t m p =
       let n = newest_is m.identity olds p.live (live_facts (newest_of m.identity olds) p.live p.is).0 in
-      let low = All-contains (HasLowerIdentity old.books.identity) (olds ++ old.seat.held.part.written) p.live
-      called.unit.agrees.1.numbered (Contains-append_left olds old.seat.held.part.written p.live n.there) in
+      let low = All-contains (HasLowerIdentity old.books.identity) (olds ++ old.seat.known.part.written) p.live
+      called.unit.agrees.1.numbered (Contains-append_left olds old.seat.known.part.written p.live n.there) in
       let is = n.identity in omega arith
 
   module _ (kept : List Held) (live : (i : ℕ) → live_of i kept ≡ live_of i olds) (epoch : ℕ) where
@@ -378,13 +378,13 @@ module _ (heap : HeapShown) (shown ran : RegionShown) (q s : CallerShown) (op : 
   both : (r : RegionShown) → r ≡ ran → (c : CallerShown) → c ≡ s → ◌≡◌ {A = RegionShown × CallerShown} (r, c) (shown, q)
   both r was c is = λ i. ((was ∙ same) i, (is ∙ caller) i)
 
-  pub may_be_called : ran.books.halted ≡ None → first_at_end s.held.part ran changes ≡ None → MayBeCalled q shown op
+  pub may_be_called : ran.books.halted ≡ None → first_at_end s.known.part ran changes ≡ None → MayBeCalled q shown op
   may_be_called running numbers = record {
     running = subst (λ (r : RegionShown). r.books.halted ≡ None) same running;
     reply = reply;
     changes = changes;
     plan = plan_shown;
-    numbers = subst (λ (x : RegionShown × CallerShown). first_at_end x.1.held.part x.0 changes ≡ None) (both ran refl s refl) numbers;
+    numbers = subst (λ (x : RegionShown × CallerShown). first_at_end x.1.known.part x.0 changes ≡ None) (both ran refl s refl) numbers;
   }
 
   module _ (new : RegionShown) (r : CallerShown) where

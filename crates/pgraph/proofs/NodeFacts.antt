@@ -182,7 +182,7 @@ module _ (records : List Held) (nodes : Nodes) (holds : HoldsLive records nodes)
   }
 
 -- ---- the plan of a call
-module _ (r : RegionShown) (nodes : Nodes) (holds : HoldsLive r.seat.held.part.records nodes)
+module _ (r : RegionShown) (nodes : Nodes) (holds : HoldsLive r.seat.known.part.records nodes)
     (kind : kind_of r.books.layout r.books.unit ≡ Some unit_kinds.Graph) (op : Op) (of_unit : IsOpOf r.books.layout r.books.unit op)
     (reply : Reply) (edit : GraphEdit) (replies : reply ≡ (graph_step (graph_in nodes) op).reply)
     (effects : effects_of nodes edit ≡ (graph_step (graph_in nodes) op).effects) (fits : Fits nodes edit) where
@@ -190,8 +190,8 @@ module _ (r : RegionShown) (nodes : Nodes) (holds : HoldsLive r.seat.held.part.r
   edit_plan = record {
     of_unit = of_unit;
     state = GraphOf (graph_in nodes);
-    shown = structure_is r.seat.held.part.records nodes holds r.books.layout r.books.unit kind;
+    shown = structure_is r.seat.known.part.records nodes holds r.books.layout r.books.unit kind;
     replies = replies;
-    makes = subst (λ (es : List Effect). AllZip (Makes r.books r.seat.held.part.records) es (changes_of nodes edit)) effects
-        (edit_makes r.seat.held.part.records nodes holds r.books edit fits);
+    makes = subst (λ (es : List Effect). AllZip (Makes r.books r.seat.known.part.records) es (changes_of nodes edit)) effects
+        (edit_makes r.seat.known.part.records nodes holds r.books edit fits);
   }

@@ -82,7 +82,7 @@ module _ (q : CallerPart) (r : RegionShown) where
       else (if nat_lt LAST r.books.places then Some ends.Place else (if t then Some ends.Version else None))
 
   abbrev at_end : Change → Bool
-  at_end c = ends_version r.seat.held.part.records c
+  at_end c = ends_version r.seat.known.part.records c
 
   removals_end : (cs : List Change) → inserts cs ≡ 0 → adds_item r.books cs ≡ false → first_at_end q r cs ≡ number_end (list_any at_end cs)
   removals_end cs none same =
@@ -150,7 +150,7 @@ module _ (q : CallerPart) (r : RegionShown) where
       (Contains-append_right (map edge_removal es) (removal n ∷ []) (removal n) (first_element (removal n) [])) w e
 
 ends_more : (heap : HeapShown) (old new : RegionShown) (q r : CallerShown) (cs ds : List Change) (why : CallRefusal)
-    → ((w : Which) → first_at_end q.held.part old cs ≡ Some w → first_at_end q.held.part old ds ≡ Some w)
+    → ((w : Which) → first_at_end q.known.part old cs ≡ Some w → first_at_end q.known.part old ds ≡ Some w)
     → EndsCount heap old new q r cs why → EndsCount heap old new q r ds why
 ends_more heap old new q r cs ds (CountEnd w) f h = (f w h.0, h.1)
 ends_more heap old new q r cs ds _ f h = absurd h
@@ -173,10 +173,10 @@ module _ (records : List Held) where
 module _ (heap : HeapShown) (old new : RegionShown) (q r : CallerShown) (es : List (Ends × Node)) (n : Node) (why : CallRefusal) where
   pub edge_ends : EndsAtEdge heap old new q r es why → EndsCount heap old new q r (map edge_removal es ++ removal n ∷ []) why
   edge_ends h = ends_more heap old new q r (edge_removal h.edge ∷ []) (map edge_removal es ++ removal n ∷ []) why
-      (edge_end q.held.part old es n h.edge h.there) h.ends
+      (edge_end q.known.part old es n h.edge h.there) h.ends
 
   pub last_ends : EndsCount heap old new q r (removal n ∷ []) why → EndsCount heap old new q r (map edge_removal es ++ removal n ∷ []) why
-  last_ends h = ends_more heap old new q r (removal n ∷ []) (map edge_removal es ++ removal n ∷ []) why (last_end q.held.part old es n) h
+  last_ends h = ends_more heap old new q r (removal n ∷ []) (map edge_removal es ++ removal n ∷ []) why (last_end q.known.part old es n) h
 
 -- ---- a check of an edit
 module _ (nodes : Nodes) (edit : GraphEdit) (name : Name) (n : Node) (is : edit ≡ Remove name n) where

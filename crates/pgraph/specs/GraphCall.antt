@@ -49,4 +49,4 @@ restored nodes _ = nodes
 -- the record in a slot, if there is a slot and a record
 abbrev pub record_at : RegionShown → Option ℕ → Option Held
 record_at r None = None
-record_at r (Some slot) = record_in r.seat.held.part.records slot
+record_at r (Some slot) = record_in r.seat.known.part.records slot

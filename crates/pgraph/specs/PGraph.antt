@@ -21,7 +21,7 @@ pgraph_code =
 
 -- The index has what is live, unless a caller was cut in the unit.
 abbrev pub IsIndexed : RegionShown → Nodes → Type 0
-IsIndexed r nodes = r.books.halted ≡ None → HoldsLive r.seat.held.part.records nodes
+IsIndexed r nodes = r.books.halted ≡ None → HoldsLive r.seat.known.part.records nodes
 
 pub record IsGraphUnit (r : RegionShown) (nodes : Nodes) : Type 0 where
   pub agrees : Agrees r

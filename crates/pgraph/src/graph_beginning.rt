@@ -24,7 +24,7 @@ impl PGraph {
     pub fn fresh(alloc: Global, region: Region) -> Result<PGraph, AllocError>
         requires agrees { Agrees region }
         requires kind { kind_of region.books.layout region.books.unit ≡ Some kinds.Graph }
-        requires none { (identity : ℕ) → live_of identity region.seat.held.part.records ≡ None }
+        requires none { (identity : ℕ) → live_of identity region.seat.known.part.records ≡ None }
         ensures region { IfOk result (λ g. g.region ≡ region) }
         ensures nodes { IfOk result (λ g. g.nodes ≡ no_nodes) }
     {
@@ -39,11 +39,11 @@ impl PGraph {
     pub fn rebuild(alloc: Global, region: Region, objects: &[Object]) -> Result<PGraph, AllocError>
         requires agrees { Agrees region }
         requires kind { kind_of region.books.layout region.books.unit ≡ Some kinds.Graph }
-        requires objects { objects.now ≡ live_objects region.seat.held.part.records }
+        requires objects { objects.now ≡ live_objects region.seat.known.part.records }
         requires structure { (state : State)
             × IsStructure region.books.layout region.books.unit objects.now state }
         ensures region { IfOk result (λ g. g.region ≡ region) }
-        ensures nodes { IfOk result (λ g. HoldsLive region.seat.held.part.records g.nodes) }
+        ensures nodes { IfOk result (λ g. HoldsLive region.seat.known.part.records g.nodes) }
     {
         let mut index = vertices_of(alloc, objects)?;
         insert_edges(&mut index, objects)?;

@@ -88,12 +88,12 @@ fn check_edit<G: Gate>(
     requires agrees { Agrees region.old }
     requires kind { kind_of region.old.books.layout region.old.books.unit ≡ Some kinds.Graph }
     requires pass { pass.old.ticket.table ≡ heap.now.table }
-    requires named { All (NamesLive region.old.seat.held.part.records)
+    requires named { All (NamesLive region.old.seat.known.part.records)
         (changes_of index.now edit.now) }
     ensures gate { pass.new.gate ≡ pass.old.gate }
     ensures receipts { pass.new.receipts ≡ pass.old.receipts }
     ensures agrees { Agrees region.new }
-    ensures ok { OnOk result ((first_at_end pass.old.ticket.held.part region.old
+    ensures ok { OnOk result ((first_at_end pass.old.ticket.known.part region.old
         (changes_of index.now edit.now) ≡ None)
         × (region.new ≡ region.old) × (pass.new.ticket ≡ pass.old.ticket)) }
     ensures ends { IfErr result (λ why. EndsCount heap.now region.old region.new
@@ -128,12 +128,12 @@ fn check_edges<G: Gate>(
     requires agrees { Agrees region.old }
     requires kind { kind_of region.old.books.layout region.old.books.unit ≡ Some kinds.Graph }
     requires pass { pass.old.ticket.table ≡ heap.now.table }
-    requires named { AreLiveEdges region.old.seat.held.part.records
+    requires named { AreLiveEdges region.old.seat.known.part.records
         (nodes_with index.now (part_of name)) }
     ensures gate { pass.new.gate ≡ pass.old.gate }
     ensures receipts { pass.new.receipts ≡ pass.old.receipts }
     ensures agrees { Agrees region.new }
-    ensures ok { OnOk result (HaveNumbers pass.old.ticket.held.part region.old
+    ensures ok { OnOk result (HaveNumbers pass.old.ticket.known.part region.old
         (nodes_with index.now (part_of name))
         × (region.new ≡ region.old) × (pass.new.ticket ≡ pass.old.ticket)) }
     ensures ends { IfErr result (λ why. EndsAtEdge heap.now region.old region.new

@@ -23,7 +23,7 @@ use Rattle.heap_rule.specs.Views.{are_clean, clean_at, first_unit}
 use Rattle.heap.specs.HeapShown.{HeapShown, UnitShown, AdvShown, CallerShown}
 use Rattle.heap.specs.Opens.{dealt_units}
 use Rattle.heap.specs.Stops.{IsSeatOfUnit, IsSeatOfCaller, AreAllSeats, AreAtHome}
-use Rattle.slots.specs.Beginning.{AreFound}
+use Rattle.slots.specs.RegionBeginning.{AreFound}
 use Rattle.slots.specs.Books.{Agrees}
 use Rattle.region_laws.proofs.FoundImages.{images_are_found}
 use Rattle.pgraph.specs.PGraph.{PGraphShown}
@@ -74,29 +74,29 @@ objects_make s at image unit found objects well one is are same first =
 -- ---- the seats
 pub last_apart : (h : HeapShown) (u : ℕ) (seats front : List UnitShown) (seat : UnitShown) → u + 1 ≡ units_of h.opening.layout
     → seats ≡ dealt_units h.table h.opening (units_of h.opening.layout) → seats ≡ front ++ seat ∷ []
-    → (front ≡ dealt_units h.table h.opening u) × (seat ≡ record { table = h.table; held = first_unit h.opening u })
+    → (front ≡ dealt_units h.table h.opening u) × (seat ≡ record { table = h.table; known = first_unit h.opening u })
 last_apart h u seats front seat last are is =
     let next : units_of h.opening.layout ≡ suc u = omega arith in
-    same_from_push front (dealt_units h.table h.opening u) seat (record { table = h.table; held = first_unit h.opening u })
+    same_from_push front (dealt_units h.table h.opening u) seat (record { table = h.table; known = first_unit h.opening u })
     (sym is ∙ are ∙ ap (dealt_units h.table h.opening) next)
 
 -- a seat that a heap may be stopped with
 abbrev IsBack : HeapShown → ℕ → UnitShown → Type 0
-IsBack heap u s = IsSeatOfUnit heap u s × (s.held.turn.out ≡ false)
+IsBack heap u s = IsSeatOfUnit heap u s × (s.known.turn.out ≡ false)
 
 module _ (heap : HeapShown) where
   count_dealt : (n : ℕ) → length (dealt_units heap.table heap.opening n) ≡ n
   count_dealt zero = refl
   count_dealt (suc n) =
-      let more = length_push (dealt_units heap.table heap.opening n) (record { table = heap.table; held = first_unit heap.opening n }) in
+      let more = length_push (dealt_units heap.table heap.opening n) (record { table = heap.table; known = first_unit heap.opening n }) in
       let fewer = count_dealt n in
       omega (arith, more, fewer)
 
   each_dealt : (n : ℕ) → EachAt (IsBack heap) (dealt_units heap.table heap.opening n)
   each_dealt zero = λ u s e. absurd (cc)
   each_dealt (suc n) = each_push (IsBack heap) (dealt_units heap.table heap.opening n)
-      (record { table = heap.table; held = first_unit heap.opening n }) (each_dealt n)
-      (subst (λ (k : ℕ). IsBack heap k (record { table = heap.table; held = first_unit heap.opening n })) (sym (count_dealt n))
+      (record { table = heap.table; known = first_unit heap.opening n }) (each_dealt n)
+      (subst (λ (k : ℕ). IsBack heap k (record { table = heap.table; known = first_unit heap.opening n })) (sym (count_dealt n))
       ((refl, refl), refl))
 
 -- with that of the graph behind those before it
@@ -135,4 +135,4 @@ module _ (heap : HeapShown) (before : List UnitShown) (graph : PGraphShown) (adv
   }
 
   pub all_home : AreAtHome units
-  all_home = all_at (λ (s : UnitShown). s.held.turn.out ≡ false) units (λ u s e. (each_back u s e).1)
+  all_home = all_at (λ (s : UnitShown). s.known.turn.out ≡ false) units (λ u s e. (each_back u s e).1)

@@ -32,7 +32,7 @@ pub record IsTried
   pub stands : IsStanding heap graph.region
   pub unit_is : graph.region.books.unit ≡ unit
   pub of_advancer : advancer.table ≡ heap.table
-  pub advances : IsOfLayout heap.opening.layout advancer.held
-  pub clean : IsTrue (are_clean (units_of heap.opening.layout) advancer.held.clean)
+  pub advances : IsOfLayout heap.opening.layout advancer.known
+  pub clean : IsTrue (are_clean (units_of heap.opening.layout) advancer.known.clean)
   pub of_caller : caller.table ≡ heap.table
-  pub number : caller.held.caller ≡ 0
+  pub number : caller.known.caller ≡ 0

@@ -61,11 +61,11 @@ fn deal(heap: &Heap, seats: Seats, unit: Unit) -> Result<Dealt, Fail>
     ensures before { IfOk result (λ d. d.before.items
         ≡ dealt_units heap.now.table heap.now.opening unit) }
     ensures last { IfOk result (λ d. d.last
-        ≡ record { table = heap.now.table; held = first_unit heap.now.opening unit }) }
+        ≡ record { table = heap.now.table; known = first_unit heap.now.opening unit }) }
     ensures advancer { IfOk result (λ d. d.advancer
-        ≡ record { table = heap.now.table; held = first_advancer heap.now.opening }) }
+        ≡ record { table = heap.now.table; known = first_advancer heap.now.opening }) }
     ensures caller { IfOk result (λ d. d.caller
-        ≡ record { table = heap.now.table; held = first_caller heap.now.opening 0 }) }
+        ≡ record { table = heap.now.table; known = first_caller heap.now.opening 0 }) }
 {
     let Seats {
         units: mut before,

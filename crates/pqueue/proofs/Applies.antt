@@ -39,9 +39,9 @@ as_list (Some x) xs h = h
 
 -- what a plan changes is live
 pub plan_names : (r : RegionShown) (op : Op) (reply : Reply) (changes given : List Change) → IsPlan r op reply changes → given ≡ changes
-    → All (NamesLive r.seat.held.part.records) given
-plan_names r op reply changes given plan is = subst (All (NamesLive r.seat.held.part.records)) (sym is)
-    (all_live r.books r.seat.held.part.records (step plan.state op).effects changes plan.makes)
+    → All (NamesLive r.seat.known.part.records) given
+plan_names r op reply changes given plan is = subst (All (NamesLive r.seat.known.part.records)) (sym is)
+    (all_live r.books r.seat.known.part.records (step plan.state op).effects changes plan.makes)
 
 -- ---- the unit is a queue still
 kind_kept : (heap : HeapShown) (old new : RegionShown) → IsRegionOf heap old → IsRegionOf heap new → new.books.unit ≡ old.books.unit
@@ -60,8 +60,8 @@ uncarried_unit heap held old new q r many why items others unit same was running
     by (Full need free clock) k = record {
       agrees = agrees;
       of_queue = kind_kept heap held new was stands.of_heap k.1.keeps.of_unit unit.of_queue;
-      holds = λ on. subst (AreLiveItems new.seat.held.part.records) (sym kept)
-          (live_items_move held.seat.held.part.records new.seat.held.part.records items k.1.keeps.live (unit.holds running));
+      holds = λ on. subst (AreLiveItems new.seat.known.part.records) (sym kept)
+          (live_items_move held.seat.known.part.records new.seat.known.part.records items k.1.keeps.live (unit.holds running));
     }
     by (Cut u) k = record {
       agrees = agrees;
@@ -75,10 +75,10 @@ uncarried_unit heap held old new q r many why items others unit same was running
 counts_serials : (r : RegionShown) → IsOfQueue r → IsTrue (is_queue r.books.layout r.books.unit)
 counts_serials r queue = ap (λ (o : Option UnitKind). is_of_kind o unit_kinds.Queue) queue
 
-next_above : (r : RegionShown) → IsOfQueue r → Agrees r → r.seat.held.part.written ≡ []
-    → IsNextSerial r.seat.held.part.records [] r.books.serial
+next_above : (r : RegionShown) → IsOfQueue r → Agrees r → r.seat.known.part.written ≡ []
+    → IsNextSerial r.seat.known.part.records [] r.books.serial
 next_above r queue agrees rests =
-    subst (λ (ws : List Held). IsNextSerial r.seat.held.part.records ws r.books.serial) rests (agrees.1.serials (counts_serials r queue))
+    subst (λ (ws : List Held). IsNextSerial r.seat.known.part.records ws r.books.serial) rests (agrees.1.serials (counts_serials r queue))
 
 adds_among : (r : RegionShown) (change : Option Change) → IsOfQueue r → IsTrue (adds_item change)
     → adds_item_among r.books (option_to_list change) ≡ true
@@ -99,7 +99,7 @@ module _ (heap : HeapShown) (held new : RegionShown) (items : List Queued) (chan
       → ChangesQueue held.books.serial items change
       → first_at_end k held (option_to_list change) ≡ None → HasAnsweredCall heap held new q r op receipt
       → HasCarried held new (option_to_list change) receipt slot
-      → IsQueueUnit new (items_behind items change (option_and_then (queued_at new.seat.held.part.records) slot))
+      → IsQueueUnit new (items_behind items change (option_and_then (queued_at new.seat.known.part.records) slot))
   answered_at q r k op receipt slot is none answered carried = record {
     agrees = agrees;
     of_queue = kind_kept heap held new stood.of_heap stands.of_heap answered.of_unit unit.of_queue;
@@ -112,10 +112,10 @@ module _ (heap : HeapShown) (held new : RegionShown) (items : List Queued) (chan
       (asked given : List Change) (before after : List Queued) → mid ≡ held → old ≡ held → asked ≡ option_to_list change
       → given ≡ option_to_list change → ChangesQueue mid.books.serial items change → first_at_end k mid asked ≡ None
       → HasAnsweredCall heap old new q r op receipt → HasCarried old new given receipt slot → before ≡ items
-      → after ≡ items_behind before change (option_and_then (queued_at new.seat.held.part.records) slot) → IsQueueUnit new after
+      → after ≡ items_behind before change (option_and_then (queued_at new.seat.known.part.records) slot) → IsQueueUnit new after
   answered_unit mid old q r k op receipt slot asked given before after mid_is old_is asks gives is none answered carried kept follows =
       subst (IsQueueUnit new)
-      (sym (follows ∙ ap (λ (l : List Queued). items_behind l change (option_and_then (queued_at new.seat.held.part.records) slot)) kept))
+      (sym (follows ∙ ap (λ (l : List Queued). items_behind l change (option_and_then (queued_at new.seat.known.part.records) slot)) kept))
       (answered_at q r k op receipt slot
       (subst (λ (x : RegionShown). ChangesQueue x.books.serial items change) mid_is is)
       (subst (λ (x : RegionShown × List Change). first_at_end k x.0 x.1 ≡ None) (λ i. (mid_is i, asks i)) none)

@@ -81,31 +81,31 @@ goes kept q items unit next epoch slot from identity live is =
     (above_newest unit next kept (Remove from identity) epoch slot) is refl
 
 -- ---- of a region
-module _ (old new : RegionShown) (items : List Queued) (live : AreLiveItems old.seat.held.part.records items) (agrees : Agrees old)
+module _ (old new : RegionShown) (items : List Queued) (live : AreLiveItems old.seat.known.part.records items) (agrees : Agrees old)
     (after : Agrees new) (receipt : Receipt) (slot : Option ℕ) where
   -- the next identity isn't live
-  next_unused : live_of old.books.identity old.seat.held.part.records ≡ None
-  next_unused = by (live_of old.books.identity old.seat.held.part.records) refl
+  next_unused : live_of old.books.identity old.seat.known.part.records ≡ None
+  next_unused = by (live_of old.books.identity old.seat.known.part.records) refl
     where
-      by : (o : Option Held) → live_of old.books.identity old.seat.held.part.records ≡ o → o ≡ None
+      by : (o : Option Held) → live_of old.books.identity old.seat.known.part.records ≡ o → o ≡ None
       by None e = refl
       by (Some r) e =
-          let newest = (live_facts (newest_of old.books.identity old.seat.held.part.records) r e).0 in
-          let is : IsNewest old.books.identity old.seat.held.part.records r =
-          newest_is old.books.identity old.seat.held.part.records r newest in
+          let newest = (live_facts (newest_of old.books.identity old.seat.known.part.records) r e).0 in
+          let is : IsNewest old.books.identity old.seat.known.part.records r =
+          newest_is old.books.identity old.seat.known.part.records r newest in
           let low : r.label.identity < old.books.identity = All-contains (HasLowerIdentity old.books.identity)
-          (old.seat.held.part.records ++ old.seat.held.part.written) r agrees.1.numbered
-          (Contains-append_left old.seat.held.part.records old.seat.held.part.written r is.there) in
+          (old.seat.known.part.records ++ old.seat.known.part.written) r agrees.1.numbered
+          (Contains-append_left old.seat.known.part.records old.seat.known.part.written r is.there) in
           let same = is.identity in absurd (omega arith)
 
-  pub none_follows : HasCarried old new [] receipt slot → AreLiveItems new.seat.held.part.records items
-  none_follows c = live_items_move old.seat.held.part.records new.seat.held.part.records items
+  pub none_follows : HasCarried old new [] receipt slot → AreLiveItems new.seat.known.part.records items
+  none_follows c = live_items_move old.seat.known.part.records new.seat.known.part.records items
       (λ i. ap (live_of i) (c.records_are ∙ append-nil c.kept) ∙ c.live i) live
 
   -- one change is written into one slot
   module _ (change : Change) (c : HasCarried old new (change ∷ []) receipt slot) where
     pub written_at : (s : ℕ) × (slot ≡ Some s)
-        × (new.seat.held.part.records
+        × (new.seat.known.part.records
         ≡ c.kept ++ record_by old.books.unit old.books.identity c.kept change receipt.entry.epoch s ∷ [])
     written_at =
         let one = one_slot c.slots c.each in (
@@ -117,34 +117,34 @@ module _ (old new : RegionShown) (items : List Queued) (live : AreLiveItems old.
         )
 
     pub still_live : AreLiveItems c.kept items
-    still_live = live_items_move old.seat.held.part.records c.kept items c.live live
+    still_live = live_items_move old.seat.known.part.records c.kept items c.live live
 
   -- an item came in
   pub item_follows : (body : List ℕ) (item : ℕ) → body ≡ item_body old.books.serial item
-      → IsNextSerial old.seat.held.part.records [] old.books.serial → old.books.serial ≤ LAST
+      → IsNextSerial old.seat.known.part.records [] old.books.serial → old.books.serial ≤ LAST
       → HasCarried old new (Insert body ∷ []) receipt slot
-      → AreLiveItems new.seat.held.part.records (items ++ option_to_list (option_and_then (queued_at new.seat.held.part.records) slot))
+      → AreLiveItems new.seat.known.part.records (items ++ option_to_list (option_and_then (queued_at new.seat.known.part.records) slot))
   item_follows body item is next last c =
       let at = written_at (Insert body) c in
       let some : 1 ≤ old.books.serial = let low = next.some in let same = next.is in omega arith in
       let below : (p : Queued) → Contains items p → p.serial < old.books.serial = λ p d.
-      let low = next.above p.serial (serial_lives old.seat.held.part.records items live p d) in let same = next.is in omega arith in
+      let low = next.above p.serial (serial_lives old.seat.known.part.records items live p d) in let same = next.is in omega arith in
       let comes = comes_in c.kept items (still_live (Insert body) c) old.books.unit old.books.identity receipt.entry.epoch at.0
       old.books.serial item body is some last below (c.live old.books.identity ∙ next_unused) in
       let w : Held = record_by old.books.unit old.books.identity c.kept (Insert body) receipt.entry.epoch at.0 in
-      let there : Contains new.seat.held.part.records w = subst (λ (rs : List Held). Contains rs w) (sym at.2)
+      let there : Contains new.seat.known.part.records w = subst (λ (rs : List Held). Contains rs w) (sym at.2)
       (Contains-append_right c.kept (w ∷ []) w (first_element w [])) in
-      let reads : queued_at new.seat.held.part.records at.0
+      let reads : queued_at new.seat.known.part.records at.0
       ≡ Some (record { serial = old.books.serial; identity = old.books.identity; slot = at.0; item = item }) =
-      ap queued_by (record_there new.seat.held.part.records w after.1.apart.slots there)
+      ap queued_by (record_there new.seat.known.part.records w after.1.apart.slots there)
       ∙ ap (λ (b : List ℕ). queued_in b old.books.identity at.0) is in
-      let found = ap (option_and_then (queued_at new.seat.held.part.records)) at.1 ∙ reads in
+      let found = ap (option_and_then (queued_at new.seat.known.part.records)) at.1 ∙ reads in
       subst (λ (x : (List Held) × (Option Queued)). AreLiveItems x.0 (items ++ option_to_list x.1)) (λ i. (sym at.2 i, sym found i)) comes
 
 -- the first item went
-pub first_follows : (old new : RegionShown) (q : Queued) (items : List Queued) → AreLiveItems old.seat.held.part.records (q ∷ items)
+pub first_follows : (old new : RegionShown) (q : Queued) (items : List Queued) → AreLiveItems old.seat.known.part.records (q ∷ items)
     → (agrees : Agrees old) → (after : Agrees new) → (receipt : Receipt) (slot : Option ℕ) (from identity : ℕ) → identity ≡ q.identity
-    → HasCarried old new (Remove from identity ∷ []) receipt slot → AreLiveItems new.seat.held.part.records items
+    → HasCarried old new (Remove from identity ∷ []) receipt slot → AreLiveItems new.seat.known.part.records items
 first_follows old new q items live agrees after receipt slot from identity is c =
     let at = written_at old new (q ∷ items) live agrees after receipt slot (Remove from identity) c in
     subst (λ (rs : List Held). AreLiveItems rs items) (sym at.2)
@@ -153,11 +153,11 @@ first_follows old new q items live agrees after receipt slot from identity is c 
 
 -- any change of a queue
 pub items_follow : (old new : RegionShown) (items : List Queued) (change : Option Change) (receipt : Receipt) (slot : Option ℕ)
-    → AreLiveItems old.seat.held.part.records items → Agrees old → Agrees new → ChangesQueue old.books.serial items change
-    → IsNextSerial old.seat.held.part.records [] old.books.serial → (IsTrue (adds_item change) → old.books.serial ≤ LAST)
+    → AreLiveItems old.seat.known.part.records items → Agrees old → Agrees new → ChangesQueue old.books.serial items change
+    → IsNextSerial old.seat.known.part.records [] old.books.serial → (IsTrue (adds_item change) → old.books.serial ≤ LAST)
     → HasCarried old new (option_to_list change) receipt slot
-    → AreLiveItems new.seat.held.part.records
-    (items_behind items change (option_and_then (queued_at new.seat.held.part.records) slot))
+    → AreLiveItems new.seat.known.part.records
+    (items_behind items change (option_and_then (queued_at new.seat.known.part.records) slot))
 items_follow old new items None receipt slot live agrees after is next last c = none_follows old new items live agrees after receipt slot c
 items_follow old new items (Some (Insert body)) receipt slot live agrees after is next last c =
     item_follows old new items live agrees after receipt slot body is.0 is.1 next (last refl) c

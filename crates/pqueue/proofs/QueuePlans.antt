@@ -26,11 +26,11 @@ use Rattle.pqueue.specs.QueuePlan.{enq_plan, deq_plan, ChangesQueue}
 use Rattle.pqueue.proofs.LiveItems.{items_in, structure_shown, first_least}
 
 module _ (r : RegionShown) (items : List Queued) (unit : IsQueueUnit r items) (running : r.books.halted ≡ None) where
-  live : AreLiveItems r.seat.held.part.records items
+  live : AreLiveItems r.seat.known.part.records items
   live = unit.holds running
 
-  shown : HasStructure r.books.layout r.books.unit r.seat.held.part.records (QueueOf (items_in items))
-  shown = structure_shown r.seat.held.part.records items live r.books.layout r.books.unit unit.of_queue
+  shown : HasStructure r.books.layout r.books.unit r.seat.known.part.records (QueueOf (items_in items))
+  shown = structure_shown r.seat.known.part.records items live r.books.layout r.books.unit unit.of_queue
 
   -- an item comes in
   enq_is : (u item : ℕ) → IsOpOf r.books.layout r.books.unit (ops.Enq u item)
@@ -71,7 +71,7 @@ module _ (r : RegionShown) (items : List Queued) (unit : IsQueueUnit r items) (r
   none_stands u none of_unit = record {
     of_unit = of_unit;
     state = QueueOf [];
-    shown = subst (λ (l : List Queued). HasStructure r.books.layout r.books.unit r.seat.held.part.records (QueueOf (items_in l))) none
+    shown = subst (λ (l : List Queued). HasStructure r.books.layout r.books.unit r.seat.known.part.records (QueueOf (items_in l))) none
         shown;
     replies = refl;
     makes = tt;
@@ -81,22 +81,22 @@ module _ (r : RegionShown) (items : List Queued) (unit : IsQueueUnit r items) (r
   first_is : (u : ℕ) (q : Queued) (rest : List Queued) → items ≡ q ∷ rest → IsOpOf r.books.layout r.books.unit (ops.Deq u)
       → IsPlan r (ops.Deq u) (Was q.item) (Remove q.slot q.identity ∷ [])
   first_is u q rest is of_unit =
-      let here : AreLiveItems r.seat.held.part.records (q ∷ rest) = subst (AreLiveItems r.seat.held.part.records) is live in
-      let l : IsLiveItem r.seat.held.part.records q = All-head (IsLiveItem r.seat.held.part.records) q rest here.each in
-      let named : NamesThing r.seat.held.part.records (Item q.item) q.slot q.identity = record {
+      let here : AreLiveItems r.seat.known.part.records (q ∷ rest) = subst (AreLiveItems r.seat.known.part.records) is live in
+      let l : IsLiveItem r.seat.known.part.records q = All-head (IsLiveItem r.seat.known.part.records) q rest here.each in
+      let named : NamesThing r.seat.known.part.records (Item q.item) q.slot q.identity = record {
         live = l.live;
         is = l.is;
         in_slot = l.in_slot;
         named = (
           q.serial,
           (fitted (λ (e : ℕ × ℕ). is_serial e.0) (item_in l.live.body) (q.serial, q.item) l.holds).0,
-          first_least r.seat.held.part.records q rest here,
+          first_least r.seat.known.part.records q rest here,
         );
       } in
       record {
         of_unit = of_unit;
         state = QueueOf (q.item ∷ items_in rest);
-        shown = subst (λ (l : List Queued). HasStructure r.books.layout r.books.unit r.seat.held.part.records (QueueOf (items_in l))) is
+        shown = subst (λ (l : List Queued). HasStructure r.books.layout r.books.unit r.seat.known.part.records (QueueOf (items_in l))) is
             shown;
         replies = refl;
         makes = (named, tt);
@@ -128,7 +128,7 @@ module _ (r : RegionShown) (items : List Queued) (unit : IsQueueUnit r items) (r
         state = QueueOf (items_in items);
         shown = shown;
         replies = sym (ap (λ (s : Step). s.reply) (does op no_enq no_deq no_len));
-        makes = subst (λ (es : List Effect). AllZip (Makes r.books r.seat.held.part.records) es [])
+        makes = subst (λ (es : List Effect). AllZip (Makes r.books r.seat.known.part.records) es [])
             (sym (ap (λ (s : Step). s.effects) (does op no_enq no_deq no_len))) tt;
       })
     where

@@ -13,13 +13,13 @@ use Rattle.pqueue.specs.Queued.{AreLiveItems, queued_of, serial_in}
 use Rattle.pqueue.proofs.SortedItems.{items_sorted}
 
 pub rebuilt : (r : RegionShown) (objects : List Object) (sorted items : List Queued) → Agrees r → IsOfQueue r
-    → objects ≡ live_objects r.seat.held.part.records → ((state : State) × IsStructure r.books.layout r.books.unit objects state)
+    → objects ≡ live_objects r.seat.known.part.records → ((state : State) × IsStructure r.books.layout r.books.unit objects state)
     → IsPermutation (filter_map queued_of objects) sorted → IsNonDecreasingBy serial_in sorted → items ≡ sorted → IsQueueUnit r items
 rebuilt r objects sorted items agrees queue are made same rising is = record {
   agrees = agrees;
   of_queue = queue;
-  holds = λ running. subst (AreLiveItems r.seat.held.part.records) (sym is)
-      (items_sorted r.books.layout r.books.unit r.seat.held.part.records made.0 sorted agrees.1.apart queue
+  holds = λ running. subst (AreLiveItems r.seat.known.part.records) (sym is)
+      (items_sorted r.books.layout r.books.unit r.seat.known.part.records made.0 sorted agrees.1.apart queue
       (subst (λ (l : List Object). IsStructure r.books.layout r.books.unit l made.0) are made.1)
       (subst (λ (l : List Object). IsPermutation (filter_map queued_of l) sorted) are same) rising);
 }

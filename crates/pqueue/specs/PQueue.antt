@@ -20,11 +20,11 @@ IsOfQueue r = kind_of r.books.layout r.books.unit ≡ Some unit_kinds.Queue
 
 -- nothing is live
 abbrev pub HasNoneLive : RegionShown → Type 0
-HasNoneLive r = (identity : ℕ) → live_of identity r.seat.held.part.records ≡ None
+HasNoneLive r = (identity : ℕ) → live_of identity r.seat.known.part.records ≡ None
 
 -- Unless a caller was cut in the unit, the items are those that are live.
 abbrev pub HoldsItems : RegionShown → List Queued → Type 0
-HoldsItems r items = r.books.halted ≡ None → AreLiveItems r.seat.held.part.records items
+HoldsItems r items = r.books.halted ≡ None → AreLiveItems r.seat.known.part.records items
 
 pub record IsQueueUnit (r : RegionShown) (items : List Queued) : Type 0 where
   pub agrees : Agrees r

@@ -109,7 +109,7 @@ pub(crate) fn follow(
     requires room { IsTrue (adds_item change.now)
         → deque_len items.old < deque_capacity items.old }
     ensures { items.new.items ≡ items_behind items.old.items change.now
-        (option_and_then (queued_at region.now.seat.held.part.records) slot) }
+        (option_and_then (queued_at region.now.seat.known.part.records) slot) }
 {
     match change {
         Some(Change::Insert { .. }) => {
@@ -128,7 +128,7 @@ pub(crate) fn follow(
 fn written_at(region: &Region, slot: Option<Slot>) -> Option<Queued>
     requires { Agrees region.now }
     ensures { result
-        ≡ option_and_then (queued_at region.now.seat.held.part.records) slot }
+        ≡ option_and_then (queued_at region.now.seat.known.part.records) slot }
 {
     queued_at(region, slot?)
 }

@@ -40,7 +40,7 @@ pub(crate) fn queued_of(object: &Object) -> Option<Queued>
 // The item that the record in a slot holds.
 pub(crate) fn queued_at(region: &Region, slot: Slot) -> Option<Queued>
     requires { Agrees region.now }
-    ensures { result ≡ queued_at region.now.seat.held.part.records slot }
+    ensures { result ≡ queued_at region.now.seat.known.part.records slot }
 {
     let held = region.find_record(slot)?;
     queued_in(&held.body, held.label.identity, held.slot)

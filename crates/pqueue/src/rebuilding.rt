@@ -20,7 +20,7 @@ impl PQueue {
     pub fn rebuild(alloc: Global, region: Region, objects: &[Object]) -> Result<PQueue, AllocError>
         requires agrees { Agrees region }
         requires of_queue { IsOfQueue region }
-        requires objects { objects.now ≡ live_objects region.seat.held.part.records }
+        requires objects { objects.now ≡ live_objects region.seat.known.part.records }
         requires structure { (state : State)
             × IsStructure region.books.layout region.books.unit objects.now state }
         ensures region { IfOk result (λ q. q.region ≡ region) }

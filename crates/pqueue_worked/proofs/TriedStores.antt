@@ -16,7 +16,7 @@ use Rattle.core_steps.specs.Opened.{slots_beyond}
 use Rattle.core_steps.specs.Stages.{is_empty}
 use Rattle.heap_rule.specs.declared.rule.Opening.{Opening}
 use Rattle.heap_rule.specs.Views.{are_clean, clean_at}
-use Rattle.slots.specs.Beginning.{AreFound}
+use Rattle.slots.specs.RegionBeginning.{AreFound}
 use Rattle.region_laws.proofs.FoundImages.{images_are_found}
 use Rattle.pqueue_worked.specs.TriedQueue.{IsSettled}
 

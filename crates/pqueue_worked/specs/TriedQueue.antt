@@ -29,7 +29,7 @@ pub record IsTried
   pub stands : IsStanding heap queue.region
   pub unit : queue.region.books.unit ≡ 0
   pub of_advancer : advancer.table ≡ heap.table
-  pub advances : IsOfLayout heap.opening.layout advancer.held
-  pub clean : IsTrue (are_clean (units_of heap.opening.layout) advancer.held.clean)
+  pub advances : IsOfLayout heap.opening.layout advancer.known
+  pub clean : IsTrue (are_clean (units_of heap.opening.layout) advancer.known.clean)
   pub of_caller : caller.table ≡ heap.table
-  pub number : caller.held.caller ≡ 0
+  pub number : caller.known.caller ≡ 0

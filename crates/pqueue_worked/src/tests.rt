@@ -45,11 +45,11 @@ fn deal(heap: &Heap, seats: Seats) -> Result<(UnitSeat, AdvSeat, Ticket), Fail>
     requires one { units_of heap.now.opening.layout ≡ 1 }
     requires caller { heap.now.opening.callers ≡ 1 }
     ensures unit { IfOk result (λ dealt. dealt.0
-        ≡ record { table = heap.now.table; held = first_unit heap.now.opening 0 }) }
+        ≡ record { table = heap.now.table; known = first_unit heap.now.opening 0 }) }
     ensures advancer { IfOk result (λ dealt. dealt.1
-        ≡ record { table = heap.now.table; held = first_advancer heap.now.opening }) }
+        ≡ record { table = heap.now.table; known = first_advancer heap.now.opening }) }
     ensures caller { IfOk result (λ dealt. dealt.2
-        ≡ record { table = heap.now.table; held = first_caller heap.now.opening 0 }) }
+        ≡ record { table = heap.now.table; known = first_caller heap.now.opening 0 }) }
 {
     let Seats {
         mut units,

@@ -23,10 +23,10 @@ use Rattle.recover.specs.Recovery.{IsAdvancerFound, IsRecovery, IsRegionOpened}
 
 module _ (heap : HeapShown) where
   abbrev pub unit_first : ℕ → UnitShown
-  unit_first u = record { table = heap.table; held = first_unit heap.opening u }
+  unit_first u = record { table = heap.table; known = first_unit heap.opening u }
 
   abbrev pub caller_first : ℕ → CallerShown
-  caller_first k = record { table = heap.table; held = first_caller heap.opening k }
+  caller_first k = record { table = heap.table; known = first_caller heap.opening k }
 
   pub units_many : (n : ℕ) → length (dealt_units heap.table heap.opening n) ≡ n
   units_many zero = refl
@@ -58,7 +58,7 @@ module _ (heap : HeapShown) where
       each_push (IsTicketFound heap) (dealt_callers heap.table heap.opening n) (caller_first n) (each_ticket n)
       (subst (λ (k : ℕ). IsTicketFound heap k (caller_first n)) (sym (callers_many n)) (ticket_first n))
 
-  advancer_first : IsAdvancerFound heap (record { table = heap.table; held = first_advancer heap.opening })
+  advancer_first : IsAdvancerFound heap (record { table = heap.table; known = first_advancer heap.opening })
   advancer_first = record {
     table = refl;
     part = refl;

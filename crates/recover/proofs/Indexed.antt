@@ -51,7 +51,7 @@ module _ (heap : HeapShown) (rs : List RegionShown) (u : ℕ) (r : RegionShown) 
   pub at_got : IsRegionFound heap u (get_or rs u r)
   at_got = subst (IsRegionFound heap u) is at_place
 
-  pub of_its_unit : IsRegionFound heap (get_or rs u r).seat.held.unit (get_or rs u r)
+  pub of_its_unit : IsRegionFound heap (get_or rs u r).seat.known.unit (get_or rs u r)
   of_its_unit = subst (λ (n : ℕ). IsRegionFound heap n (get_or rs u r)) (sym at_got.of_unit) at_got
 
 -- ---- what an item is put in for

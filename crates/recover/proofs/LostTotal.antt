@@ -68,7 +68,7 @@ opened_lost o heap rs is many each = subst (λ (x : Opening). lost_in rs ≡ len
 lost_at_most : (heap : HeapShown) (u : ℕ) (r : RegionShown) → IsRegionFound heap u r → length r.books.lost ≤ heap.opening.layout.slots
 lost_at_most heap u r k =
     let all = k.agrees.1.slots.many in
-    let lost : length r.books.lost ≡ length r.seat.held.part.lost = ap length k.agrees.1.lost_are in
+    let lost : length r.books.lost ≡ length r.seat.known.part.lost = ap length k.agrees.1.lost_are in
     let slots : r.books.layout.slots ≡ heap.opening.layout.slots = ap (λ (s : Shape). s.slots) k.of_heap.layout in
     omega (arith, all, lost, slots)
 

@@ -6,7 +6,7 @@ use Rattle.mont_base.specs.Layout.{Shape, units_of}
 use Rattle.core_steps.specs.Opened.{slots_beyond}
 use Rattle.heap_rule.specs.Views.{first_unit}
 use Rattle.heap.specs.HeapShown.{HeapShown, UnitShown}
-use Rattle.slots.specs.Beginning.{BeginsWith, AreFound, first_books}
+use Rattle.slots.specs.RegionBeginning.{BeginsWith, AreFound, first_books}
 use Rattle.slots.specs.Books.{RegionShown, BooksShown, Agrees}
 use Rattle.region_laws.proofs.FoundImages.{images_are_found}
 use Rattle.found_regions.specs.FoundRegion.{records_found}
@@ -14,15 +14,15 @@ use Rattle.recover.specs.Recovery.{IsRegionOpened}
 use Rattle.found_regions.proofs.FoundRegions.{begins_found, region_found}
 
 module _ (heap : HeapShown) (l : Shape) (same : l ≡ heap.opening.layout) (u : ℕ) (seat : UnitShown) (records : List Held) (lost : List ℕ)
-    (is : seat ≡ record { table = heap.table; held = first_unit heap.opening u }) (records_are : records ≡ records_found heap u)
+    (is : seat ≡ record { table = heap.table; known = first_unit heap.opening u }) (records_are : records ≡ records_found heap u)
     (lost_are : lost ≡ slots_beyond l heap.opening.words u) where
   lost_here : lost ≡ slots_beyond heap.opening.layout heap.opening.words u
   lost_here = lost_are ∙ ap (λ (s : Shape). slots_beyond s heap.opening.words u) same
 
-  pub of_unit : seat.held.unit ≡ u
-  of_unit = ap (λ (x : UnitShown). x.held.unit) is
+  pub of_unit : seat.known.unit ≡ u
+  of_unit = ap (λ (x : UnitShown). x.known.unit) is
 
-  pub begins : BeginsWith seat.held.part records lost
+  pub begins : BeginsWith seat.known.part records lost
   begins = begins_found heap u seat records lost is records_are lost_here
 
   pub are_found : IsWellFormed l heap.opening.words → u < units_of l → AreFound l u records lost

@@ -2,7 +2,7 @@
 use Rattle.std.proofs.Common.{ℕ, List, refl}
 use Rattle.mont_base.specs.Image.{IsWellFormed}
 use Rattle.mont_base.specs.Layout.{Shape}
-use Rattle.image_units.specs.declared.refusal.RecoverRefusal.TheVariants.{Slot, Twice, Object, Memory}
+use Rattle.image_units.specs.declared.recovery_refusal.RecoverRefusal.TheVariants.{Slot, Twice, Object, Memory}
 use Rattle.image_units.proofs.Accepted.{malformed}
 use Rattle.recover.specs.StoppedImages.{IsRefusedForMemory, StoppedStoresAreRecovered, SweptStoresAreRecovered}
 

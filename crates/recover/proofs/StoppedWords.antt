@@ -25,7 +25,7 @@ use Rattle.recover.specs.StoppedWords.{HoldsBase, IsUnused, UnusedStoresKeepBase
 module _ (o : Opening) (base : List State) (units : List UnitShown) (advancer : AdvShown) (callers : List CallerShown) (words : Words)
     (image : List ℕ) (recovered : IsRecovered o.layout o.words base) (unused : IsUnused o units advancer)
     (stops : StopsAt o units advancer callers words) (permitted : IsPermitted words.cur words.dur image) where
-  told : HoldsShownCut o base units callers image × (advancer.held.durable ≤ clock_of image) × (clock_of image ≤ advancer.held.clock)
+  told : HoldsShownCut o base units callers image × (advancer.known.durable ≤ clock_of image) × (clock_of image ≤ advancer.known.clock)
   told = stopped_words_hold_cuts o base units advancer callers words image recovered stops permitted
 
   clock_is : clock_of image ≡ clock_of o.words
@@ -38,7 +38,7 @@ module _ (o : Opening) (base : List State) (units : List UnitShown) (advancer : 
 
   -- there is a seat of each unit
   units_many : length units ≡ length base
-  units_many = sym (ap length stops.parts.units_are ∙ length-map units (λ (s : UnitShown). s.held.part))
+  units_many = sym (ap length stops.parts.units_are ∙ length-map units (λ (s : UnitShown). s.known.part))
       ∙ ((stops.sound base recovered).sizes.unit_count ∙ (ap units_of stops.layout.1 ∙ sym recovered.0))
 
   kept_at : (unit : ℕ) (state : State) → slice_get base unit ≡ Some state
@@ -47,7 +47,7 @@ module _ (o : Opening) (base : List State) (units : List UnitShown) (advancer : 
       let s = item_at units unit (subst (λ (n : ℕ). unit < n) (sym units_many) (slice_get_within base unit state e)) in
       subst (IsStructure o.layout unit (live_objects (records_of o.layout image unit)))
       (ap (λ (h : List Entry). state_after (base_state (opened_at (clock_of o.words) base) unit) (cut_at (cut_of image) h))
-      (all_gives (λ (x : UnitShown). x.held.part.history ≡ []) units unit s.0 unused.unanswered s.1)
+      (all_gives (λ (x : UnitShown). x.known.part.history ≡ []) units unit s.0 unused.unanswered s.1)
       ∙ ap (λ (r : Option State). unwrap_or r (QueueOf [])) e)
       (told.0.cut unit s.0 s.1)
 

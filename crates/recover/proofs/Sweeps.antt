@@ -11,7 +11,7 @@ use Rattle.mont_base.specs.Layout.{units_of, words_of}
 use Rattle.mont_base.specs.State.{State}
 use Rattle.core_steps.specs.Places.{EachAt}
 use Rattle.core_steps.proofs.RowFacts.{row_of_map, all_at}
-use Rattle.heap_rule.specs.declared.views.CallerHeld.{CallerHeld}
+use Rattle.heap_rule.specs.declared.views.CallerKnown.{CallerKnown}
 use Rattle.heap_rule.specs.declared.views.UnitTurn.{UnitTurn}
 use Rattle.heap_rule.specs.Views.{advancer_shown}
 use Rattle.heap.specs.HeapShown.{HeapShown, UnitShown, AdvShown}
@@ -27,10 +27,10 @@ use Rattle.recover.specs.Recovery.{RecoveredShown, IsRecovery, lost_in}
 use Rattle.recover.proofs.Turns.{none_in}
 
 -- ---- a sweep
-pub advancer_knows : (heap : HeapShown) (a b : AdvShown) (q : CallerHeld) → knows_all heap q.clean
-    → b ≡ record { table = a.table; held = advancer_shown a.held q } → knows_all heap b.held.clean
-advancer_knows heap a b q known is = subst (λ (x : AdvShown). knows_all heap x.held.clean) (sym is)
-    (known_behind (units_of heap.opening.layout) a.held.clean q.clean known)
+pub advancer_knows : (heap : HeapShown) (a b : AdvShown) (q : CallerKnown) → knows_all heap q.clean
+    → b ≡ record { table = a.table; known = advancer_shown a.known q } → knows_all heap b.known.clean
+advancer_knows heap a b q known is = subst (λ (x : AdvShown). knows_all heap x.known.clean) (sym is)
+    (known_behind (units_of heap.opening.layout) a.known.clean q.clean known)
 
 -- ---- a stop
 -- what its words are
@@ -63,16 +63,16 @@ module _ (clock : ℕ) (states : List State) (objects : List (List Object)) (x :
   }
 
   pub at_home : AreAtHome units
-  at_home = all_at (λ (s : UnitShown). s.held.turn.out ≡ false) units (λ u s e.
+  at_home = all_at (λ (s : UnitShown). s.known.turn.out ≡ false) units (λ u s e.
       let r = seat_at u s e in
       let f = k.regions u r.0 r.1 in
-      subst (λ (s : UnitShown). s.held.turn.out ≡ false) r.2 (ap (λ (t : UnitTurn). t.out) f.home))
+      subst (λ (s : UnitShown). s.known.turn.out ≡ false) r.2 (ap (λ (t : UnitTurn). t.out) f.home))
 
   unused : IsUnused x.heap.opening units x.advancer
   unused = record {
-    unanswered = all_at (λ (s : UnitShown). s.held.part.history ≡ []) units (λ u s e.
+    unanswered = all_at (λ (s : UnitShown). s.known.part.history ≡ []) units (λ u s e.
         let r = seat_at u s e in
-        subst (λ (s : UnitShown). s.held.part.history ≡ []) r.2 (k.regions u r.0 r.1).history);
+        subst (λ (s : UnitShown). s.known.part.history ≡ []) r.2 (k.regions u r.0 r.1).history);
     clock_is = k.advancer.clock;
     durable_is = k.advancer.durable;
   }

@@ -15,7 +15,7 @@ use Rattle.heap.specs.HeapShown.{HeapShown, AdvShown, CallerShown}
 use Rattle.slots.specs.Books.{RegionShown}
 use Rattle.found_regions.specs.FoundRegion.{IsRegionFound, IsRegionSwept, records_found}
 use Rattle.recover.specs.FoundTicket.{IsTicketFound, knows_all}
-use Rattle.recover.specs.declared.parts.Parts.{Parts}
+use Rattle.recover.specs.declared.store_parts.Parts.{Parts}
 
 -- ---- lost slots
 -- how many slots that are open beyond the cut aren't closed yet
@@ -34,13 +34,13 @@ AreLiveObjects heap u objects = objects ≡ live_objects (records_found heap u)
 -- ---- the advancer: no advance was begun
 pub record IsAdvancerFound (heap : HeapShown) (a : AdvShown) : Type 0 where
   pub table : a.table ≡ heap.table
-  pub part : a.held.part ≡ Rest
-  pub turn : a.held.turn ≡ full_rest
-  pub clock : a.held.clock ≡ clock_of heap.opening.words
-  pub durable : a.held.durable ≡ clock_of heap.opening.words
-  pub units : a.held.units ≡ units_of heap.opening.layout
-  pub room : a.held.room ≡ heap.opening.layout.slots
-  pub lists : length a.held.lists ≡ a.held.units
+  pub part : a.known.part ≡ Rest
+  pub turn : a.known.turn ≡ full_rest
+  pub clock : a.known.clock ≡ clock_of heap.opening.words
+  pub durable : a.known.durable ≡ clock_of heap.opening.words
+  pub units : a.known.units ≡ units_of heap.opening.layout
+  pub room : a.known.room ≡ heap.opening.layout.slots
+  pub lists : length a.known.lists ≡ a.known.units
 
 -- ---- the whole
 pub record RecoveredShown : Type 0 where
@@ -54,7 +54,7 @@ pub record RecoveredShown : Type 0 where
 pub record AreSwept (heap : HeapShown) (regions : List RegionShown) (advancer : AdvShown)
     : Type 0 where
   pub each_unit : All (IsRegionSwept heap) regions
-  pub known : knows_all heap advancer.held.clean
+  pub known : knows_all heap advancer.known.clean
 
 -- Recovery accepts the words with which the store was opened. They have this clock, these states
 -- are recovered from them, and these are the live objects of its units.

@@ -6,8 +6,8 @@ use Rattle.plain.specs.declared.contents.Contents.{Contents}
 use Rattle.heap.specs.HeapShown.{CallerShown}
 use Rattle.store_stop.specs.declared.headline.Stopped.{Stopped}
 use Rattle.store_stop.specs.Headline.{IsStopped}
-use Rattle.image_units.specs.declared.refusal.RecoverRefusal.{RecoverRefusal}
-use Rattle.image_units.specs.declared.refusal.RecoverRefusal.TheVariants.{Memory}
+use Rattle.image_units.specs.declared.recovery_refusal.RecoverRefusal.{RecoverRefusal}
+use Rattle.image_units.specs.declared.recovery_refusal.RecoverRefusal.TheVariants.{Memory}
 use Rattle.image_units.specs.FirstRefusal.{IsFirstRefusal}
 use Rattle.recover.specs.StoppedWords.{HoldsBase}
 

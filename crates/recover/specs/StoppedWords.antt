@@ -17,9 +17,9 @@ pub record HoldsBase (s : Shape) (opened image : List ℕ) : Type 0 where
 
 -- no unit has answered anything, and the clock hasn't moved
 pub record IsUnused (o : Opening) (units : List UnitShown) (advancer : AdvShown) : Type 0 where
-  pub unanswered : All (λ (s : UnitShown). s.held.part.history ≡ []) units
-  pub clock_is : advancer.held.clock ≡ clock_of o.words
-  pub durable_is : advancer.held.durable ≡ clock_of o.words
+  pub unanswered : All (λ (s : UnitShown). s.known.part.history ≡ []) units
+  pub clock_is : advancer.known.clock ≡ clock_of o.words
+  pub durable_is : advancer.known.durable ≡ clock_of o.words
 
 abbrev pub UnusedStoresKeepBase : Type 0
 UnusedStoresKeepBase =

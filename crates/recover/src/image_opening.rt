@@ -152,7 +152,7 @@ fn region_of(
     requires accepted { IsWellFormed layout heap.now.opening.words }
     requires inside { unit < units_of layout }
     requires seat { seat
-        ≡ record { table = heap.now.table; held = first_unit heap.now.opening unit } }
+        ≡ record { table = heap.now.table; known = first_unit heap.now.opening unit } }
     requires records { records.now ≡ records_found heap.now unit }
     requires lost { lost.now ≡ slots_beyond layout heap.now.opening.words unit }
     ensures { IfOk result (λ region. IsRegionOpened heap.now unit region) }

@@ -30,9 +30,9 @@ pub(crate) fn close_lost_slots<G: Gate>(
 
 // Closes those of one unit.
 fn close_lost<G: Gate>(heap: &Heap, region: &mut Region, gate: &mut G) -> Result<(), Cut>
-    requires found { IsRegionFound heap.now region.old.seat.held.unit region.old }
+    requires found { IsRegionFound heap.now region.old.seat.known.unit region.old }
     ensures gate { IsAskedOften G.cuts G.endless gate.old gate.new (is_err result) }
-    ensures found { IsRegionFound heap.now region.old.seat.held.unit region.new }
+    ensures found { IsRegionFound heap.now region.old.seat.known.unit region.new }
     ensures fewer { length region.new.books.lost ≤ length region.old.books.lost }
     ensures none { OnOk result (region.new.books.lost ≡ []) }
 {

@@ -7,8 +7,8 @@ ghost use Rattle.recover.specs.Recovery.{ArePartsOf, lost_in};
 ghost use Rattle.recover.specs.StoppedWords.{HoldsBase};
 ghost use Rattle.store_stop.specs.Headline.{AreAllWords};
 
-use crate::parts::Parts;
-use crate::sweeping::close_and_tell;
+use crate::store_parts::Parts;
+use crate::store_sweep::close_and_tell;
 use heap::{AdvSeat, Heap, Seats, Ticket, UnitSeat};
 use mont_base::{Cut, Epoch, Gate, Object, Words};
 use plain::Contents;

@@ -31,7 +31,7 @@ use Rattle.mont_laws.proofs.UnitRecords.{read_of_listed}
 use Rattle.mont_laws.proofs.UnitSlots.{unit_of_member, slots_have_units}
 use Rattle.core_steps.specs.Opened.{slots_beyond}
 use Rattle.core_steps.proofs.UnitCuts.{listed_apart}
-use Rattle.slots.specs.Beginning.{AreFound, serial_of, live_serials}
+use Rattle.slots.specs.RegionBeginning.{AreFound, serial_of, live_serials}
 use Rattle.slots.specs.Serials.{is_queue}
 use Rattle.region_laws.specs.FoundImages.{ImagesAreFound}
 

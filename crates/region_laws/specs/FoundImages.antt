@@ -3,7 +3,7 @@ use Rattle.std.specs.Prelude.{ℕ, ◌<◌, List}
 use Rattle.mont_base.specs.Image.{records_of, IsWellFormed}
 use Rattle.mont_base.specs.Layout.{Shape, units_of}
 use Rattle.core_steps.specs.Opened.{slots_beyond}
-use Rattle.slots.specs.Beginning.{AreFound}
+use Rattle.slots.specs.RegionBeginning.{AreFound}
 
 -- The records of a unit within the cut, and its slots that are open beyond it, of an image that
 -- recovery accepts, are what its region can begin with.

@@ -43,7 +43,7 @@ fn main(rt: HostRuntime) -> ExitCode {
             ExitCode::SUCCESS
         }
         Err(trouble) => {
-            let _ = tell(&mut out, trouble);
+            let _ = say(&mut out, trouble);
             ExitCode::from(status_of(trouble))
         }
     }
@@ -82,7 +82,7 @@ fn read_all<R: Read>(alloc: Global, reader: &mut R) -> Result<Vec<u8>, Trouble> 
 }
 
 // Says on standard output why there is no picture.
-fn tell<W: Write>(out: &mut W, trouble: Trouble) -> io::Result<()> {
+fn say<W: Write>(out: &mut W, trouble: Trouble) -> io::Result<()> {
     match trouble {
         Trouble::Read => writeln!(out, "picture: read fault"),
         Trouble::Line(line) => writeln!(out, "picture: report line {line}"),

@@ -21,11 +21,11 @@ use Rattle.shard_map.proofs.KeysFilled.{keys_of_none, keys_filled}
 
 -- its index has the live keys
 pub unit_with : (r : RegionShown) (places : Places) (s : Shape) → r.books.layout ≡ s → KeepsPairs (kind_of s r.books.unit)
-    → Agrees r → HoldsLiveKeys s r.books.unit r.seat.held.part.records places → IsMapUnit r places
+    → Agrees r → HoldsLiveKeys s r.books.unit r.seat.known.part.records places → IsMapUnit r places
 unit_with r places s layout kind agrees holds = record {
   agrees = agrees;
   kind = subst (λ (t : Shape). KeepsPairs (kind_of t r.books.unit)) (sym layout) kind;
-  indexed = λ _. subst (λ (t : Shape). HoldsLiveKeys t r.books.unit r.seat.held.part.records places) (sym layout) holds;
+  indexed = λ _. subst (λ (t : Shape). HoldsLiveKeys t r.books.unit r.seat.known.part.records places) (sym layout) holds;
 }
 
 -- where nothing is live it is empty

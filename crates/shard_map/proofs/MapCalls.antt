@@ -75,18 +75,18 @@ put_room : (r : RegionShown) (places : Places) → IsMapUnit r places → r.book
     (reply : Reply) (change : Option Change) (spare : ℕ) → ((m : Pairs) → map_step m op ≡ pair_put m key value)
     → IsPlan r op reply (option_to_list change) → (AddsKey change → 1 ≤ spare) → CanPut places spare key
 put_room r places unit running op key value reply change spare puts plan room = λ none.
-    room (inserts change (subst (λ (t : Bool). AllZip (Makes r.books r.seat.held.part.records) (set_effects t (Pair key value))
+    room (inserts change (subst (λ (t : Bool). AllZip (Makes r.books r.seat.known.part.records) (set_effects t (Pair key value))
     (option_to_list change))
-    (ap is_some (absent none)) (subst (λ (st : Step). AllZip (Makes r.books r.seat.held.part.records) st.effects (option_to_list change))
+    (ap is_some (absent none)) (subst (λ (st : Step). AllZip (Makes r.books r.seat.known.part.records) st.effects (option_to_list change))
     (ap (λ (st : State). step st op) b.1 ∙ puts b.0) plan.makes)))
   where
-    b : (m : Pairs) × (plan.state ≡ MapOf m) × HasPairs r.books.layout r.books.unit r.seat.held.part.records m
-    b = map_state r.books.layout r.books.unit r.seat.held.part.records plan.state unit.kind plan.shown
+    b : (m : Pairs) × (plan.state ≡ MapOf m) × HasPairs r.books.layout r.books.unit r.seat.known.part.records m
+    b = map_state r.books.layout r.books.unit r.seat.known.part.records plan.state unit.kind plan.shown
 
     absent : finite.get places key ≡ None → finite.get b.0 key ≡ None
-    absent none = no_value r.books.layout r.books.unit r.seat.held.part.records places (unit.indexed running) b.0 b.2 key none
+    absent none = no_value r.books.layout r.books.unit r.seat.known.part.records places (unit.indexed running) b.0 b.2 key none
 
-    inserts : (c : Option Change) → AllZip (Makes r.books r.seat.held.part.records) (Inserts (Pair key value) ∷ []) (option_to_list c)
+    inserts : (c : Option Change) → AllZip (Makes r.books r.seat.known.part.records) (Inserts (Pair key value) ∷ []) (option_to_list c)
         → AddsKey c
     inserts None z = absurd z
     inserts (Some (Insert body)) z = tt
@@ -136,11 +136,11 @@ module _ (heap : HeapShown) (old new : RegionShown) (places : Places) (called : 
       (subst (λ (u : ℕ). KeepsPairs (kind_of old.books.layout u)) (sym unit) called.unit.kind)
 
   keys_stay : (after : Places) → IsRegionOf heap new → new.books.unit ≡ old.books.unit
-      → HoldsLiveKeys old.books.layout old.books.unit new.seat.held.part.records after
-      → HoldsLiveKeys new.books.layout new.books.unit new.seat.held.part.records after
+      → HoldsLiveKeys old.books.layout old.books.unit new.seat.known.part.records after
+      → HoldsLiveKeys new.books.layout new.books.unit new.seat.known.part.records after
   keys_stay after of_heap unit holds =
-      subst (λ (s : Shape). HoldsLiveKeys s new.books.unit new.seat.held.part.records after) (called.of_heap.layout ∙ sym of_heap.layout)
-      (subst (λ (u : ℕ). HoldsLiveKeys old.books.layout u new.seat.held.part.records after) (sym unit) holds)
+      subst (λ (s : Shape). HoldsLiveKeys s new.books.unit new.seat.known.part.records after) (called.of_heap.layout ∙ sym of_heap.layout)
+      (subst (λ (u : ℕ). HoldsLiveKeys old.books.layout u new.seat.known.part.records after) (sym unit) holds)
 
   -- ---- behind a refusal nothing else is live, or it is halted
   pub unit_uncarried : (q r : CallerShown) (many : ℕ) (why : CallRefusal) → LeavesUncarried heap old new q r many why → IsMapUnit new places
@@ -148,7 +148,7 @@ module _ (heap : HeapShown) (old new : RegionShown) (places : Places) (called : 
     agrees = h.1.ready.runs.agrees;
     kind = kind_stays h.1.ready.runs.of_heap h.1.keeps.of_unit;
     indexed = λ _. keys_stay places h.1.ready.runs.of_heap h.1.keeps.of_unit
-        (keys_of_same_live old.books.layout old.books.unit old.seat.held.part.records new.seat.held.part.records places h.1.keeps.live
+        (keys_of_same_live old.books.layout old.books.unit old.seat.known.part.records new.seat.known.part.records places h.1.keeps.live
         (called.unit.indexed called.running));
   }
   unit_uncarried q r many (Cut unit) h = record {
@@ -162,8 +162,8 @@ module _ (heap : HeapShown) (old new : RegionShown) (places : Places) (called : 
   module _ (q r : CallerShown) (op : Op) (receipt : Receipt) (answered : HasAnsweredCall heap old new q r op receipt) (reply : Reply)
       (changes : List Change) (slot : Option ℕ) (plan : IsPlan old op reply changes)
       (carried : HasCarried old new changes receipt slot) where
-    planned_map : (m : Pairs) × (plan.state ≡ MapOf m) × HasPairs old.books.layout old.books.unit old.seat.held.part.records m
-    planned_map = map_state old.books.layout old.books.unit old.seat.held.part.records plan.state called.unit.kind plan.shown
+    planned_map : (m : Pairs) × (plan.state ≡ MapOf m) × HasPairs old.books.layout old.books.unit old.seat.known.part.records m
+    planned_map = map_state old.books.layout old.books.unit old.seat.known.part.records plan.state called.unit.kind plan.shown
 
     abbrev written : List Held
     written = records_by old.books.unit old.books.identity carried.kept receipt.entry.epoch changes carried.slots
@@ -174,13 +174,13 @@ module _ (heap : HeapShown) (old new : RegionShown) (places : Places) (called : 
 
     few : length changes ≤ 1
     few =
-        let made = AllZip-long (Makes old.books old.seat.held.part.records) (step plan.state op).effects changes plan.makes in
+        let made = AllZip-long (Makes old.books old.seat.known.part.records) (step plan.state op).effects changes plan.makes in
         let effects : length (step plan.state op).effects ≡ length (map_step planned_map.0 op).effects =
         ap (λ (st : State). length (step st op).effects) planned_map.1 in
         let most = few_effects planned_map.0 op in
         omega arith
 
-    keys_behind : HoldsLiveKeys old.books.layout old.books.unit new.seat.held.part.records (places_behind places op slot)
+    keys_behind : HoldsLiveKeys old.books.layout old.books.unit new.seat.known.part.records (places_behind places op slot)
     keys_behind =
         subst (λ (rs : List Held). HoldsLiveKeys old.books.layout old.books.unit rs (places_behind places op slot))
         (sym carried.records_are)
@@ -188,10 +188,10 @@ module _ (heap : HeapShown) (old new : RegionShown) (places : Places) (called : 
         (slot_of_last old.books.unit old.books.identity receipt.entry.epoch carried.kept changes carried.slots few carried.each
         ∙ sym carried.last_is)
         (keys_follow old.books.layout old.books.unit carried.kept places
-        (keys_of_same_live old.books.layout old.books.unit old.seat.held.part.records carried.kept places carried.live
+        (keys_of_same_live old.books.layout old.books.unit old.seat.known.part.records carried.kept places carried.live
         (called.unit.indexed called.running))
         planned_map.0
-        (pairs_of_same_live old.books.layout old.books.unit old.seat.held.part.records carried.kept planned_map.0 carried.live
+        (pairs_of_same_live old.books.layout old.books.unit old.seat.known.part.records carried.kept planned_map.0 carried.live
         planned_map.2)
         op written plan.of_unit effects_are))
 

@@ -50,43 +50,43 @@ module _ (m : Pairs) (op : Op) (key : Key) where
 
 module _ (r : RegionShown) (places : Places) (unit : IsMapUnit r places) (running : r.books.halted ≡ None) where
   abbrev pub the_pairs : Pairs
-  the_pairs = pairs_of (live_objects r.seat.held.part.records)
+  the_pairs = pairs_of (live_objects r.seat.known.part.records)
 
-  pub map_shown : HasPairs r.books.layout r.books.unit r.seat.held.part.records the_pairs
-  map_shown = has_pairs r.books.layout r.books.unit r.seat.held.part.records places (unit.indexed running) unit.agrees.1.apart
+  pub map_shown : HasPairs r.books.layout r.books.unit r.seat.known.part.records the_pairs
+  map_shown = has_pairs r.books.layout r.books.unit r.seat.known.part.records places (unit.indexed running) unit.agrees.1.apart
 
   -- ---- what is found of a key
   pub nothing_found : (key : Key) → finite.get places key ≡ None → HasValue r key None
   nothing_found key e pairs shown =
-      no_value r.books.layout r.books.unit r.seat.held.part.records places (unit.indexed running) pairs shown key e
+      no_value r.books.layout r.books.unit r.seat.known.part.records places (unit.indexed running) pairs shown key e
 
   -- the live record at a place
   pub record Standing (key : Key) (slot : ℕ) : Type 0 where
     pub identity : ℕ
-    pub at : KeptAt r.books.layout r.books.unit r.seat.held.part.records identity key slot
-    pub stands : record_in r.seat.held.part.records slot ≡ Some at.kept
+    pub at : KeptAt r.books.layout r.books.unit r.seat.known.part.records identity key slot
+    pub stands : record_in r.seat.known.part.records slot ≡ Some at.kept
     pub same : at.kept.label.identity ≡ identity
     pub read : pair_in at.kept.body ≡ Some (key, at.value)
 
   pub standing : (key : Key) (slot : ℕ) → finite.get places key ≡ Some slot → Standing key slot
   standing key slot e =
-      let b = at_place r.books.layout r.books.unit r.seat.held.part.records places (unit.indexed running) key slot e in
-      let k : KeptAt r.books.layout r.books.unit r.seat.held.part.records b.0 key slot = b.1 in
-      let live = live_record_of r.seat.held.part.records b.0 k.kept k.live in
+      let b = at_place r.books.layout r.books.unit r.seat.known.part.records places (unit.indexed running) key slot e in
+      let k : KeptAt r.books.layout r.books.unit r.seat.known.part.records b.0 key slot = b.1 in
+      let live = live_record_of r.seat.known.part.records b.0 k.kept k.live in
       record {
         identity = b.0;
         at = k;
-        stands = ap (record_in r.seat.held.part.records) (sym k.in_slot)
-            ∙ record_there r.seat.held.part.records k.kept unit.agrees.1.apart live.there;
+        stands = ap (record_in r.seat.known.part.records) (sym k.in_slot)
+            ∙ record_there r.seat.known.part.records k.kept unit.agrees.1.apart live.there;
         same = live.identity;
         read = (fitted (λ (p : Key × Value). keeps_key r.books.layout r.books.unit p.0) (pair_in k.kept.body) (key, k.value) k.holds).0;
       }
 
-  pub no_record : (key : Key) (slot : ℕ) → finite.get places key ≡ Some slot → record_in r.seat.held.part.records slot ≡ None → ⊥
+  pub no_record : (key : Key) (slot : ℕ) → finite.get places key ≡ Some slot → record_in r.seat.known.part.records slot ≡ None → ⊥
   no_record key slot e none = let b : Standing key slot = standing key slot e in let f = b.stands in absurd (cc)
 
   pub no_pair : (key : Key) (slot : ℕ) (held : Held) → finite.get places key ≡ Some slot
-      → record_in r.seat.held.part.records slot ≡ Some held → pair_in held.body ≡ None → ⊥
+      → record_in r.seat.known.part.records slot ≡ Some held → pair_in held.body ≡ None → ⊥
   no_pair key slot held e is none =
       let b : Standing key slot = standing key slot e in
       let same : held ≡ b.at.kept = same_Some held b.at.kept (sym is ∙ b.stands) in
@@ -95,7 +95,7 @@ module _ (r : RegionShown) (places : Places) (unit : IsMapUnit r places) (runnin
       absurd (cc)
 
   module _ (key : Key) (slot : ℕ) (held : Held) (p : Key × Value) (e : finite.get places key ≡ Some slot)
-      (is : record_in r.seat.held.part.records slot ≡ Some held) (read : pair_in held.body ≡ Some p) where
+      (is : record_in r.seat.known.part.records slot ≡ Some held) (read : pair_in held.body ≡ Some p) where
     same_record : (b : Standing key slot) → held ≡ b.at.kept
     same_record b = same_Some held b.at.kept (sym is ∙ b.stands)
 
@@ -106,14 +106,14 @@ module _ (r : RegionShown) (places : Places) (unit : IsMapUnit r places) (runnin
     pub found_value : HasValue r key (Some p.1)
     found_value pairs shown =
         let b : Standing key slot = standing key slot e in
-        value_kept r.books.layout r.books.unit r.seat.held.part.records places (unit.indexed running) pairs shown b.identity key slot b.at
+        value_kept r.books.layout r.books.unit r.seat.known.part.records places (unit.indexed running) pairs shown b.identity key slot b.at
         ∙ ap Some (sym (same_value b))
 
-    pub found_named : NamesThing r.seat.held.part.records (Pair key p.1) slot held.label.identity
+    pub found_named : NamesThing r.seat.known.part.records (Pair key p.1) slot held.label.identity
     found_named =
         let b : Standing key slot = standing key slot e in record {
           live = b.at.kept;
-          is = ap (λ (i : ℕ). live_of i r.seat.held.part.records)
+          is = ap (λ (i : ℕ). live_of i r.seat.known.part.records)
               (ap (λ (h : Held). h.label.identity) (same_record b) ∙ b.same) ∙ b.at.live;
           in_slot = b.at.in_slot;
           named = (b.at.value, b.read);
@@ -122,18 +122,18 @@ module _ (r : RegionShown) (places : Places) (unit : IsMapUnit r places) (runnin
   -- ---- what is planned
   module _ (op : Op) (is : IsOpOf r.books.layout r.books.unit op) where
     plan_of : (planned : Step) (reply : Reply) (changes : List Change) → map_step the_pairs op ≡ planned → reply ≡ planned.reply
-        → AllZip (Makes r.books r.seat.held.part.records) planned.effects changes → IsPlan r op reply changes
+        → AllZip (Makes r.books r.seat.known.part.records) planned.effects changes → IsPlan r op reply changes
     plan_of planned reply changes same replies makes = record {
       of_unit = is;
       state = MapOf the_pairs;
       shown = record { of_unit = may_have (kind_of r.books.layout r.books.unit) the_pairs unit.kind; things = map_shown };
       replies = replies ∙ ap (λ (st : Step). st.reply) (sym same);
       makes =
-          subst (λ (st : Step). AllZip (Makes r.books r.seat.held.part.records) st.effects changes) (sym same) makes;
+          subst (λ (st : Step). AllZip (Makes r.books r.seat.known.part.records) st.effects changes) (sym same) makes;
     }
 
     abbrev pub IsNamed : Key → Option Found → Type 0
-    IsNamed key found = IfSome found (λ f. NamesThing r.seat.held.part.records (Pair key f.value) f.slot f.identity)
+    IsNamed key found = IfSome found (λ f. NamesThing r.seat.known.part.records (Pair key f.value) f.slot f.identity)
 
     pub put_plan : (key : Key) (value : Value) (found : Option Found) (body : List ℕ) → map_step the_pairs op ≡ pair_put the_pairs key value
         → HasValue r key (value_found found) → IsNamed key found → body ≡ pair_body key value
@@ -141,12 +141,13 @@ module _ (r : RegionShown) (places : Places) (unit : IsMapUnit r places) (runnin
     put_plan key value None body same v n b =
         let none = v the_pairs map_shown in
         plan_of (pair_put the_pairs key value) _ _ same (ap earlier_text (sym none))
-        (subst (λ (t : Bool). AllZip (Makes r.books r.seat.held.part.records) (set_effects t (Pair key value)) (setting None body ∷ []))
+        (subst (λ (t : Bool). AllZip (Makes r.books r.seat.known.part.records) (set_effects t (Pair key value)) (setting None body ∷ []))
         (ap is_some (sym none)) (b, tt))
     put_plan key value (Some f) body same v n b =
         let some = v the_pairs map_shown in
         plan_of (pair_put the_pairs key value) _ _ same (ap earlier_text (sym some))
-        (subst (λ (t : Bool). AllZip (Makes r.books r.seat.held.part.records) (set_effects t (Pair key value)) (setting (Some f) body ∷ []))
+        (subst (λ (t : Bool). AllZip (Makes r.books r.seat.known.part.records) (set_effects t (Pair key value))
+        (setting (Some f) body ∷ []))
         (ap is_some (sym some)) ((record { live = n.live; is = n.is; in_slot = n.in_slot; named = n.named }, b), tt))
 
     pub get_plan : (key : Key) (found : Option Found) → map_step the_pairs op ≡ pair_get the_pairs key
@@ -163,10 +164,10 @@ module _ (r : RegionShown) (places : Places) (unit : IsMapUnit r places) (runnin
     del_plan key None same v n =
         let none = v the_pairs map_shown in
         plan_of (pair_del the_pairs key) _ _ same (ap (λ (o : Option Value). (map_del the_pairs key o).reply) (sym none))
-        (subst (λ (o : Option Value). AllZip (Makes r.books r.seat.held.part.records) (map_del the_pairs key o).effects []) (sym none) tt)
+        (subst (λ (o : Option Value). AllZip (Makes r.books r.seat.known.part.records) (map_del the_pairs key o).effects []) (sym none) tt)
     del_plan key (Some f) same v n =
         let some = v the_pairs map_shown in
         plan_of (pair_del the_pairs key) _ _ same (ap (λ (o : Option Value). (map_del the_pairs key o).reply) (sym some))
-        (subst (λ (o : Option Value). AllZip (Makes r.books r.seat.held.part.records) (map_del the_pairs key o).effects
+        (subst (λ (o : Option Value). AllZip (Makes r.books r.seat.known.part.records) (map_del the_pairs key o).effects
         (changes_of (removal (Some f))))
         (sym some) (n, tt))

@@ -11,7 +11,7 @@ use Rattle.shard_map.specs.declared.map_plan.Found.{Found}
 -- the value of a key in the map that the records show
 abbrev pub HasValue : RegionShown → Key → Option Value → Type 0
 HasValue r key value = (pairs : Pairs)
-    → HasPairs r.books.layout r.books.unit r.seat.held.part.records pairs
+    → HasPairs r.books.layout r.books.unit r.seat.known.part.records pairs
     → finite.get pairs key ≡ value
 
 abbrev pub value_found : Option Found → Option Value

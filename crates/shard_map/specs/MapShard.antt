@@ -24,7 +24,7 @@ map_shown_code =
 -- The index has the live keys, unless a caller was cut in the unit.
 abbrev pub HasIndex : RegionShown → Places → Type 0
 HasIndex r places = r.books.halted ≡ None
-    → HoldsLiveKeys r.books.layout r.books.unit r.seat.held.part.records places
+    → HoldsLiveKeys r.books.layout r.books.unit r.seat.known.part.records places
 
 -- a unit of this kind, if there is one, is a map or an ordered unit
 abbrev pub KeepsPairs : Option UnitKind → Type 0

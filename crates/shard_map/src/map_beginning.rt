@@ -24,7 +24,7 @@ impl<I: Index> MapShard<I> {
         requires layout { region.books.layout ≡ layout }
         requires kind { KeepsPairs (kind_of layout region.books.unit) }
         requires agrees { Agrees region }
-        requires none { (identity : ℕ) → live_of identity region.seat.held.part.records ≡ None }
+        requires none { (identity : ℕ) → live_of identity region.seat.known.part.records ≡ None }
         requires empty { finite.len (I.places index) ≡ 0 }
         ensures region { result.region ≡ region }
         ensures index { result.places ≡ finite.empty }
@@ -47,13 +47,13 @@ impl<I: Index> MapShard<I> {
         requires layout { region.books.layout ≡ layout }
         requires kind { KeepsPairs (kind_of layout region.books.unit) }
         requires agrees { Agrees region }
-        requires live { objects.now ≡ live_objects region.seat.held.part.records }
+        requires live { objects.now ≡ live_objects region.seat.known.part.records }
         requires structure { (state : State)
             × IsStructure layout region.books.unit objects.now state }
         requires empty { finite.len (I.places index) ≡ 0 }
         ensures region { IfOk result (λ m. m.region ≡ region) }
         ensures index { IfOk result (λ m. HoldsLiveKeys layout region.books.unit
-            region.seat.held.part.records m.places) }
+            region.seat.known.part.records m.places) }
     {
         prove!(matches!(
             layout.kind(region.unit()),

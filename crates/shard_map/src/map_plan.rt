@@ -69,7 +69,7 @@ pub(crate) fn find<I: Index>(region: &Region, index: &I, key: &Text) -> Option<F
     requires unit { IsMapUnit region.now (I.places index.now) }
     requires running { region.now.books.halted ≡ None }
     ensures value { HasValue region.now key.now (value_found result) }
-    ensures named { IfSome result (λ found. NamesThing region.now.seat.held.part.records
+    ensures named { IfSome result (λ found. NamesThing region.now.seat.known.part.records
         (Pair key.now found.value) found.slot found.identity) }
 {
     let slot = index.find(*key)?;

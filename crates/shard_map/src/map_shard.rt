@@ -59,7 +59,7 @@ impl<I: Index> MapShard<I> {
         requires running { self.now.region.books.halted ≡ None }
         ensures value { HasValue self.now.region key.now (value_found result) }
         ensures named { IfSome result (λ found. NamesThing
-            self.now.region.seat.held.part.records (Pair key.now found.value) found.slot
+            self.now.region.seat.known.part.records (Pair key.now found.value) found.slot
             found.identity) }
     {
         find(&self.region, &self.index, key)

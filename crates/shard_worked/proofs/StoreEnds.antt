@@ -30,23 +30,23 @@ dealt_made heap map queue graph advancer first second dealt also next of_map of_
     subst (λ (x : UnitShown × UnitShown). AreDealt heap x.0 x.1 graph advancer first second) (λ i. (sym of_map i, sym of_queue i)) dealt
 
 module _ (heap : HeapShown) (clean : IsTrue (are_clean (units_of heap.opening.layout) (clean_at heap.opening))) where
-  standing : (u : ℕ) (r : RegionShown) → r.seat ≡ record { table = heap.table; held = first_unit heap.opening u } → IsBookedFor heap u r
+  standing : (u : ℕ) (r : RegionShown) → r.seat ≡ record { table = heap.table; known = first_unit heap.opening u } → IsBookedFor heap u r
       → IsStanding heap r
   standing u r is booked = record {
     of_heap = record { table = ap (λ (s : UnitShown). s.table) is; layout = booked.layout };
-    clean = subst (λ (s : UnitShown). IsTrue (are_clean (units_of heap.opening.layout) s.held.clean)) (sym is) clean;
-    home = ap (λ (s : UnitShown). s.held.turn.out) is;
+    clean = subst (λ (s : UnitShown). IsTrue (are_clean (units_of heap.opening.layout) s.known.clean)) (sym is) clean;
+    home = ap (λ (s : UnitShown). s.known.turn.out) is;
     idle = λ _. record {
       rests = record {
-        stage = ap (λ (s : UnitShown). s.held.part.stage) is;
-        written = ap (λ (s : UnitShown). s.held.part.written) is;
-        writing = ap (λ (s : UnitShown). s.held.part.writing) is;
+        stage = ap (λ (s : UnitShown). s.known.part.stage) is;
+        written = ap (λ (s : UnitShown). s.known.part.written) is;
+        writing = ap (λ (s : UnitShown). s.known.part.writing) is;
       };
-      home = ap (λ (s : UnitShown). s.held.turn) is;
+      home = ap (λ (s : UnitShown). s.known.turn) is;
     };
   }
 
-  aside : (u : ℕ) (s : UnitShown) → s ≡ record { table = heap.table; held = first_unit heap.opening u } → IsAside heap u s
+  aside : (u : ℕ) (s : UnitShown) → s ≡ record { table = heap.table; known = first_unit heap.opening u } → IsAside heap u s
   aside u s is = subst (IsAside heap u) (sym is) (record { of_unit = (refl, refl); home = refl })
 
   module _ (map queue : RegionShown) (graph : UnitShown) (advancer : AdvShown) (first second : CallerShown)
@@ -68,8 +68,8 @@ module _ (heap : HeapShown) (clean : IsTrue (are_clean (units_of heap.opening.la
       queue_unit = of_queue.unit_is;
       of_graph = aside 2 graph dealt.of_graph;
       of_advancer = of_heap;
-      of_first = (ap (λ (q : CallerShown). q.table) dealt.of_first, ap (λ (q : CallerShown). q.held.caller) dealt.of_first);
-      of_second = (ap (λ (q : CallerShown). q.table) dealt.of_second, ap (λ (q : CallerShown). q.held.caller) dealt.of_second);
+      of_first = (ap (λ (q : CallerShown). q.table) dealt.of_first, ap (λ (q : CallerShown). q.known.caller) dealt.of_first);
+      of_second = (ap (λ (q : CallerShown). q.table) dealt.of_second, ap (λ (q : CallerShown). q.known.caller) dealt.of_second);
     }
 
     -- with what is made of the seats
@@ -119,4 +119,4 @@ module _ (heap : HeapShown) (map queue : RegionShown) (graph : UnitShown) (advan
 
   pub all_home : (units : List UnitShown) → units ≡ map.seat ∷ queue.seat ∷ graph ∷ [] → AreAtHome units
   all_home units are = subst AreAtHome (sym are)
-      (all_at (λ (s : UnitShown). s.held.turn.out ≡ false) (map.seat ∷ queue.seat ∷ graph ∷ []) (λ u s e. (each_aside u s e).home))
+      (all_at (λ (s : UnitShown). s.known.turn.out ≡ false) (map.seat ∷ queue.seat ∷ graph ∷ []) (λ u s e. (each_aside u s e).home))

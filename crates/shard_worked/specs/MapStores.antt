@@ -30,13 +30,13 @@ pub record IsSettled (s : Shape) (image : List ℕ) : Type 0 where
 pub record AreDealt
     (heap : HeapShown) (map queue graph : UnitShown) (advancer : AdvShown)
     (first second : CallerShown) : Type 0 where
-  pub of_map : map ≡ record { table = heap.table; held = first_unit heap.opening 0 }
-  pub of_queue : queue ≡ record { table = heap.table; held = first_unit heap.opening 1 }
-  pub of_graph : graph ≡ record { table = heap.table; held = first_unit heap.opening 2 }
+  pub of_map : map ≡ record { table = heap.table; known = first_unit heap.opening 0 }
+  pub of_queue : queue ≡ record { table = heap.table; known = first_unit heap.opening 1 }
+  pub of_graph : graph ≡ record { table = heap.table; known = first_unit heap.opening 2 }
   pub of_advancer : advancer
-      ≡ record { table = heap.table; held = first_advancer heap.opening }
-  pub of_first : first ≡ record { table = heap.table; held = first_caller heap.opening 0 }
-  pub of_second : second ≡ record { table = heap.table; held = first_caller heap.opening 1 }
+      ≡ record { table = heap.table; known = first_advancer heap.opening }
+  pub of_first : first ≡ record { table = heap.table; known = first_caller heap.opening 0 }
+  pub of_second : second ≡ record { table = heap.table; known = first_caller heap.opening 1 }
 
 -- the books of a region are of this unit of the heap
 pub record IsBookedFor (heap : HeapShown) (unit : ℕ) (r : RegionShown) : Type 0 where
@@ -46,7 +46,7 @@ pub record IsBookedFor (heap : HeapShown) (unit : ℕ) (r : RegionShown) : Type 
 -- the seat of a unit that nothing is done with
 pub record IsAside (heap : HeapShown) (unit : ℕ) (s : UnitShown) : Type 0 where
   pub of_unit : IsSeatOfUnit heap unit s
-  pub home : s.held.turn.out ≡ false
+  pub home : s.known.turn.out ≡ false
 
 -- no call is under way, and all seats of the heap are there
 pub record IsAtWork

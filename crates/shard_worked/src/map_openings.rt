@@ -8,7 +8,7 @@ ghost use Rattle.mont_base.specs.Structure.{IsStructure};
 ghost use Rattle.mont_base.specs.Versions.{live_objects};
 ghost use Rattle.heap_rule.specs.Views.{are_clean, clean_at, first_unit};
 ghost use Rattle.heap.specs.Opens.{Opens};
-ghost use Rattle.slots.specs.Beginning.{first_books};
+ghost use Rattle.slots.specs.RegionBeginning.{first_books};
 ghost use Rattle.slots.specs.Books.{Agrees};
 ghost use Rattle.shard_worked.specs.MapStores.{AreDealt, IsBookedFor, IsOneOfEach, IsSettled, two_open};
 
@@ -82,7 +82,7 @@ fn begin<I: Index>(
     requires agrees { Agrees shard.region }
     requires queue { IsBookedFor heap 1 queue.region }
     requires clean { IsTrue (are_clean (units_of heap.opening.layout) (clean_at heap.opening)) }
-    requires clock { clock ≡ others.advancer.held.clock }
+    requires clock { clock ≡ others.advancer.known.clock }
     requires last { clock ≤ LAST }
 {
     let advancer = Advancer::new(heap.layout(), others.advancer, clock);
@@ -154,12 +154,12 @@ fn recovered(
     requires three { units_of layout ≡ 3 }
     requires settles { IsSettled layout image.now }
     requires inside { unit < 3 }
-    requires seat { seat.held ≡ first_unit (two_open layout image.now) unit }
+    requires seat { seat.known ≡ first_unit (two_open layout image.now) unit }
     ensures seat { IfOk result (λ r. r.0.seat ≡ seat) }
     ensures books { IfOk result (λ r. r.0.books
         ≡ first_books layout unit (records_of layout image.now unit) []) }
     ensures agrees { IfOk result (λ r. Agrees r.0) }
-    ensures objects { IfOk result (λ r. r.1.items ≡ live_objects r.0.seat.held.part.records) }
+    ensures objects { IfOk result (λ r. r.1.items ≡ live_objects r.0.seat.known.part.records) }
     ensures structure { IfOk result (λ r. (state : State)
         × IsStructure layout unit r.1.items state) }
 {

@@ -166,7 +166,7 @@ fn sync_named<N: HeapName>(
     requires pass { pass.old.ticket.table ≡ heap.now.table }
     ensures advancer { IsAdvancerOf N.heap result.0 }
     ensures table { pass.new.ticket.table ≡ pass.old.ticket.table }
-    ensures caller { pass.new.ticket.held.caller ≡ pass.old.ticket.held.caller }
+    ensures caller { pass.new.ticket.known.caller ≡ pass.old.ticket.known.caller }
 {
     let advancer = Mutex::new(Named::<N, Advancer>::new(advancer));
     let answer = sync(rt, heap, &advancer, pass);

@@ -14,7 +14,7 @@ use Rattle.mont_laws.specs.Retiring.{Retires, IsIn}
 use Rattle.mont_laws.proofs.Members.{first_element, later_element}
 use Rattle.mont_laws.proofs.UnitSlots.{unit_of_member}
 use Rattle.mont_laws.proofs.Unretired.{live_left}
-use Rattle.slots.specs.Beginning.{is_among, is_closed, free_at_first, serial_of}
+use Rattle.slots.specs.RegionBeginning.{is_among, is_closed, free_at_first, serial_of}
 use Rattle.slots.specs.Books.{slots_in, record_in, row_in, rows_of}
 use Rattle.slots.specs.Finding.{marked, mark_at, is_unused, serials_left}
 use Rattle.slots.proofs.RowFacts.{range_row, range_set, place_of_slot, row_of_slot}

@@ -22,7 +22,7 @@ use Rattle.mont_laws.proofs.UnitSlots.{unit_of_member}
 use Rattle.core_steps.specs.Opened.{by_version}
 use Rattle.core_steps.proofs.VersionOrder.{versions_rise, versions_same}
 use Rattle.heap.specs.HeapShown.{UnitShown}
-use Rattle.slots.specs.Beginning.{BeginsWith, AreFound, greatest, identities_in, is_among, is_closed, free_at_first, first_books}
+use Rattle.slots.specs.RegionBeginning.{BeginsWith, AreFound, greatest, identities_in, is_among, is_closed, free_at_first, first_books}
 use Rattle.slots.specs.Books.{BooksShown, RegionShown, AreBooks, Agrees, times, slots_in, HasLowerIdentity}
 use Rattle.slots.proofs.Times.{times_cons, times_here, times_else, times_there, times_more, OtherSlots}
 use Rattle.slots.proofs.Opens.{free_once}
@@ -306,7 +306,7 @@ module _ (s : Shape) (u : ℕ) (layout : IsLayout s) (inside : u < units_of s) (
     halted_is = refl;
   }
 
-  pub found_region : (seat : UnitShown) (books : BooksShown) → seat.held.unit ≡ u → BeginsWith seat.held.part recs lost
+  pub found_region : (seat : UnitShown) (books : BooksShown) → seat.known.unit ≡ u → BeginsWith seat.known.part recs lost
       → books ≡ first_books s u recs lost → (let r : RegionShown = record { seat = seat; books = books } in Agrees r)
   found_region seat books of_unit starts is =
       subst (λ (b : BooksShown). let r : RegionShown = record { seat = seat; books = b } in Agrees r) (sym is) (

@@ -17,7 +17,7 @@ use Rattle.mont_laws.specs.Retiring.{retired_among}
 use Rattle.core_steps.specs.Opened.{by_version}
 use Rattle.core_steps.proofs.VersionOrder.{versions_same}
 use Rattle.heap.specs.HeapShown.{UnitShown}
-use Rattle.slots.specs.Beginning.{BeginsWith, fresh_books}
+use Rattle.slots.specs.RegionBeginning.{BeginsWith, fresh_books}
 use Rattle.slots.specs.Books.{BooksShown, RegionShown, AreBooks, Agrees, times}
 use Rattle.slots.proofs.Times.{times_range, times_outside}
 use Rattle.slots.proofs.RowFacts.{range_copies, place_of_slot}
@@ -82,7 +82,7 @@ module _ (s : Shape) (u : ℕ) (layout : IsLayout s) (inside : u < units_of s) w
     halted_is = refl;
   }
 
-  pub fresh_agrees : (seat : UnitShown) → seat.held.unit ≡ u → BeginsWith seat.held.part [] []
+  pub fresh_agrees : (seat : UnitShown) → seat.known.unit ≡ u → BeginsWith seat.known.part [] []
       → Agrees (record { seat = seat; books = fresh_books s u })
   fresh_agrees seat of_unit starts = (
     sym of_unit,
@@ -99,7 +99,7 @@ module _ (s : Shape) (u : ℕ) (layout : IsLayout s) (inside : u < units_of s) w
         fresh_are,
   )
 
-  pub fresh_region : (seat : UnitShown) (books : BooksShown) → seat.held.unit ≡ u → BeginsWith seat.held.part [] []
+  pub fresh_region : (seat : UnitShown) (books : BooksShown) → seat.known.unit ≡ u → BeginsWith seat.known.part [] []
       → books ≡ fresh_books s u
       → (let r : RegionShown = record { seat = seat; books = books } in Agrees r)
   fresh_region seat books of_unit starts is =

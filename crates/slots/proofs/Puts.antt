@@ -21,7 +21,7 @@ use Rattle.mont_laws.proofs.Newest.{IsNewest, newest_is}
 use Rattle.mont_laws.proofs.Members.{first_element}
 use Rattle.core_steps.specs.Storing.{IsFreeSlot}
 use Rattle.heap.specs.HeapShown.{HeapShown, UnitShown}
-use Rattle.heap_rule.specs.declared.views.UnitHeld.{UnitHeld}
+use Rattle.heap_rule.specs.declared.views.UnitKnown.{UnitKnown}
 use Rattle.heap_rule.specs.Views.{are_clean}
 use Rattle.slots.specs.declared.books.Written.{Written}
 use Rattle.slots.specs.Books.{BooksShown, RegionShown, AreBooks, AreBooksOf, Agrees, IsRegionOf, StaysOpen, times, slots_in, record_in, slot_before, as_written, HasLowerIdentity}
@@ -200,10 +200,10 @@ module _ (r : RegionShown) (change : Change) (epoch slot : ℕ) (agrees : Agrees
   free_shape = front_is slot r.books.free first
 
   -- the first free slot may be written
-  pub may_store : (heap : HeapShown) (w : Held) → IsRegionOf heap r → r.books.halted ≡ None → MayWrite r.seat.held.part epoch
-      → w ≡ put_by r change epoch slot → IsRecordOf r.books.unit w → MayStore heap.opening.layout r.seat.held w
+  pub may_store : (heap : HeapShown) (w : Held) → IsRegionOf heap r → r.books.halted ≡ None → MayWrite r.seat.known.part epoch
+      → w ≡ put_by r change epoch slot → IsRecordOf r.books.unit w → MayStore heap.opening.layout r.seat.known w
   may_store heap w region running writes is valid =
-      let p = r.seat.held.part in
+      let p = r.seat.known.part in
       let slot_is : w.slot ≡ slot = ap (λ (x : Held). x.slot) is in
       let free = free_slot p.records p.retired p.lost p.written p.history p.frozen r.books agrees.1 p refl refl refl slot
       (subst (λ (l : List ℕ). Contains l slot) (sym free_shape) (first_element slot (drop 1 r.books.free))) in
@@ -220,13 +220,13 @@ module _ (r : RegionShown) (change : Change) (epoch slot : ℕ) (agrees : Agrees
   room_to_write =
       let many = agrees.1.slots.many in
       let short : length r.books.free ≡ length (slot ∷ drop 1 r.books.free) = ap length free_shape in
-      let written = ap length agrees.1.written_are ∙ length-map r.seat.held.part.written (as_written r.seat.held.part.records) in
+      let written = ap length agrees.1.written_are ∙ length-map r.seat.known.part.written (as_written r.seat.known.part.records) in
       omega arith
 
   -- it was
-  pub region_put : (w : Held) (before : Option ℕ) (seat : UnitShown) (books : BooksShown) → CanPut r.books r.seat.held.part.records change
+  pub region_put : (w : Held) (before : Option ℕ) (seat : UnitShown) (books : BooksShown) → CanPut r.books r.seat.known.part.records change
       → w ≡ put_by r change epoch slot → before ≡ slot_named change → IsRecordOf r.books.unit w
-      → seat ≡ record r.seat { held = unit_put r.seat.held w }
+      → seat ≡ record r.seat { known = unit_put r.seat.known w }
       → books ≡ record r.books {
         free = drop 1 r.books.free;
         written = r.books.written ++ (let one : Written = record { held = w; before = before } in one) ∷ [];
@@ -240,10 +240,10 @@ module _ (r : RegionShown) (change : Change) (epoch slot : ℕ) (agrees : Agrees
   )
     where
       seat_is : seat ≡ seat_put r change epoch slot
-      seat_is = s ∙ (λ i. record r.seat { held = unit_put r.seat.held (is i) })
+      seat_is = s ∙ (λ i. record r.seat { known = unit_put r.seat.known (is i) })
 
-      before_is : before ≡ slot_before r.seat.held.part.records (put_by r change epoch slot)
-      before_is = let p = r.seat.held.part in
+      before_is : before ≡ slot_before r.seat.known.part.records (put_by r change epoch slot)
+      before_is = let p = r.seat.known.part in
           named ∙ before_named p.records p.retired p.lost p.written p.history p.frozen r.books agrees.1 change epoch slot may.names
 
       books_are : books ≡ books_put r change epoch slot (drop 1 r.books.free)
@@ -257,7 +257,7 @@ module _ (r : RegionShown) (change : Change) (epoch slot : ℕ) (agrees : Agrees
       follows : (let x : RegionShown =
           record { seat = seat_put r change epoch slot; books = books_put r change epoch slot (drop 1 r.books.free) } in
           Agrees x)
-      follows = let p = r.seat.held.part in (
+      follows = let p = r.seat.known.part in (
         agrees.0,
         put_books p.records p.retired p.lost p.written p.history p.frozen r.books agrees.1 (put_by r change epoch slot)
             (drop 1 r.books.free)
@@ -278,18 +278,18 @@ module _ (r : RegionShown) (change : Change) (epoch slot : ℕ) (agrees : Agrees
     by cut,
   )
     where
-      by : IsUnfinishedAt r.seat seat w → (r.books.unit ≡ seat.held.unit) × AreBooksOf seat.held.part r.books
-      by (inl e) = subst (λ (x : UnitShown). (r.books.unit ≡ x.held.unit) × AreBooksOf x.held.part r.books) (sym e) agrees
-      by (inr c) = subst (λ (x : UnitHeld). (r.books.unit ≡ x.unit) × AreBooksOf x.part r.books) (sym c.1.shows) agrees
+      by : IsUnfinishedAt r.seat seat w → (r.books.unit ≡ seat.known.unit) × AreBooksOf seat.known.part r.books
+      by (inl e) = subst (λ (x : UnitShown). (r.books.unit ≡ x.known.unit) × AreBooksOf x.known.part r.books) (sym e) agrees
+      by (inr c) = subst (λ (x : UnitKnown). (r.books.unit ≡ x.unit) × AreBooksOf x.part r.books) (sym c.1.shows) agrees
 
   -- the heap and the history are as before
   pub put_open : (heap : HeapShown) (w : Held) (seat : UnitShown) (books : BooksShown) → IsRegionOf heap r → r.books.halted ≡ None
       → books.layout ≡ r.books.layout → books.halted ≡ r.books.halted
-      → (seat ≡ record r.seat { held = unit_put r.seat.held w }) ⊎ IsUnfinishedAt r.seat seat w
+      → (seat ≡ record r.seat { known = unit_put r.seat.known w }) ⊎ IsUnfinishedAt r.seat seat w
       → (let new : RegionShown = record { seat = seat; books = books } in StaysOpen heap r new)
   put_open heap w seat books region running layout halted shows = by shows
     where
-      opened : seat.table ≡ r.seat.table → seat.held.part.history ≡ r.seat.held.part.history → seat.held.clean ≡ r.seat.held.clean
+      opened : seat.table ≡ r.seat.table → seat.known.part.history ≡ r.seat.known.part.history → seat.known.clean ≡ r.seat.known.clean
           → (let new : RegionShown = record { seat = seat; books = books } in StaysOpen heap r new)
       opened table history clean = record {
         of_heap = record { table = table ∙ region.table; layout = layout ∙ region.layout };
@@ -298,10 +298,10 @@ module _ (r : RegionShown) (change : Change) (epoch slot : ℕ) (agrees : Agrees
         clean = λ was. subst (λ (l : List ℕ). IsTrue (are_clean (units_of heap.opening.layout) l)) (sym clean) was;
       }
 
-      by : (seat ≡ record r.seat { held = unit_put r.seat.held w }) ⊎ IsUnfinishedAt r.seat seat w
+      by : (seat ≡ record r.seat { known = unit_put r.seat.known w }) ⊎ IsUnfinishedAt r.seat seat w
           → (let new : RegionShown = record { seat = seat; books = books } in StaysOpen heap r new)
-      by (inl e) = opened (ap (λ (x : UnitShown). x.table) e) (ap (λ (x : UnitShown). x.held.part.history) e)
-          (ap (λ (x : UnitShown). x.held.clean) e)
-      by (inr (inl e)) = opened (ap (λ (x : UnitShown). x.table) e) (ap (λ (x : UnitShown). x.held.part.history) e)
-          (ap (λ (x : UnitShown). x.held.clean) e)
-      by (inr (inr c)) = opened c.0 (ap (λ (x : UnitHeld). x.part.history) c.1.shows) (ap (λ (x : UnitHeld). x.clean) c.1.shows)
+      by (inl e) = opened (ap (λ (x : UnitShown). x.table) e) (ap (λ (x : UnitShown). x.known.part.history) e)
+          (ap (λ (x : UnitShown). x.known.clean) e)
+      by (inr (inl e)) = opened (ap (λ (x : UnitShown). x.table) e) (ap (λ (x : UnitShown). x.known.part.history) e)
+          (ap (λ (x : UnitShown). x.known.clean) e)
+      by (inr (inr c)) = opened c.0 (ap (λ (x : UnitKnown). x.part.history) c.1.shows) (ap (λ (x : UnitKnown). x.clean) c.1.shows)

@@ -16,7 +16,7 @@ use Rattle.core_steps.specs.declared.parts.UnitPart.{UnitPart}
 use Rattle.core_steps.specs.Closing.{IsFirstDue, CanClose, CanPersistClose, without_retired, without_lost}
 use Rattle.core_steps.specs.Stages.{is_empty}
 use Rattle.heap.specs.HeapShown.{HeapShown, UnitShown}
-use Rattle.heap_rule.specs.declared.views.UnitHeld.{UnitHeld}
+use Rattle.heap_rule.specs.declared.views.UnitKnown.{UnitKnown}
 use Rattle.heap_rule.specs.Plays.{IsDurable}
 use Rattle.heap_rule.specs.Views.{are_clean, is_among, with_clean, unit_closed, unit_persisted, unit_loaded_durable}
 use Rattle.slots.specs.Books.{BooksShown, RegionShown, AreBooks, AreBooksOf, Agrees, IsRegionOf, IsAtRest, StaysClean, StaysOpen, books_showing}
@@ -74,57 +74,57 @@ module _ (recs : List Held) (lost : List ℕ) (h : List Entry) (frozen : Option 
       (closed_books recs t ts lost h frozen b j))
 
 -- ---- of a region
-module _ (r : RegionShown) (slot : ℕ) (agrees : Agrees r) (rests : IsAtRest r.seat.held.part)
-    (due : IsFirstDue r.books.retired r.seat.held.part.durable slot) where
-  due_in_part : IsFirstDue r.seat.held.part.retired r.seat.held.part.durable slot
-  due_in_part = subst (λ (l : List Retired). IsFirstDue l r.seat.held.part.durable slot) agrees.1.retired_are due
+module _ (r : RegionShown) (slot : ℕ) (agrees : Agrees r) (rests : IsAtRest r.seat.known.part)
+    (due : IsFirstDue r.books.retired r.seat.known.part.durable slot) where
+  due_in_part : IsFirstDue r.seat.known.part.retired r.seat.known.part.durable slot
+  due_in_part = subst (λ (l : List Retired). IsFirstDue l r.seat.known.part.durable slot) agrees.1.retired_are due
 
-  pub may_close : r.books.halted ≡ None → CanClose r.seat.held.part slot
+  pub may_close : r.books.halted ≡ None → CanClose r.seat.known.part slot
   may_close running = record { unfrozen = sym agrees.1.halted_is ∙ running; stage = rests.stage; due = inl due_in_part }
 
-  pub may_persist : r.books.halted ≡ None → CanPersistClose (unit_closed r.seat.held slot).part slot
+  pub may_persist : r.books.halted ≡ None → CanPersistClose (unit_closed r.seat.known slot).part slot
   may_persist running = record { unfrozen = sym agrees.1.halted_is ∙ running; stage = refl }
 
   pub due_own_slot : unit_of_slot r.books.layout slot ≡ r.books.unit
-  due_own_slot = let p = r.seat.held.part in
+  due_own_slot = let p = r.seat.known.part in
       due_in_unit p.records p.lost p.history p.frozen r.books p.durable slot p.retired p.written agrees.1 rests.written due_in_part
 
   pub due_inside : slot < total_of r.books.layout
-  due_inside = let p = r.seat.held.part in
+  due_inside = let p = r.seat.known.part in
       slot_inside p.records p.retired p.lost p.written p.history p.frozen r.books agrees.1 slot due_own_slot
 
   pub room_for : length r.books.free < r.books.layout.slots
-  room_for = let p = r.seat.held.part in
+  room_for = let p = r.seat.known.part in
       room_for_due p.records p.lost p.history p.frozen r.books p.durable slot p.retired p.written agrees.1 rests.written due_in_part
 
-  pub closed_follow : AreBooksOf (unit_persisted (unit_closed r.seat.held slot) slot).part (books_closed r.books slot)
-  closed_follow = let p = r.seat.held.part in
+  pub closed_follow : AreBooksOf (unit_persisted (unit_closed r.seat.known slot) slot).part (books_closed r.books slot)
+  closed_follow = let p = r.seat.known.part in
       books_follow p.records p.lost p.history p.frozen r.books p.durable slot p.retired p.written agrees.1 rests.written due_in_part
 
   -- the region is then the one with its first retired slot closed
   pub closed_is : (seat : UnitShown) (books : BooksShown)
-      → seat ≡ record r.seat { held = unit_persisted (unit_closed r.seat.held slot) slot } → books ≡ books_closed r.books slot
+      → seat ≡ record r.seat { known = unit_persisted (unit_closed r.seat.known slot) slot } → books ≡ books_closed r.books slot
       → (let now : RegionShown = record { seat = seat; books = books } in now ≡ first_closed r slot)
   closed_is seat books s b = λ i. record {
     seat = s i;
-    books = (b ∙ books_shown (unit_persisted (unit_closed r.seat.held slot) slot).part (books_closed r.books slot) closed_follow) i;
+    books = (b ∙ books_shown (unit_persisted (unit_closed r.seat.known slot) slot).part (books_closed r.books slot) closed_follow) i;
   }
 
   pub closed_agrees : (now : RegionShown) → now ≡ first_closed r slot → Agrees now
   closed_agrees now e = subst Agrees (sym e) (
     agrees.0,
-    subst (AreBooksOf (unit_persisted (unit_closed r.seat.held slot) slot).part)
-        (books_shown (unit_persisted (unit_closed r.seat.held slot) slot).part (books_closed r.books slot) closed_follow) closed_follow,
+    subst (AreBooksOf (unit_persisted (unit_closed r.seat.known slot) slot).part)
+        (books_shown (unit_persisted (unit_closed r.seat.known slot) slot).part (books_closed r.books slot) closed_follow) closed_follow,
   )
 
 -- a cut of it leaves the books
 pub cut_agrees : (r now : RegionShown) (slot : ℕ) → Agrees r → WasCutClosingFirst r now slot → Agrees now
 cut_agrees r now slot agrees c = by c.held_is
   where
-    by : (now.seat.held ≡ r.seat.held) ⊎ (now.seat.held ≡ unit_closed r.seat.held slot) → Agrees now
-    by (inl g) = subst (λ (x : BooksShown × UnitHeld). (x.0.unit ≡ x.1.unit) × AreBooksOf x.1.part x.0)
+    by : (now.seat.known ≡ r.seat.known) ⊎ (now.seat.known ≡ unit_closed r.seat.known slot) → Agrees now
+    by (inl g) = subst (λ (x : BooksShown × UnitKnown). (x.0.unit ≡ x.1.unit) × AreBooksOf x.1.part x.0)
         (λ i. (sym c.books_are i, sym g i)) agrees
-    by (inr g) = subst (λ (x : BooksShown × UnitHeld). (x.0.unit ≡ x.1.unit) × AreBooksOf x.1.part x.0)
+    by (inr g) = subst (λ (x : BooksShown × UnitKnown). (x.0.unit ≡ x.1.unit) × AreBooksOf x.1.part x.0)
         (λ i. (sym c.books_are i, sym g i)) agrees
 
 -- ---- all that is due
@@ -134,18 +134,18 @@ pub record IsReclaiming (heap : HeapShown) (old now : RegionShown) (clock : ℕ)
   pub due : due_at clock old.books.retired ≡ closed ++ due_at clock now.books.retired
   pub has : HasClosed old now clock closed
   pub agrees : Agrees now
-  pub rests : IsAtRest now.seat.held.part
+  pub rests : IsAtRest now.seat.known.part
   pub running : now.books.halted ≡ None
   pub region : IsRegionOf heap now
-  pub known : now.seat.held.part.durable ≡ clock
+  pub known : now.seat.known.part.durable ≡ clock
   pub clean : (units : ℕ) → StaysClean units old now
   pub live : KeepsLive old now
   pub begun : clock_of heap.opening.words ≤ clock
   pub sound : IsSound heap now
 
 pub begins : (heap : HeapShown) (old now : RegionShown) (clock : ℕ) → IsRegionOf heap old → Agrees old → old.books.halted ≡ None
-    → IsAtRest old.seat.held.part
-    → now ≡ record { seat = record old.seat { held = unit_loaded_durable old.seat.held clock }; books = old.books }
+    → IsAtRest old.seat.known.part
+    → now ≡ record { seat = record old.seat { known = unit_loaded_durable old.seat.known clock }; books = old.books }
     → clock_of heap.opening.words ≤ clock → IsSound heap now → IsReclaiming heap old now clock
 begins heap old now clock region agrees running rests is begun sound =
     subst (λ (x : RegionShown). IsReclaiming heap old x clock) (sym is) (record {
@@ -153,7 +153,7 @@ begins heap old now clock region agrees running rests is begun sound =
       due = refl;
       has = record {
         seat_is = refl;
-        books_are = λ i. record (books_shown old.seat.held.part old.books agrees.1 i) { free = sym (append-nil old.books.free) i };
+        books_are = λ i. record (books_shown old.seat.known.part old.books agrees.1 i) { free = sym (append-nil old.books.free) i };
         queue_is = refl;
         others_are = refl;
         part_is = refl;
@@ -195,7 +195,7 @@ still_clean units u clean p c = by (is_empty p.lost)
     by true = more units c
     by false = c
 
-emptied_push : (h : UnitHeld) (closed : List Retired) (t : Retired)
+emptied_push : (h : UnitKnown) (closed : List Retired) (t : Retired)
     → unit_emptied h (closed ++ t ∷ []) ≡ unit_persisted (unit_closed (unit_emptied h closed) t.slot) t.slot
 emptied_push h [] t = refl
 emptied_push h (c ∷ closed) t = emptied_push (unit_persisted (unit_closed h c.slot) c.slot) closed t
@@ -232,39 +232,39 @@ due_cons clock t ts e = take_while-cons (is_due clock) t ts ∙ ap (λ (c : Bool
 
 module _ (heap : HeapShown) (old now : RegionShown) (clock : ℕ) (k : IsReclaiming heap old now clock) where
   pub due_now : (slot : ℕ) → first_due clock now.books.retired ≡ Some slot
-      → IsFirstDue now.books.retired now.seat.held.part.durable slot
+      → IsFirstDue now.books.retired now.seat.known.part.durable slot
   due_now slot e = subst (λ (n : ℕ). IsFirstDue now.books.retired n slot) (sym k.known) (due_first clock slot now.books.retired e)
 
-  held_now : now.seat.held ≡ unit_emptied (unit_loaded_durable old.seat.held clock) k.closed
-  held_now = ap (λ (x : UnitShown). x.held) k.has.seat_is
+  held_now : now.seat.known ≡ unit_emptied (unit_loaded_durable old.seat.known clock) k.closed
+  held_now = ap (λ (x : UnitShown). x.known) k.has.seat_is
 
   -- one more
   module _ (t : Retired) (ts : List Retired) (shape : now.books.retired ≡ t ∷ ts) (passes : is_due clock t ≡ true)
-      (due : IsFirstDue now.books.retired now.seat.held.part.durable t.slot) (sound : IsSound heap (first_closed now t.slot)) where
-    in_part : now.seat.held.part.retired ≡ t ∷ ts
+      (due : IsFirstDue now.books.retired now.seat.known.part.durable t.slot) (sound : IsSound heap (first_closed now t.slot)) where
+    in_part : now.seat.known.part.retired ≡ t ∷ ts
     in_part = sym k.agrees.1.retired_are ∙ shape
 
-    due_part : IsFirstDue now.seat.held.part.retired now.seat.held.part.durable t.slot
-    due_part = subst (λ (l : List Retired). IsFirstDue l now.seat.held.part.durable t.slot) k.agrees.1.retired_are due
+    due_part : IsFirstDue now.seat.known.part.retired now.seat.known.part.durable t.slot
+    due_part = subst (λ (l : List Retired). IsFirstDue l now.seat.known.part.durable t.slot) k.agrees.1.retired_are due
 
-    behind : without_retired t.slot now.seat.held.part.retired ≡ ts
-    behind = let p = now.seat.held.part in
+    behind : without_retired t.slot now.seat.known.part.retired ≡ ts
+    behind = let p = now.seat.known.part in
         queue_behind p.records p.lost p.history p.frozen now.books p.durable t.slot p.retired p.written k.agrees.1 k.rests.written due_part
         ∙ ap (drop 1) in_part
 
-    lost_stay : without_lost t.slot now.seat.held.part.lost ≡ now.seat.held.part.lost
-    lost_stay = let p = now.seat.held.part in
+    lost_stay : without_lost t.slot now.seat.known.part.lost ≡ now.seat.known.part.lost
+    lost_stay = let p = now.seat.known.part in
         lost_beside p.records p.lost p.history p.frozen now.books p.durable t.slot p.retired p.written k.agrees.1 k.rests.written due_part
 
     free_now : now.books.free ≡ old.books.free ++ map (λ (v : Retired). v.slot) k.closed
     free_now = ap (λ (x : BooksShown). x.free) k.has.books_are
 
-    live_left : (i : ℕ) → live_of i (without_slot t.slot now.seat.held.part.records) ≡ live_of i now.seat.held.part.records
+    live_left : (i : ℕ) → live_of i (without_slot t.slot now.seat.known.part.records) ≡ live_of i now.seat.known.part.records
     live_left i =
-        let queue : Retires now.seat.held.part.records (t ∷ ts) =
-        subst (Retires now.seat.held.part.records) in_part k.agrees.1.retires in
-        subst (λ (n : ℕ). live_of i (without_slot n now.seat.held.part.records) ≡ live_of i now.seat.held.part.records) queue.0.in_slot
-        (live_stays now.seat.held.part.records queue.0.due_record t.epoch k.agrees.1.apart queue.0.there queue.0.due i)
+        let queue : Retires now.seat.known.part.records (t ∷ ts) =
+        subst (Retires now.seat.known.part.records) in_part k.agrees.1.retires in
+        subst (λ (n : ℕ). live_of i (without_slot n now.seat.known.part.records) ≡ live_of i now.seat.known.part.records) queue.0.in_slot
+        (live_stays now.seat.known.part.records queue.0.due_record t.epoch k.agrees.1.apart queue.0.there queue.0.due i)
 
     step : IsReclaiming heap old (first_closed now t.slot) clock
     step = record {
@@ -272,29 +272,29 @@ module _ (heap : HeapShown) (old now : RegionShown) (clock : ℕ) (k : IsReclaim
       due = k.due
           ∙ ap (λ (l : List Retired). k.closed ++ l)
           (ap (due_at clock) shape ∙ due_cons clock t ts passes ∙ ap (λ (l : List Retired). t ∷ due_at clock l) (sym behind))
-          ∙ sym (append_assoc k.closed (t ∷ []) (due_at clock (without_retired t.slot now.seat.held.part.retired)));
+          ∙ sym (append_assoc k.closed (t ∷ []) (due_at clock (without_retired t.slot now.seat.known.part.retired)));
       has = record {
-        seat_is = (λ i. record (k.has.seat_is i) { held = unit_persisted (unit_closed (held_now i) t.slot) t.slot })
-            ∙ ap (λ (x : UnitHeld). let s : UnitShown = record old.seat { held = x } in s)
-            (sym (emptied_push (unit_loaded_durable old.seat.held clock) k.closed t));
-        books_are = (λ i. record (books_showing (k.has.books_are i) (first_closed now t.slot).seat.held.part) {
+        seat_is = (λ i. record (k.has.seat_is i) { known = unit_persisted (unit_closed (held_now i) t.slot) t.slot })
+            ∙ ap (λ (x : UnitKnown). let s : UnitShown = record old.seat { known = x } in s)
+            (sym (emptied_push (unit_loaded_durable old.seat.known clock) k.closed t));
+        books_are = (λ i. record (books_showing (k.has.books_are i) (first_closed now t.slot).seat.known.part) {
           free = free_now i ++ t.slot ∷ [];
         })
             ∙ ap (λ (l : List ℕ). let b : BooksShown =
-            record (books_showing old.books (first_closed now t.slot).seat.held.part) { free = l } in b)
+            record (books_showing old.books (first_closed now t.slot).seat.known.part) { free = l } in b)
             (append_assoc old.books.free (map (λ (v : Retired). v.slot) k.closed) (t.slot ∷ [])
             ∙ ap (λ (l : List ℕ). old.books.free ++ l) (sym (map-append (λ (v : Retired). v.slot) k.closed (t ∷ []))));
         queue_is = k.has.queue_is ∙ ap (λ (l : List Retired). k.closed ++ l) (shape ∙ ap (λ (l : List Retired). t ∷ l) (sym behind))
-            ∙ sym (append_assoc k.closed (t ∷ []) (without_retired t.slot now.seat.held.part.retired));
+            ∙ sym (append_assoc k.closed (t ∷ []) (without_retired t.slot now.seat.known.part.retired));
         others_are = λ i. record (k.has.others_are i) {
-          part = (first_closed now t.slot).seat.held.part;
-          steps = (first_closed now t.slot).seat.held.steps;
-          clean = (first_closed now t.slot).seat.held.clean;
+          part = (first_closed now t.slot).seat.known.part;
+          steps = (first_closed now t.slot).seat.known.steps;
+          clean = (first_closed now t.slot).seat.known.clean;
         };
         part_is = λ i. record (k.has.part_is i) {
           stage = (sym k.rests.stage ∙ ap (λ (q : UnitPart). q.stage) k.has.part_is) i;
-          records = without_slot t.slot now.seat.held.part.records;
-          retired = without_retired t.slot now.seat.held.part.retired;
+          records = without_slot t.slot now.seat.known.part.records;
+          retired = without_retired t.slot now.seat.known.part.retired;
           lost = (lost_stay ∙ ap (λ (q : UnitPart). q.lost) k.has.part_is) i;
         };
       };
@@ -303,7 +303,7 @@ module _ (heap : HeapShown) (old now : RegionShown) (clock : ℕ) (k : IsReclaim
       running = sym k.agrees.1.halted_is ∙ k.running;
       region = record { table = k.region.table; layout = k.region.layout };
       known = k.known;
-      clean = λ units c. still_clean units now.seat.held.unit now.seat.held.clean (first_closed now t.slot).seat.held.part
+      clean = λ units c. still_clean units now.seat.known.unit now.seat.known.clean (first_closed now t.slot).seat.known.part
           (k.clean units c);
       live = λ i. live_left i ∙ k.live i;
       begun = k.begun;
@@ -316,7 +316,7 @@ module _ (heap : HeapShown) (old now : RegionShown) (clock : ℕ) (k : IsReclaim
       let f = due_found clock slot now.books.retired e in
       subst (λ (x : RegionShown). IsReclaiming heap old x clock) (sym is)
       (subst (λ (n : ℕ). IsReclaiming heap old (first_closed now n) clock) f.3
-      (step f.0 f.1 f.2 f.4 (subst (λ (n : ℕ). IsFirstDue now.books.retired now.seat.held.part.durable n) (sym f.3) (due_now slot e))
+      (step f.0 f.1 f.2 f.4 (subst (λ (n : ℕ). IsFirstDue now.books.retired now.seat.known.part.durable n) (sym f.3) (due_now slot e))
       (subst (λ (n : ℕ). IsSound heap (first_closed now n)) (sym f.3) (subst (IsSound heap) is sound))))
 
   -- the queue gets shorter
@@ -324,9 +324,9 @@ module _ (heap : HeapShown) (old now : RegionShown) (clock : ℕ) (k : IsReclaim
       → IsSound heap next → length next.books.retired < length now.books.retired
   shorter slot next e is sound =
       let f = due_found clock slot now.books.retired e in
-      let due = subst (λ (n : ℕ). IsFirstDue now.books.retired now.seat.held.part.durable n) (sym f.3) (due_now slot e) in
-      let rest : without_retired slot now.seat.held.part.retired ≡ f.1 =
-      subst (λ (n : ℕ). without_retired n now.seat.held.part.retired ≡ f.1) f.3 (behind f.0 f.1 f.2 f.4 due
+      let due = subst (λ (n : ℕ). IsFirstDue now.books.retired now.seat.known.part.durable n) (sym f.3) (due_now slot e) in
+      let rest : without_retired slot now.seat.known.part.retired ≡ f.1 =
+      subst (λ (n : ℕ). without_retired n now.seat.known.part.retired ≡ f.1) f.3 (behind f.0 f.1 f.2 f.4 due
       (subst (λ (n : ℕ). IsSound heap (first_closed now n)) (sym f.3) (subst (IsSound heap) is sound))) in
       let after : length next.books.retired ≡ length f.1 = ap length (ap (λ (x : RegionShown). x.books.retired) is ∙ rest) in
       let before : length now.books.retired ≡ length (f.0 ∷ f.1) = ap length f.2 in
@@ -350,7 +350,7 @@ module _ (heap : HeapShown) (old now : RegionShown) (clock : ℕ) (k : IsReclaim
   pub cut_stays : (slot : ℕ) (next : RegionShown) → WasCutClosingFirst now next slot → StaysOpen heap old next
   cut_stays slot next c = by c.held_is
     where
-      open_at : (h : UnitHeld) → h.part.history ≡ now.seat.held.part.history → h.clean ≡ now.seat.held.clean → next.seat.held ≡ h
+      open_at : (h : UnitKnown) → h.part.history ≡ now.seat.known.part.history → h.clean ≡ now.seat.known.clean → next.seat.known ≡ h
           → StaysOpen heap old next
       open_at h history clean is = record {
         of_heap = record {
@@ -358,18 +358,18 @@ module _ (heap : HeapShown) (old now : RegionShown) (clock : ℕ) (k : IsReclaim
           layout = ap (λ (x : BooksShown). x.layout) c.books_are ∙ k.region.layout;
         };
         running = ap (λ (x : BooksShown). x.halted) c.books_are ∙ k.running;
-        history = ap (λ (x : UnitHeld). x.part.history) is ∙ history ∙ ap (λ (q : UnitPart). q.history) k.has.part_is;
+        history = ap (λ (x : UnitKnown). x.part.history) is ∙ history ∙ ap (λ (q : UnitPart). q.history) k.has.part_is;
         clean = λ was. subst (λ (l : List ℕ). IsTrue (are_clean (units_of heap.opening.layout) l))
-            (sym (ap (λ (x : UnitHeld). x.clean) is ∙ clean)) (k.clean (units_of heap.opening.layout) was);
+            (sym (ap (λ (x : UnitKnown). x.clean) is ∙ clean)) (k.clean (units_of heap.opening.layout) was);
       }
 
-      by : (next.seat.held ≡ now.seat.held) ⊎ (next.seat.held ≡ unit_closed now.seat.held slot) → StaysOpen heap old next
-      by (inl g) = open_at now.seat.held refl refl g
-      by (inr g) = open_at (unit_closed now.seat.held slot) refl refl g
+      by : (next.seat.known ≡ now.seat.known) ⊎ (next.seat.known ≡ unit_closed now.seat.known slot) → StaysOpen heap old next
+      by (inl g) = open_at now.seat.known refl refl g
+      by (inr g) = open_at (unit_closed now.seat.known slot) refl refl g
 
   -- a cut of the next one
   pub cut_short : (slot : ℕ) (next : RegionShown) → first_due clock now.books.retired ≡ Some slot → WasCutClosingFirst now next slot
-      → IsDurable (max old.seat.held.part.durable old.seat.held.learnt.durable) clock → WasCutReclaiming old next
+      → IsDurable (max old.seat.known.part.durable old.seat.known.learnt.durable) clock → WasCutReclaiming old next
   cut_short slot next e c found =
       let f = due_found clock slot now.books.retired e in
       let shape : due_at clock now.books.retired ≡ f.0 ∷ due_at clock f.1 = ap (due_at clock) f.2 ∙ due_cons clock f.0 f.1 f.4 in
@@ -389,7 +389,7 @@ module _ (heap : HeapShown) (old now : RegionShown) (clock : ℕ) (k : IsReclaim
         ];
       })
     where
-      shows : (next.seat.held ≡ now.seat.held) ⊎ (next.seat.held ≡ unit_closed now.seat.held slot)
-          → books_showing old.books next.seat.held.part ≡ books_showing old.books now.seat.held.part
-      shows (inl g) = ap (λ (x : UnitHeld). books_showing old.books x.part) g
-      shows (inr g) = ap (λ (x : UnitHeld). books_showing old.books x.part) g
+      shows : (next.seat.known ≡ now.seat.known) ⊎ (next.seat.known ≡ unit_closed now.seat.known slot)
+          → books_showing old.books next.seat.known.part ≡ books_showing old.books now.seat.known.part
+      shows (inl g) = ap (λ (x : UnitKnown). books_showing old.books x.part) g
+      shows (inr g) = ap (λ (x : UnitKnown). books_showing old.books x.part) g

@@ -17,7 +17,7 @@ use Rattle.mont_laws.proofs.Recovered.{found_retire}
 use Rattle.core_steps.specs.Opened.{by_version}
 use Rattle.core_steps.proofs.UnitQueues.{slot_record}
 use Rattle.core_steps.proofs.VersionOrder.{versions_rise, versions_same}
-use Rattle.slots.specs.Beginning.{AreFound, greatest, identities_in, live_serials, serial_at_first, is_among, free_at_first}
+use Rattle.slots.specs.RegionBeginning.{AreFound, greatest, identities_in, live_serials, serial_at_first, is_among, free_at_first}
 use Rattle.slots.specs.Books.{slots_in, row_in, rows_of, as_written}
 use Rattle.slots.specs.Finding.{marked, mark_at, is_unused, serials_left}
 use Rattle.slots.specs.Rooms.{placed, first_slot, IsPlaced, HoldsIn}

@@ -49,29 +49,30 @@ range_more a n m xs ys e f is =
     f ∙ ap (λ (l : List ℕ). l ++ (a + n) ∷ []) e ∙ sym (range_suc a n) ∙ ap (range_with_len a) next
 
 -- ---- the stores of a record
-module _ (s : Shape) (t x : UnitShown) (w : Held) (may : MayStore s t.held w) (n : ℕ) (at : x ≡ seat_begun t w n) where
+module _ (s : Shape) (t x : UnitShown) (w : Held) (may : MayStore s t.known w) (n : ℕ) (at : x ≡ seat_begun t w n) where
   pub field_may : (field value : ℕ) → field ≡ n + 1 → field < FIELDS → value ≡ get_or (held_words w) field 0
-      → CanStore (IsFreeSlot s x.held.unit x.held.part w.slot) x.held.unit x.held.part w.slot field value
+      → CanStore (IsFreeSlot s x.known.unit x.known.part w.slot) x.known.unit x.known.part w.slot field value
   field_may field value is few words =
-      subst (λ (y : UnitShown). CanStore (IsFreeSlot s y.held.unit y.held.part w.slot) y.held.unit y.held.part w.slot field value) (sym at)
+      subst (λ (y : UnitShown). CanStore (IsFreeSlot s y.known.unit y.known.part w.slot) y.known.unit y.known.part w.slot field value)
+      (sym at)
       (can_field s t w may.valid may.running may.registered may.unused n field value is few words)
 
   pub field_stored : (y : UnitShown) (field value : ℕ) → field ≡ n + 1 → field < FIELDS → value ≡ get_or (held_words w) field 0
-      → y ≡ record x { held = unit_wrote x.held w.slot field value } → y ≡ seat_begun t w field
+      → y ≡ record x { known = unit_wrote x.known w.slot field value } → y ≡ seat_begun t w field
   field_stored y field value is few words e =
-      e ∙ (λ i. record (at i) { held = unit_wrote (at i).held w.slot field value })
+      e ∙ (λ i. record (at i) { known = unit_wrote (at i).known w.slot field value })
       ∙ stored_field s t w may.valid may.running may.registered may.unused n field value is few words
 
   pub label_may : (value : ℕ) → n + 1 ≡ FIELDS → value ≡ get_or (held_words w) 0 0
-      → CanStore (IsFreeSlot s x.held.unit x.held.part w.slot) x.held.unit x.held.part w.slot 0 value
+      → CanStore (IsFreeSlot s x.known.unit x.known.part w.slot) x.known.unit x.known.part w.slot 0 value
   label_may value last words =
-      subst (λ (y : UnitShown). CanStore (IsFreeSlot s y.held.unit y.held.part w.slot) y.held.unit y.held.part w.slot 0 value) (sym at)
+      subst (λ (y : UnitShown). CanStore (IsFreeSlot s y.known.unit y.known.part w.slot) y.known.unit y.known.part w.slot 0 value) (sym at)
       (can_label s t w may.valid may.running may.registered may.unused n value last words)
 
-  pub label_stored : (y : UnitShown) (value : ℕ) → n + 1 ≡ FIELDS → y ≡ record x { held = unit_wrote x.held w.slot 0 value }
-      → y ≡ record { table = t.table; held = unit_put t.held w }
+  pub label_stored : (y : UnitShown) (value : ℕ) → n + 1 ≡ FIELDS → y ≡ record x { known = unit_wrote x.known w.slot 0 value }
+      → y ≡ record { table = t.table; known = unit_put t.known w }
   label_stored y value last e =
-      e ∙ (λ i. record (at i) { held = unit_wrote (at i).held w.slot 0 value })
+      e ∙ (λ i. record (at i) { known = unit_wrote (at i).known w.slot 0 value })
       ∙ stored_label s t w may.valid may.running may.registered may.unused n value last
 
   pub cut_stored : (y : UnitShown) → n < FIELDS → y ≡ x → IsUnfinishedAt t y w
@@ -80,26 +81,27 @@ module _ (s : Shape) (t x : UnitShown) (w : Held) (may : MayStore s t.held w) (n
 
 -- ---- reading and closing
 module _ (r v : RegionShown) (is : r ≡ v) (agrees : Agrees v) where
-  pub found_in : (slot : ℕ) (o : Option Held) → o ≡ row_at r.books slot → o ≡ record_in v.seat.held.part.records slot
-  found_in slot o e = let p = v.seat.held.part in
+  pub found_in : (slot : ℕ) (o : Option Held) → o ≡ row_at r.books slot → o ≡ record_in v.seat.known.part.records slot
+  found_in slot o e = let p = v.seat.known.part in
       e ∙ ap (λ (x : RegionShown). row_at x.books slot) is
       ∙ row_shows p.records p.retired p.lost p.written p.history p.frozen v.books agrees.1 slot
 
-  module _ (slot : ℕ) (rests : IsAtRest v.seat.held.part) (due : IsFirstDue v.books.retired v.seat.held.part.durable slot) where
+  module _ (slot : ℕ) (rests : IsAtRest v.seat.known.part) (due : IsFirstDue v.books.retired v.seat.known.part.durable slot) where
     pub own_at : unit_of_slot r.books.layout slot ≡ r.books.unit
     own_at = subst (λ (x : RegionShown). unit_of_slot x.books.layout slot ≡ x.books.unit) (sym is) (due_own_slot v slot agrees rests due)
 
     pub closed_at : (first second : UnitShown) (books : BooksShown)
-        → first ≡ record r.seat { held = unit_closed r.seat.held slot } → second ≡ record first { held = unit_persisted first.held slot }
+        → first ≡ record r.seat { known = unit_closed r.seat.known slot }
+        → second ≡ record first { known = unit_persisted first.known slot }
         → books ≡ books_closed r.books slot
         → (let now : RegionShown = record { seat = second; books = books } in now ≡ first_closed v slot)
     closed_at first second books f g b = closed_is v slot agrees rests due second books
-        (g ∙ (λ i. record (f i) { held = unit_persisted (f i).held slot })
-        ∙ (λ i. record (is i).seat { held = unit_persisted (unit_closed (is i).seat.held slot) slot }))
+        (g ∙ (λ i. record (f i) { known = unit_persisted (f i).known slot })
+        ∙ (λ i. record (is i).seat { known = unit_persisted (unit_closed (is i).seat.known slot) slot }))
         (b ∙ ap (λ (x : RegionShown). books_closed x.books slot) is)
 
-pub due_in_heap : (heap : HeapShown) (v : RegionShown) (slot : ℕ) → IsRegionOf heap v → Agrees v → IsAtRest v.seat.held.part
-    → IsFirstDue v.books.retired v.seat.held.part.durable slot → slot < total_of heap.opening.layout
+pub due_in_heap : (heap : HeapShown) (v : RegionShown) (slot : ℕ) → IsRegionOf heap v → Agrees v → IsAtRest v.seat.known.part
+    → IsFirstDue v.books.retired v.seat.known.part.durable slot → slot < total_of heap.opening.layout
 due_in_heap heap v slot region agrees rests due =
     subst (λ (s : Shape). slot < total_of s) region.layout (due_inside v slot agrees rests due)
 
@@ -126,9 +128,9 @@ module _ (r v : RegionShown) (receipt : Receipt) (is : r ≡ v) (j : HasJustAnsw
   } in y) is
 
   pub answered_is : (books : BooksShown) → books ≡ record (settled r.books) { places = receipt.place + 1; newest = receipt.entry.epoch }
-      → books ≡ books_showing v.books v.seat.held.part
+      → books ≡ books_showing v.books v.seat.known.part
   answered_is books b =
-      settled_is books b ∙ books_shown v.seat.held.part (record (settled v.books) {
+      settled_is books b ∙ books_shown v.seat.known.part (record (settled v.books) {
         places = receipt.place + 1;
         newest = receipt.entry.epoch;
       }) (answered_books v receipt j)
@@ -136,7 +138,7 @@ module _ (r v : RegionShown) (receipt : Receipt) (is : r ≡ v) (j : HasJustAnsw
   pub answered_agree : (seat : UnitShown) (books : BooksShown) → seat ≡ r.seat
       → books ≡ record (settled r.books) { places = receipt.place + 1; newest = receipt.entry.epoch }
       → (let now : RegionShown = record { seat = seat; books = books } in Agrees now)
-  answered_agree seat books s b = subst (λ (x : UnitShown × BooksShown). (x.1.unit ≡ x.0.held.unit) × AreBooksOf x.0.held.part x.1)
+  answered_agree seat books s b = subst (λ (x : UnitShown × BooksShown). (x.1.unit ≡ x.0.known.unit) × AreBooksOf x.0.known.part x.1)
       (λ i. (sym (s ∙ ap (λ (x : RegionShown). x.seat) is) i, sym (settled_is books b) i)) (j.unit_is, answered_books v receipt j)
 
 -- what stands whatever was answered
@@ -146,13 +148,13 @@ on_err P (Err e) p = p
 
 -- ---- writing
 module _ (heap : HeapShown) (r v : RegionShown) (is : r ≡ v) (change : Change) (epoch slot : ℕ) (w : Held) (region : IsRegionOf heap v)
-    (agrees : Agrees v) (running : v.books.halted ≡ None) (may : CanPut v.books v.seat.held.part.records change)
+    (agrees : Agrees v) (running : v.books.halted ≡ None) (may : CanPut v.books v.seat.known.part.records change)
     (first : at_front r.books.free ≡ Some slot) (writes : w ≡ put_by v change epoch slot) (valid : IsRecordOf v.books.unit w) where
   first_seen : at_front v.books.free ≡ Some slot
   first_seen = subst (λ (x : RegionShown). at_front x.books.free ≡ Some slot) is first
 
-  pub store_at : MayWrite v.seat.held.part epoch → MayStore heap.opening.layout r.seat.held w
-  store_at registered = subst (λ (x : RegionShown). MayStore heap.opening.layout x.seat.held w) (sym is)
+  pub store_at : MayWrite v.seat.known.part epoch → MayStore heap.opening.layout r.seat.known w
+  store_at registered = subst (λ (x : RegionShown). MayStore heap.opening.layout x.seat.known w) (sym is)
       (may_store v change epoch slot agrees first_seen heap w region running registered writes valid)
 
   pub room_at : length r.books.written < r.books.layout.slots
@@ -160,7 +162,7 @@ module _ (heap : HeapShown) (r v : RegionShown) (is : r ≡ v) (change : Change)
       (room_to_write v change epoch slot agrees first_seen)
 
   pub put_at : (before : Option ℕ) (seat : UnitShown) (books : BooksShown) → before ≡ slot_named change
-      → seat ≡ record r.seat { held = unit_put r.seat.held w }
+      → seat ≡ record r.seat { known = unit_put r.seat.known w }
       → books ≡ record r.books {
         free = drop 1 r.books.free;
         written = r.books.written ++ (let one : Written = record { held = w; before = before } in one) ∷ [];
@@ -170,8 +172,8 @@ module _ (heap : HeapShown) (r v : RegionShown) (is : r ≡ v) (change : Change)
       → (let new : RegionShown = record { seat = seat; books = books } in
       HasPut v new change epoch slot × Agrees new × StaysOpen heap v new)
   put_at before seat books named s b =
-      let seat_is : seat ≡ record v.seat { held = unit_put v.seat.held w } =
-      s ∙ (λ i. record (is i).seat { held = unit_put (is i).seat.held w }) in
+      let seat_is : seat ≡ record v.seat { known = unit_put v.seat.known w } =
+      s ∙ (λ i. record (is i).seat { known = unit_put (is i).seat.known w }) in
       let books_are = b ∙ (λ i. let x : BooksShown = record (is i).books {
         free = drop 1 (is i).books.free;
         written = (is i).books.written ++ (let one : Written = record { held = w; before = before } in one) ∷ [];
@@ -198,20 +200,20 @@ module _ (heap : HeapShown) (r v : RegionShown) (is : r ≡ v) (change : Change)
 
 -- ---- reclaiming
 pub begins_at : (heap : HeapShown) (r v : RegionShown) (clock : ℕ) (seat : UnitShown) → r ≡ v → IsRegionOf heap v → Agrees v
-    → v.books.halted ≡ None → IsAtRest v.seat.held.part → seat ≡ record r.seat { held = unit_loaded_durable r.seat.held clock }
-    → (now : ℕ) × IsSoundUnit heap.opening now clock seat.held
+    → v.books.halted ≡ None → IsAtRest v.seat.known.part → seat ≡ record r.seat { known = unit_loaded_durable r.seat.known clock }
+    → (now : ℕ) × IsSoundUnit heap.opening now clock seat.known
     → (let now : RegionShown = record { seat = seat; books = r.books } in IsReclaiming heap v now clock)
 begins_at heap r v clock seat is region agrees running rests s sound =
     begins heap v (record { seat = seat; books = r.books }) clock region agrees
     running rests (λ i. record {
-      seat = (s ∙ (λ j. record (is j).seat { held = unit_loaded_durable (is j).seat.held clock })) i;
+      seat = (s ∙ (λ j. record (is j).seat { known = unit_loaded_durable (is j).seat.known clock })) i;
       books = (is i).books;
     }) sound.1.begun (sound.0, (clock, sound.1))
 
 -- ---- sweeping: r is the region with its first lost label closed
 module _ (r v : RegionShown) (slot : ℕ) (is : r ≡ sweeping_at v slot) (agrees : Agrees v) (first : at_front v.books.lost ≡ Some slot) where
-  pub persists_at : v.books.halted ≡ None → MaySweep v → CanPersistClose r.seat.held.part slot
-  persists_at running may = subst (λ (x : RegionShown). CanPersistClose x.seat.held.part slot) (sym is)
+  pub persists_at : v.books.halted ≡ None → MaySweep v → CanPersistClose r.seat.known.part slot
+  persists_at running may = subst (λ (x : RegionShown). CanPersistClose x.seat.known.part slot) (sym is)
       (may_persist_lost v slot agrees first running may)
 
   pub table_at : (heap : HeapShown) → IsRegionOf heap v → r.seat.table ≡ heap.table
@@ -220,11 +222,11 @@ module _ (r v : RegionShown) (slot : ℕ) (is : r ≡ sweeping_at v slot) (agree
   pub room_swept : length r.books.free < r.books.layout.slots
   room_swept = subst (λ (x : RegionShown). length x.books.free < x.books.layout.slots) (sym is) (lost_room v slot agrees first)
 
-  pub swept_seen : (seat : UnitShown) (books : BooksShown) → seat ≡ record r.seat { held = unit_persisted r.seat.held slot }
+  pub swept_seen : (seat : UnitShown) (books : BooksShown) → seat ≡ record r.seat { known = unit_persisted r.seat.known slot }
       → books ≡ record r.books { lost = drop 1 r.books.lost; free = r.books.free ++ slot ∷ []; sweeping = false }
       → (let now : RegionShown = record { seat = seat; books = books } in now ≡ swept v)
   swept_seen seat books s b = swept_is v slot agrees first seat books
-      (s ∙ (λ i. record (is i).seat { held = unit_persisted (is i).seat.held slot }))
+      (s ∙ (λ i. record (is i).seat { known = unit_persisted (is i).seat.known slot }))
       (b ∙ (λ i. let x : BooksShown = record (is i).books {
         lost = drop 1 (is i).books.lost;
         free = (is i).books.free ++ slot ∷ [];
@@ -236,42 +238,42 @@ module _ (r v : RegionShown) (slot : ℕ) (is : r ≡ sweeping_at v slot) (agree
       (swept_cut v slot agrees first, sweeping_may v slot agrees first may, sweeping_agrees v slot agrees first)
 
 -- ---- the record of a change
-pub version_of_change : (v : RegionShown) (change : Change) (slot : ℕ) → Agrees v → NamesLive v.seat.held.part.records change
-    → slot_named change ≡ Some slot → version_in (record_in v.seat.held.part.records slot)
-    ≡ greatest_version (identity_by v.books.identity change) v.seat.held.part.records
+pub version_of_change : (v : RegionShown) (change : Change) (slot : ℕ) → Agrees v → NamesLive v.seat.known.part.records change
+    → slot_named change ≡ Some slot → version_in (record_in v.seat.known.part.records slot)
+    ≡ greatest_version (identity_by v.books.identity change) v.seat.known.part.records
 version_of_change v (Insert body) slot agrees names e = absurd (cc)
-version_of_change v (Replace old i body) slot agrees names e = let p = v.seat.held.part in
+version_of_change v (Replace old i body) slot agrees names e = let p = v.seat.known.part in
     subst (λ (n : ℕ). version_in (record_in p.records n) ≡ greatest_version i p.records) (same_Some old slot e)
     (version_found p.records p.retired p.lost p.written p.history p.frozen v.books agrees.1 old i names)
-version_of_change v (Remove old i) slot agrees names e = let p = v.seat.held.part in
+version_of_change v (Remove old i) slot agrees names e = let p = v.seat.known.part in
     subst (λ (n : ℕ). version_in (record_in p.records n) ≡ greatest_version i p.records) (same_Some old slot e)
     (version_found p.records p.retired p.lost p.written p.history p.frozen v.books agrees.1 old i names)
 
-pub ends_is : (v : RegionShown) (change : Change) (slot version : ℕ) → Agrees v → NamesLive v.seat.held.part.records change
-    → slot_named change ≡ Some slot → version ≡ version_in (record_in v.seat.held.part.records slot)
-    → nat_le LAST version ≡ ends_version v.seat.held.part.records change
+pub ends_is : (v : RegionShown) (change : Change) (slot version : ℕ) → Agrees v → NamesLive v.seat.known.part.records change
+    → slot_named change ≡ Some slot → version ≡ version_in (record_in v.seat.known.part.records slot)
+    → nat_le LAST version ≡ ends_version v.seat.known.part.records change
 ends_is v (Insert body) slot version agrees names e is = absurd (cc)
 ends_is v (Replace old i body) slot version agrees names e is =
     ap (nat_le LAST) (is ∙ version_of_change v (Replace old i body) slot agrees names e)
 ends_is v (Remove old i) slot version agrees names e is =
     ap (nat_le LAST) (is ∙ version_of_change v (Remove old i) slot agrees names e)
 
-pub version_low : (v : RegionShown) (change : Change) (slot version : ℕ) → Agrees v → CanPut v.books v.seat.held.part.records change
-    → slot_named change ≡ Some slot → version ≡ version_in (record_in v.seat.held.part.records slot) → version < LAST
+pub version_low : (v : RegionShown) (change : Change) (slot version : ℕ) → Agrees v → CanPut v.books v.seat.known.part.records change
+    → slot_named change ≡ Some slot → version ≡ version_in (record_in v.seat.known.part.records slot) → version < LAST
 version_low v change slot version agrees may e is =
     let test : nat_le LAST version ≡ false = ends_is v change slot version agrees may.names e is ∙ may.version in
     grind (arith, nat_tests)
 
 pub first_version_of : (v : RegionShown) (change : Change) → Agrees v → slot_named change ≡ None
-    → 1 ≡ greatest_version (identity_by v.books.identity change) v.seat.held.part.records + 1
-first_version_of v (Insert body) agrees e = let p = v.seat.held.part in
+    → 1 ≡ greatest_version (identity_by v.books.identity change) v.seat.known.part.records + 1
+first_version_of v (Insert body) agrees e = let p = v.seat.known.part in
     sym (first_version p.records p.retired p.lost p.written p.history p.frozen v.books agrees.1)
 first_version_of v (Replace old i body) agrees e = absurd (cc)
 first_version_of v (Remove old i) agrees e = absurd (cc)
 
 module _ (v : RegionShown) (change : Change) (epoch slot : ℕ) (kind : Kind) (unit identity version : ℕ) (body : List ℕ)
     (unit_is : unit ≡ v.books.unit) (kind_is : kind ≡ kind_by change) (identity_is : identity ≡ identity_by v.books.identity change)
-    (version_is : version ≡ greatest_version (identity_by v.books.identity change) v.seat.held.part.records + 1)
+    (version_is : version ≡ greatest_version (identity_by v.books.identity change) v.seat.known.part.records + 1)
     (body_is : body ≡ body_by change) where
   pub record_is_put : (let w : Held = record {
     slot = slot;
@@ -290,13 +292,13 @@ module _ (v : RegionShown) (change : Change) (epoch slot : ℕ) (kind : Kind) (u
     body = body_is i;
   }
 
-  pub record_is_valid : Agrees v → MayWrite v.seat.held.part epoch → CanPut v.books v.seat.held.part.records change → length body ≡ BODY
+  pub record_is_valid : Agrees v → MayWrite v.seat.known.part epoch → CanPut v.books v.seat.known.part.records change → length body ≡ BODY
       → (let w : Held = record {
         slot = slot;
         label = record { epoch = epoch; kind = kind; unit = unit; identity = identity; version = version };
         body = body;
       } in IsRecordOf v.books.unit w)
-  record_is_valid agrees writes may long = let p = v.seat.held.part in
+  record_is_valid agrees writes may long = let p = v.seat.known.part in
       subst (IsRecordOf v.books.unit) (sym record_is_put)
       (record_valid p.records p.retired p.lost p.written p.history p.frozen v.books agrees.1 epoch slot writes.some writes.last change may
       (ap length (sym body_is) ∙ long))
@@ -309,14 +311,14 @@ module _ (r v : RegionShown) (is : r ≡ v) (slot : ℕ) where
   pub first_seen_lost : Some slot ≡ at_front r.books.lost → at_front v.books.lost ≡ Some slot
   first_seen_lost e = sym (e ∙ ap (λ (x : RegionShown). at_front x.books.lost) is)
 
-pub durable_seen : (r v : RegionShown) (clock : ℕ) → r ≡ v → IsDurable (max r.seat.held.part.durable r.seat.held.learnt.durable) clock
-    → IsDurable (max v.seat.held.part.durable v.seat.held.learnt.durable) clock
+pub durable_seen : (r v : RegionShown) (clock : ℕ) → r ≡ v → IsDurable (max r.seat.known.part.durable r.seat.known.learnt.durable) clock
+    → IsDurable (max v.seat.known.part.durable v.seat.known.learnt.durable) clock
 durable_seen r v clock is found =
-    subst (λ (x : RegionShown). IsDurable (max x.seat.held.part.durable x.seat.held.learnt.durable) clock) is found
+    subst (λ (x : RegionShown). IsDurable (max x.seat.known.part.durable x.seat.known.learnt.durable) clock) is found
 
 -- ---- the end of a sweep
 pub sweep_agrees : (r x v : RegionShown) (slot : ℕ) (seat : UnitShown) (books : BooksShown) → r ≡ sweeping_at x slot → x ≡ v → Agrees v
-    → at_front v.books.lost ≡ Some slot → seat ≡ record r.seat { held = unit_persisted r.seat.held slot }
+    → at_front v.books.lost ≡ Some slot → seat ≡ record r.seat { known = unit_persisted r.seat.known slot }
     → books ≡ record r.books { lost = drop 1 r.books.lost; free = r.books.free ++ slot ∷ []; sweeping = false }
     → (let now : RegionShown = record { seat = seat; books = books } in Agrees now)
 sweep_agrees r x v slot seat books is same agrees first s b =

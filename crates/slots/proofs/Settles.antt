@@ -191,11 +191,12 @@ abbrev after_books : BooksShown → Receipt → BooksShown
 after_books b receipt = record (settled b) { places = receipt.place + 1; newest = receipt.entry.epoch }
 
 pub answered_books : (r : RegionShown) (receipt : Receipt) → HasJustAnswered r receipt
-    → AreBooksOf r.seat.held.part (after_books r.books receipt)
+    → AreBooksOf r.seat.known.part (after_books r.books receipt)
 answered_books r receipt j =
     let p = j.before in
     let k : AreBooksOf p r.books = j.books_are in
-    subst (λ (n : ℕ). AreBooksOf r.seat.held.part (record (settled r.books) { places = n + 1; newest = receipt.entry.epoch })) (sym j.place)
+    subst (λ (n : ℕ). AreBooksOf r.seat.known.part (record (settled r.books) { places = n + 1; newest = receipt.entry.epoch }))
+    (sym j.place)
     (elim j.answered [
       | inl l ↦ subst (λ (q : UnitPart).
           AreBooksOf q (record (settled r.books) { places = length p.history + 1; newest = receipt.entry.epoch }))

@@ -26,41 +26,41 @@ one_first a b [] h g = absurd h
 one_first a b (x ∷ lost) h g = sym h ∙ g
 
 module _ (r : RegionShown) (slot : ℕ) (agrees : Agrees r) (first : at_front r.books.lost ≡ Some slot) where
-  shape : r.seat.held.part.lost ≡ slot ∷ drop 1 r.books.lost
+  shape : r.seat.known.part.lost ≡ slot ∷ drop 1 r.books.lost
   shape = sym agrees.1.lost_are ∙ front_is slot r.books.lost first
 
-  books_at : AreBooks r.seat.held.part.records r.seat.held.part.retired (slot ∷ drop 1 r.books.lost) r.seat.held.part.written
-      r.seat.held.part.history r.seat.held.part.frozen r.books
-  books_at = let p = r.seat.held.part in
+  books_at : AreBooks r.seat.known.part.records r.seat.known.part.retired (slot ∷ drop 1 r.books.lost) r.seat.known.part.written
+      r.seat.known.part.history r.seat.known.part.frozen r.books
+  books_at = let p = r.seat.known.part in
       subst (λ (l : List ℕ). AreBooks p.records p.retired l p.written p.history p.frozen r.books) shape agrees.1
 
-  first_in_part : IsFirstLost r.seat.held.part.lost slot
+  first_in_part : IsFirstLost r.seat.known.part.lost slot
   first_in_part = subst (λ (l : List ℕ). IsFirstLost l slot) agrees.1.lost_are (first_lost slot r.books.lost first)
 
   pub lost_inside : slot < total_of r.books.layout
-  lost_inside = let p = r.seat.held.part in
+  lost_inside = let p = r.seat.known.part in
       slot_inside p.records p.retired p.lost p.written p.history p.frozen r.books agrees.1 slot
       (lost_own p.records p.retired slot (drop 1 r.books.lost) p.written p.history p.frozen r.books books_at)
 
   pub lost_room : length r.books.free < r.books.layout.slots
-  lost_room = let p = r.seat.held.part in
+  lost_room = let p = r.seat.known.part in
       room_beside p.records p.retired slot (drop 1 r.books.lost) p.written p.history p.frozen r.books books_at
 
-  pub may_close_lost : r.books.halted ≡ None → MaySweep r → r.books.sweeping ≡ false → CanClose r.seat.held.part slot
+  pub may_close_lost : r.books.halted ≡ None → MaySweep r → r.books.sweeping ≡ false → CanClose r.seat.known.part slot
   may_close_lost running may opened = record {
     unfrozen = sym agrees.1.halted_is ∙ running;
-    stage = subst (λ (b : Bool). IsSweepStage b r.seat.held.part) opened may;
+    stage = subst (λ (b : Bool). IsSweepStage b r.seat.known.part) opened may;
     due = inr first_in_part;
   }
 
   pub may_persist_lost : r.books.halted ≡ None → MaySweep r → CanPersistClose (seat_sweeping r slot).part slot
   may_persist_lost running may = by r.books.sweeping may
     where
-      by : (b : Bool) → IsSweepStage b r.seat.held.part
-          → CanPersistClose (if b then r.seat.held else unit_closed r.seat.held slot).part slot
+      by : (b : Bool) → IsSweepStage b r.seat.known.part
+          → CanPersistClose (if b then r.seat.known else unit_closed r.seat.known slot).part slot
       by true m = record {
         unfrozen = sym agrees.1.halted_is ∙ running;
-        stage = m.1 ∙ ap Closing (one_first m.0 slot r.seat.held.part.lost m.2 first_in_part);
+        stage = m.1 ∙ ap Closing (one_first m.0 slot r.seat.known.part.lost m.2 first_in_part);
       }
       by false m = record { unfrozen = sym agrees.1.halted_is ∙ running; stage = refl }
 
@@ -68,7 +68,7 @@ module _ (r : RegionShown) (slot : ℕ) (agrees : Agrees r) (first : at_front r.
   pub sweeping_agrees : Agrees (sweeping_at r slot)
   sweeping_agrees = by r.books.sweeping
     where
-      marked : AreBooksOf r.seat.held.part r.books → AreBooksOf r.seat.held.part (record r.books { sweeping = true })
+      marked : AreBooksOf r.seat.known.part r.books → AreBooksOf r.seat.known.part (record r.books { sweeping = true })
       marked k = record {
         own = k.own;
         slots = k.slots;
@@ -87,36 +87,37 @@ module _ (r : RegionShown) (slot : ℕ) (agrees : Agrees r) (first : at_front r.
         halted_is = k.halted_is;
       }
 
-      by : (b : Bool) → (r.books.unit ≡ (if b then r.seat.held else unit_closed r.seat.held slot).unit)
-          × AreBooksOf (if b then r.seat.held else unit_closed r.seat.held slot).part (record r.books { sweeping = true })
+      by : (b : Bool) → (r.books.unit ≡ (if b then r.seat.known else unit_closed r.seat.known slot).unit)
+          × AreBooksOf (if b then r.seat.known else unit_closed r.seat.known slot).part (record r.books { sweeping = true })
       by true = (agrees.0, marked agrees.1)
       by false = (agrees.0, marked agrees.1)
 
   pub sweeping_may : MaySweep r → MaySweep (sweeping_at r slot)
   sweeping_may may = by r.books.sweeping may
     where
-      by : (b : Bool) → IsSweepStage b r.seat.held.part → IsSweepStage true (if b then r.seat.held else unit_closed r.seat.held slot).part
+      by : (b : Bool) → IsSweepStage b r.seat.known.part
+          → IsSweepStage true (if b then r.seat.known else unit_closed r.seat.known slot).part
       by true m = m
       by false m = (slot, refl, first_in_part)
 
   -- where it was closed before
   pub sweeping_still : r.books.sweeping ≡ true → r ≡ sweeping_at r slot
   sweeping_still closed = λ i. record {
-    seat = record r.seat { held = sym (ap (λ (b : Bool). if b then r.seat.held else unit_closed r.seat.held slot) closed) i };
+    seat = record r.seat { known = sym (ap (λ (b : Bool). if b then r.seat.known else unit_closed r.seat.known slot) closed) i };
     books = record r.books { sweeping = closed i };
   }
 
   pub sweeping_now : (seat : UnitShown) (books : BooksShown) → r.books.sweeping ≡ false
-      → seat ≡ record r.seat { held = unit_closed r.seat.held slot } → books ≡ record r.books { sweeping = true }
+      → seat ≡ record r.seat { known = unit_closed r.seat.known slot } → books ≡ record r.books { sweeping = true }
       → (let now : RegionShown = record { seat = seat; books = books } in now ≡ sweeping_at r slot)
   sweeping_now seat books opened s b = λ i. record { seat = (s ∙ held) i; books = b i }
     where
-      held : record r.seat { held = unit_closed r.seat.held slot } ≡ record r.seat { held = seat_sweeping r slot }
-      held = λ i. record r.seat { held = sym (ap (λ (b : Bool). if b then r.seat.held else unit_closed r.seat.held slot) opened) i }
+      held : record r.seat { known = unit_closed r.seat.known slot } ≡ record r.seat { known = seat_sweeping r slot }
+      held = λ i. record r.seat { known = sym (ap (λ (b : Bool). if b then r.seat.known else unit_closed r.seat.known slot) opened) i }
 
   -- ---- and then durably so
   pub swept_is : (seat : UnitShown) (books : BooksShown)
-      → seat ≡ record r.seat { held = unit_persisted (seat_sweeping r slot) slot }
+      → seat ≡ record r.seat { known = unit_persisted (seat_sweeping r slot) slot }
       → books ≡ record r.books { lost = drop 1 r.books.lost; free = r.books.free ++ slot ∷ []; sweeping = false }
       → (let now : RegionShown = record { seat = seat; books = books } in now ≡ swept r)
   swept_is seat books s b =
@@ -128,10 +129,10 @@ module _ (r : RegionShown) (slot : ℕ) (agrees : Agrees r) (first : at_front r.
   pub swept_agrees : Agrees (swept r)
   swept_agrees = subst Agrees (sym swept_shape) (by r.books.sweeping)
     where
-      follow : AreBooksOf (unit_persisted r.seat.held slot).part
+      follow : AreBooksOf (unit_persisted r.seat.known slot).part
           (record r.books { free = r.books.free ++ slot ∷ []; lost = drop 1 r.books.lost; sweeping = false })
       follow =
-          let p = r.seat.held.part in
+          let p = r.seat.known.part in
           let rest = drop 1 r.books.lost in
           let left : without_lost slot p.lost ≡ rest =
           ap (without_lost slot) shape ∙ first_lost_rest p.records p.retired slot rest p.written p.history p.frozen r.books books_at in
@@ -144,8 +145,8 @@ module _ (r : RegionShown) (slot : ℕ) (agrees : Agrees r) (first : at_front r.
           ))
           (swept_books p.records p.retired slot rest p.written p.history p.frozen r.books books_at)
 
-      by : (b : Bool) → (r.books.unit ≡ (unit_persisted (if b then r.seat.held else unit_closed r.seat.held slot) slot).unit)
-          × AreBooksOf (unit_persisted (if b then r.seat.held else unit_closed r.seat.held slot) slot).part
+      by : (b : Bool) → (r.books.unit ≡ (unit_persisted (if b then r.seat.known else unit_closed r.seat.known slot) slot).unit)
+          × AreBooksOf (unit_persisted (if b then r.seat.known else unit_closed r.seat.known slot) slot).part
           (record r.books { free = r.books.free ++ slot ∷ []; lost = drop 1 r.books.lost; sweeping = false })
       by true = (agrees.0, follow)
       by false = (agrees.0, follow)
@@ -153,7 +154,7 @@ module _ (r : RegionShown) (slot : ℕ) (agrees : Agrees r) (first : at_front r.
   pub swept_may : MaySweep (swept r)
   swept_may = subst MaySweep (sym swept_shape) (by r.books.sweeping)
     where
-      by : (b : Bool) → (unit_persisted (if b then r.seat.held else unit_closed r.seat.held slot) slot).part.stage ≡ Idle
+      by : (b : Bool) → (unit_persisted (if b then r.seat.known else unit_closed r.seat.known slot) slot).part.stage ≡ Idle
       by true = refl
       by false = refl
 

@@ -120,7 +120,7 @@ AreBooksOf p b = AreBooks p.records p.retired p.lost p.written p.history p.froze
 -- A region's books are those of the unit that its seat shows. How far the unit is in its epoch
 -- isn't in the books.
 abbrev pub Agrees : RegionShown → Type 0
-Agrees r = (r.books.unit ≡ r.seat.held.unit) × AreBooksOf r.seat.held.part r.books
+Agrees r = (r.books.unit ≡ r.seat.known.unit) × AreBooksOf r.seat.known.part r.books
 
 -- No operation is under way: the unit is idle, and has nothing written.
 pub record IsAtRest (p : UnitPart) : Type 0 where
@@ -148,11 +148,11 @@ pub record IsRegionOf (heap : HeapShown) (r : RegionShown) : Type 0 where
 -- so many units that were known to have no lost slot still are
 abbrev pub StaysClean : ℕ → RegionShown → RegionShown → Type 0
 StaysClean units old new =
-    IsTrue (are_clean units old.seat.held.clean) → IsTrue (are_clean units new.seat.held.clean)
+    IsTrue (are_clean units old.seat.known.clean) → IsTrue (are_clean units new.seat.known.clean)
 
 -- The region is still one of the heap, isn't halted, and has the same history.
 pub record StaysOpen (heap : HeapShown) (old new : RegionShown) : Type 0 where
   pub of_heap : IsRegionOf heap new
   pub running : new.books.halted ≡ None
-  pub history : new.seat.held.part.history ≡ old.seat.held.part.history
+  pub history : new.seat.known.part.history ≡ old.seat.known.part.history
   pub clean : StaysClean (units_of heap.opening.layout) old new

@@ -6,5 +6,5 @@ pub mod Putting
 pub mod Reclaiming
 pub mod Sweeping
 pub mod Lending
-pub mod Beginning
+pub mod RegionBeginning
 pub mod Finding

@@ -12,10 +12,10 @@ use Rattle.mont_laws.specs.SlotReadings.{IsRecordOf}
 use Rattle.mont_laws.specs.Structures.{HasStructure}
 use Rattle.core_steps.specs.declared.parts.UnitPart.{UnitPart}
 use Rattle.core_steps.specs.declared.parts.UnitStage.TheVariants.{Within}
-use Rattle.core_steps.specs.Answering.{after_leave, after_read}
+use Rattle.core_steps.specs.CallAnswers.{after_leave, after_read}
 use Rattle.core_steps.specs.Storing.{IsFreeSlot, front_of}
 use Rattle.heap.specs.HeapShown.{UnitShown}
-use Rattle.heap_rule.specs.declared.views.UnitHeld.{UnitHeld}
+use Rattle.heap_rule.specs.declared.views.UnitKnown.{UnitKnown}
 use Rattle.slots.specs.Books.{BooksShown, RegionShown, AreBooksOf, IsAtRest, as_written}
 use Rattle.slots.specs.Changes.{identity_after, serial_after, record_by}
 
@@ -28,7 +28,7 @@ pub record MayWrite (p : UnitPart) (epoch : ℕ) : Type 0 where
 
 -- ---- what the stores of a record leave
 -- its first fields behind the label's epoch were stored, so many
-abbrev pub unit_writing : UnitHeld → Held → ℕ → UnitHeld
+abbrev pub unit_writing : UnitKnown → Held → ℕ → UnitKnown
 unit_writing h w n = record h {
   part = record h.part {
     writing = Some (record { slot = w.slot; change = front_of w n; stored = n });
@@ -37,14 +37,14 @@ unit_writing h w n = record h {
 }
 
 -- all were
-abbrev pub unit_put : UnitHeld → Held → UnitHeld
+abbrev pub unit_put : UnitKnown → Held → UnitKnown
 unit_put h w = record h {
   part = record h.part { writing = None; written = h.part.written ++ w ∷ [] };
   steps = h.steps + FIELDS;
 }
 
 -- Before the first store nothing changed.
-pub record StoresBegin (h now : UnitHeld) (w : Held) : Type 0 where
+pub record StoresBegin (h now : UnitKnown) (w : Held) : Type 0 where
   pub stored : ℕ
   pub some : 1 ≤ stored
   pub few : stored < FIELDS
@@ -52,10 +52,10 @@ pub record StoresBegin (h now : UnitHeld) (w : Held) : Type 0 where
 
 abbrev pub IsUnfinishedAt : UnitShown → UnitShown → Held → Type 0
 IsUnfinishedAt old new w =
-    (new ≡ old) ⊎ ((new.table ≡ old.table) × StoresBegin old.held new.held w)
+    (new ≡ old) ⊎ ((new.table ≡ old.table) × StoresBegin old.known new.known w)
 
 -- what the stores of a record need
-pub record MayStore (s : Shape) (h : UnitHeld) (w : Held) : Type 0 where
+pub record MayStore (s : Shape) (h : UnitKnown) (w : Held) : Type 0 where
   pub running : h.part.frozen ≡ None
   pub registered : MayWrite h.part w.label.epoch
   pub unused : IsFreeSlot s h.unit h.part w.slot
@@ -65,18 +65,18 @@ pub record MayStore (s : Shape) (h : UnitHeld) (w : Held) : Type 0 where
 -- ---- what the region writes
 abbrev pub put_by : RegionShown → Change → ℕ → ℕ → Held
 put_by r change epoch slot =
-    record_by r.books.unit r.books.identity r.seat.held.part.records change epoch slot
+    record_by r.books.unit r.books.identity r.seat.known.part.records change epoch slot
 
 abbrev pub seat_put : RegionShown → Change → ℕ → ℕ → UnitShown
 seat_put r change epoch slot =
-    record r.seat { held = unit_put r.seat.held (put_by r change epoch slot) }
+    record r.seat { known = unit_put r.seat.known (put_by r change epoch slot) }
 
 -- The first free slot is taken.
 abbrev pub books_put : RegionShown → Change → ℕ → ℕ → List ℕ → BooksShown
 books_put r change epoch slot rest = record r.books {
   free = rest;
   written = r.books.written
-      ++ as_written r.seat.held.part.records (put_by r change epoch slot) ∷ [];
+      ++ as_written r.seat.known.part.records (put_by r change epoch slot) ∷ [];
   identity = identity_after r.books.identity change;
   serial = serial_after r.books change;
 }
@@ -115,9 +115,9 @@ pub record HasRead (before now : UnitPart) (e : Entry) : Type 0 where
 -- The books are still those of before the answer.
 pub record HasJustAnswered (r : RegionShown) (receipt : Receipt) : Type 0 where
   pub before : UnitPart
-  pub unit_is : r.books.unit ≡ r.seat.held.unit
+  pub unit_is : r.books.unit ≡ r.seat.known.unit
   pub books_are : AreBooksOf before r.books
   pub place : receipt.place ≡ length before.history
   pub last : receipt.place ≤ LAST
-  pub answered : HasLeft r.books.layout r.books.unit before r.seat.held.part receipt.entry
-      ⊎ HasRead before r.seat.held.part receipt.entry
+  pub answered : HasLeft r.books.layout r.books.unit before r.seat.known.part receipt.entry
+      ⊎ HasRead before r.seat.known.part receipt.entry

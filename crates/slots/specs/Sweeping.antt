@@ -3,7 +3,7 @@ use Rattle.std.specs.Prelude.{◌≡◌, ℕ, ◌⊎◌, Bool, true, false, List
 use Rattle.core_steps.specs.declared.parts.UnitPart.{UnitPart}
 use Rattle.core_steps.specs.declared.parts.UnitStage.TheVariants.{Idle, Closing}
 use Rattle.core_steps.specs.Closing.{IsFirstLost}
-use Rattle.heap_rule.specs.declared.views.UnitHeld.{UnitHeld}
+use Rattle.heap_rule.specs.declared.views.UnitKnown.{UnitKnown}
 use Rattle.heap_rule.specs.Views.{unit_closed, unit_persisted}
 use Rattle.slots.specs.Books.{RegionShown}
 
@@ -13,23 +13,23 @@ IsSweepStage false p = p.stage ≡ Idle
 IsSweepStage true p = (slot : ℕ) × (p.stage ≡ Closing slot) × IsFirstLost p.lost slot
 
 abbrev pub MaySweep : RegionShown → Type 0
-MaySweep r = IsSweepStage r.books.sweeping r.seat.held.part
+MaySweep r = IsSweepStage r.books.sweeping r.seat.known.part
 
 -- its label is closed
-abbrev pub seat_sweeping : RegionShown → ℕ → UnitHeld
+abbrev pub seat_sweeping : RegionShown → ℕ → UnitKnown
 seat_sweeping r slot =
-    if r.books.sweeping then r.seat.held else unit_closed r.seat.held slot
+    if r.books.sweeping then r.seat.known else unit_closed r.seat.known slot
 
 abbrev pub sweeping_at : RegionShown → ℕ → RegionShown
 sweeping_at r slot = record {
-  seat = record r.seat { held = seat_sweeping r slot };
+  seat = record r.seat { known = seat_sweeping r slot };
   books = record r.books { sweeping = true };
 }
 
 -- and then durably so, and the slot goes to the back of the free ones
 abbrev pub swept_at : RegionShown → ℕ → List ℕ → RegionShown
 swept_at r slot rest = record {
-  seat = record r.seat { held = unit_persisted (seat_sweeping r slot) slot };
+  seat = record r.seat { known = unit_persisted (seat_sweeping r slot) slot };
   books = record r.books {
     free = r.books.free ++ slot ∷ [];
     lost = rest;

@@ -16,9 +16,9 @@ impl Region {
     /// asked for only where `serial` says so. Call numbers aren't the region's.
     pub fn count_end(&self, changes: &[Change], serial: bool) -> Option<Which>
         requires agrees { Agrees self.now }
-        requires named { All (NamesLive self.now.seat.held.part.records) changes.now }
+        requires named { All (NamesLive self.now.seat.known.part.records) changes.now }
         ensures { result
-            ≡ first_end self.now.books self.now.seat.held.part.records changes.now serial }
+            ≡ first_end self.now.books self.now.seat.known.part.records changes.now serial }
     {
         let inserts = changes.iter().filter(|change| is_insert(change)).count() as u64;
         if self.books.places > LAST {
@@ -37,9 +37,9 @@ impl Region {
     // Whether there is a change without a number for its next version.
     fn any_ends(&self, changes: &[Change]) -> bool
         requires agrees { Agrees self.now }
-        requires named { All (NamesLive self.now.seat.held.part.records) changes.now }
+        requires named { All (NamesLive self.now.seat.known.part.records) changes.now }
         ensures { result
-            ≡ list_any (ends_version self.now.seat.held.part.records) changes.now }
+            ≡ list_any (ends_version self.now.seat.known.part.records) changes.now }
     {
         for change in changes {
             if self.ends_version(change) {
@@ -52,8 +52,8 @@ impl Region {
     // Whether there is no number for the next version.
     fn ends_version(&self, change: &Change) -> bool
         requires agrees { Agrees self.now }
-        requires named { NamesLive self.now.seat.held.part.records change.now }
-        ensures { result ≡ ends_version self.now.seat.held.part.records change.now }
+        requires named { NamesLive self.now.seat.known.part.records change.now }
+        ensures { result ≡ ends_version self.now.seat.known.part.records change.now }
     {
         match slot_before(change) {
             Some(slot) => LAST <= self.version_at(slot),
@@ -64,7 +64,7 @@ impl Region {
     // The version of the record in a slot; 0 where there is none.
     pub(crate) fn version_at(&self, slot: Slot) -> u64
         requires { Agrees self.now }
-        ensures { result ≡ version_in (record_in self.now.seat.held.part.records slot) }
+        ensures { result ≡ version_in (record_in self.now.seat.known.part.records slot) }
     {
         match self.books.find(slot) {
             Some(held) => held.label.version,
@@ -86,9 +86,9 @@ impl Region {
     // Its version.
     fn version_of(&self, change: &Change) -> u64
         requires agrees { Agrees self.now }
-        requires may { CanPut self.now.books self.now.seat.held.part.records change.now }
+        requires may { CanPut self.now.books self.now.seat.known.part.records change.now }
         ensures { result ≡ greatest_version (identity_by self.now.books.identity change.now)
-            self.now.seat.held.part.records + 1 }
+            self.now.seat.known.part.records + 1 }
     {
         match slot_before(change) {
             Some(slot) => self.version_at(slot) + 1,
@@ -99,8 +99,8 @@ impl Region {
     // The record that a change writes into a slot.
     pub(crate) fn record_by(&self, change: &Change, epoch: Epoch, slot: Slot) -> Held
         requires agrees { Agrees self.now }
-        requires registered { MayWrite self.now.seat.held.part epoch }
-        requires may { CanPut self.now.books self.now.seat.held.part.records change.now }
+        requires registered { MayWrite self.now.seat.known.part epoch }
+        requires may { CanPut self.now.books self.now.seat.known.part.records change.now }
         ensures record_is { result ≡ put_by self.now change.now epoch slot }
         ensures valid { IsRecordOf self.now.books.unit result }
     {

@@ -7,7 +7,7 @@ ghost use Rattle.mont_base.specs.Layout.{IsLayout, units_of, unit_of_slot};
 ghost use Rattle.mont_laws.specs.Records.{AreApart};
 ghost use Rattle.mont_laws.specs.Retiring.{retired_among, retired_before};
 ghost use Rattle.core_steps.specs.Opened.{by_version};
-ghost use Rattle.slots.specs.Beginning.{AreFound, first_books, greatest, identities_in};
+ghost use Rattle.slots.specs.RegionBeginning.{AreFound, first_books, greatest, identities_in};
 ghost use Rattle.slots.specs.Books.{as_written, row_in};
 ghost use Rattle.slots.specs.Finding.{marked, mark_at, is_unused, serials_left};
 ghost use Rattle.slots.specs.Rooms.{placed, first_slot, HoldsIn, IsPlaced};

@@ -4,13 +4,13 @@
 //! A region owns its unit's seat, so whoever holds the region makes the unit's steps.
 #![tactic(auto)]
 
-mod beginning;
 mod books;
 mod changes;
 mod finding;
 mod putting;
 mod reclaiming;
 mod region;
+mod region_beginning;
 mod sweeping;
 
 pub use books::Written;

@@ -27,9 +27,9 @@ impl Region {
         requires heap { IsRegionOf heap.now self.old }
         requires agrees { Agrees self.old }
         requires running { self.old.books.halted ≡ None }
-        requires registered { MayWrite self.old.seat.held.part epoch }
+        requires registered { MayWrite self.old.seat.known.part epoch }
         requires room { 0 < length self.old.books.free }
-        requires may { CanPut self.old.books self.old.seat.held.part.records change.now }
+        requires may { CanPut self.old.books self.old.seat.known.part.records change.now }
         ensures gate { IsAskedOften G.cuts G.endless gate.old gate.new (is_err result) }
         ensures put { IfOk result (λ slot. HasPut self.old self.new change.now epoch slot) }
         ensures cut { OnErr result (WasCutPutting self.old self.new change.now epoch) }
@@ -49,7 +49,7 @@ impl Region {
     pub fn left(&mut self, receipt: &Receipt)
         requires { HasJustAnswered self.old receipt.now }
         ensures seat { self.new.seat ≡ self.old.seat }
-        ensures books { self.new.books ≡ books_showing self.old.books self.old.seat.held.part }
+        ensures books { self.new.books ≡ books_showing self.old.books self.old.seat.known.part }
         ensures agrees { Agrees self.new }
     {
         self.books.settle(receipt.place + 1, receipt.entry.epoch);
@@ -64,10 +64,10 @@ fn store_record<G: Gate>(
     gate: &mut G,
 ) -> Result<(), Cut>
     requires heap { seat.old.table ≡ heap.now.table }
-    requires may { MayStore heap.now.opening.layout seat.old.held held.now }
+    requires may { MayStore heap.now.opening.layout seat.old.known held.now }
     ensures gate { IsAskedOften G.cuts G.endless gate.old gate.new (is_err result) }
     ensures ok { OnOk result (seat.new
-        ≡ record { table = seat.old.table; held = unit_put seat.old.held held.now }) }
+        ≡ record { table = seat.old.table; known = unit_put seat.old.known held.now }) }
     ensures cut { OnErr result (IsUnfinishedAt seat.old seat.new held.now) }
 {
     let words = write_words(&held.label, held.body);

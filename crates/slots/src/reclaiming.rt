@@ -21,13 +21,13 @@ impl Region {
         requires heap { IsRegionOf heap.now self.old }
         requires agrees { Agrees self.old }
         requires running { self.old.books.halted ≡ None }
-        requires rests { IsAtRest self.old.seat.held.part }
+        requires rests { IsAtRest self.old.seat.known.part }
         ensures gate { IsAskedOften G.cuts G.endless gate.old gate.new (is_err result) }
         ensures clock { IfOk result (λ clock. IsDurable
-            (max self.old.seat.held.part.durable self.old.seat.held.learnt.durable) clock) }
+            (max self.old.seat.known.part.durable self.old.seat.known.learnt.durable) clock) }
         ensures closed { IfOk result (λ clock. HasClosed self.old self.new clock
             (due_at clock self.old.books.retired)) }
-        ensures rests { IfOk result (λ _. IsAtRest self.new.seat.held.part) }
+        ensures rests { IfOk result (λ _. IsAtRest self.new.seat.known.part) }
         ensures cut { OnErr result (WasCutReclaiming self.old self.new) }
         ensures agrees { Agrees self.new }
         ensures stays { StaysOpen heap.now self.old self.new }
@@ -47,8 +47,8 @@ impl Region {
         requires heap { IsRegionOf heap.now self.old }
         requires agrees { Agrees self.old }
         requires running { self.old.books.halted ≡ None }
-        requires rests { IsAtRest self.old.seat.held.part }
-        requires due { IsFirstDue self.old.books.retired self.old.seat.held.part.durable slot }
+        requires rests { IsAtRest self.old.seat.known.part }
+        requires due { IsFirstDue self.old.books.retired self.old.seat.known.part.durable slot }
         ensures gate { IsAskedOften G.cuts G.endless gate.old gate.new (is_err result) }
         ensures ok { OnOk result (self.new ≡ first_closed self.old slot) }
         ensures sound { OnOk result (IsSound heap.now self.new) }

@@ -90,7 +90,7 @@ impl Region {
     /// The record that stands in a slot.
     pub fn find_record(&self, slot: Slot) -> Option<Held>
         requires { Agrees self.now }
-        ensures { result ≡ record_in self.now.seat.held.part.records slot }
+        ensures { result ≡ record_in self.now.seat.known.part.records slot }
     {
         self.books.find(slot)
     }
@@ -110,16 +110,16 @@ impl Region {
         requires agrees { Agrees self.old }
         requires running { self.old.books.halted ≡ None }
         requires clean { IsTrue (are_clean (units_of heap.now.opening.layout)
-            self.old.seat.held.clean) }
+            self.old.seat.known.clean) }
         ensures seat { self.new.seat ≡ record {
           table = self.old.seat.table;
-          held = unit_frozen self.old.seat.held ticket.old.held.caller;
+          known = unit_frozen self.old.seat.known ticket.old.known.caller;
         } }
         ensures books { self.new.books
-            ≡ record self.old.books { halted = Some ticket.old.held.caller } }
+            ≡ record self.old.books { halted = Some ticket.old.known.caller } }
         ensures caller { ticket.new ≡ record {
           table = ticket.old.table;
-          held = caller_cut ticket.old.held self.old.seat.held;
+          known = caller_cut ticket.old.known self.old.seat.known;
         } }
         ensures agrees { Agrees self.new }
     {

@@ -15,30 +15,30 @@ use Rattle.heap_pass.specs.Kept.{IsWhole}
 use Rattle.caller.specs.Syncing.{KeepsSeen}
 use Rattle.montage.specs.Store.{AreAllCallers}
 use Rattle.montage.specs.StoreCalls.{IsAnswered, IsRefused, KeepsCaller, TellsWhy}
-use Rattle.store_example.specs.Callers.{IsSameCaller, AreSameCallers}
+use Rattle.store_example.specs.ExampleCallers.{IsSameCaller, AreSameCallers}
 
 -- ---- behind a put
-by_ticket : (q r s : CallerShown) → r ≡ s → s.table ≡ q.table → s.held.caller ≡ q.held.caller
-    → s.held.part.receipts ≡ q.held.part.receipts → IsSameCaller q r q.held.part.receipts
+by_ticket : (q r s : CallerShown) → r ≡ s → s.table ≡ q.table → s.known.caller ≡ q.known.caller
+    → s.known.part.receipts ≡ q.known.part.receipts → IsSameCaller q r q.known.part.receipts
 by_ticket q r s is table caller receipts = record {
   table = ap (λ (x : CallerShown). x.table) is ∙ table;
-  caller = ap (λ (x : CallerShown). x.held.caller) is ∙ caller;
-  whole = sym (ap (λ (x : CallerShown). x.held.part.receipts) is ∙ receipts);
+  caller = ap (λ (x : CallerShown). x.known.caller) is ∙ caller;
+  whole = sym (ap (λ (x : CallerShown). x.known.part.receipts) is ∙ receipts);
 }
 
-by_answers : (q r : CallerShown) → KeepsCaller q r → IsSameCaller q r q.held.part.receipts
+by_answers : (q r : CallerShown) → KeepsCaller q r → IsSameCaller q r q.known.part.receipts
 by_answers q r k = record { table = k.table; caller = k.caller; whole = sym k.receipts }
 
 by_why : (heap : HeapShown) (unit : ℕ) (q r : CallerShown) (op : Op) (why : CallRefusal) → TellsWhy heap unit q r op why
-    → IsSameCaller q r q.held.part.receipts
+    → IsSameCaller q r q.known.part.receipts
 by_why heap unit q r op (Halted halted by) k = by_answers q r k.1
 by_why heap unit q r op (CountEnd which) k = by_answers q r k.0
 by_why heap unit q r op Memory k = by_ticket q r q k refl refl refl
 by_why heap unit q r op (Full need free clock) k = by_answers q r k.0
 by_why heap unit q r op (Cut cut) k = record {
   table = ap (λ (x : CallerShown). x.table) k.1.caller;
-  caller = ap (λ (x : CallerShown). x.held.caller) k.1.caller;
-  whole = sym (ap (λ (x : CallerShown). x.held.part.receipts) k.1.caller);
+  caller = ap (λ (x : CallerShown). x.known.caller) k.1.caller;
+  whole = sym (ap (λ (x : CallerShown). x.known.part.receipts) k.1.caller);
 }
 
 pub kept_by_call : (heap : HeapShown) (q r : CallerShown) (op : Op) (olds news : List Receipt) (x : Result Receipt CallRefusal)

@@ -6,7 +6,7 @@ use Rattle.heap_rule.specs.declared.rule.Opening.{Opening}
 use Rattle.heap.specs.FreshOpening.{fresh_opening}
 use Rattle.heap.specs.HeapShown.{HeapShown, UnitShown, AdvShown, CallerShown}
 use Rattle.heap.specs.Opens.{Opens}
-use Rattle.store_example.specs.Callers.{IsForTwo}
+use Rattle.store_example.specs.ExampleCallers.{IsForTwo}
 
 pub is_for_two : (layout : Shape) (heap : HeapShown) (units : List UnitShown) (advancer : AdvShown) (callers : List CallerShown)
     → Opens (fresh_opening layout 2) heap units advancer callers → IsForTwo heap units advancer callers

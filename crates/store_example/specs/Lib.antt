@@ -1,2 +1,2 @@
-pub mod Callers
+pub mod ExampleCallers
 pub mod Outlived

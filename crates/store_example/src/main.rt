@@ -4,17 +4,17 @@
 #![tactic(auto)]
 
 ghost use Rattle.std.specs.Prelude.{IfOk};
-ghost use Rattle.store_example.specs.Callers.{IsForTwo};
+ghost use Rattle.store_example.specs.ExampleCallers.{IsForTwo};
 
 mod crash;
-mod run;
+mod example_run;
 
+use example_run::put_on_threads;
 use heap::{Heap, Seats};
 use index_kit::SortedIndex;
 use mont_base::{Kinds, Layout, Text};
 use montage::serves_all;
 use plain::{Contents, UnitState};
-use run::put_on_threads;
 use std::alloc::{AllocError, Global};
 use std::io;
 use std::marker::Brand;

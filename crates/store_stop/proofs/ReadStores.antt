@@ -18,7 +18,7 @@ use Rattle.mont_base.specs.State.{Key, empty_state, earlier_text, key_cmp, step}
 use Rattle.mont_laws.specs.Structures.{HasStructure}
 use Rattle.mont_laws.proofs.Shown.{empty_structure}
 use Rattle.core_steps.specs.declared.parts.UnitPart.{UnitPart}
-use Rattle.core_steps.specs.Answering.{CanRead}
+use Rattle.core_steps.specs.CallAnswers.{CanRead}
 use Rattle.heap_rule.specs.declared.rule.Opening.{Opening}
 use Rattle.heap_rule.specs.Views.{are_clean, clean_at, first_unit, first_caller}
 use Rattle.heap.specs.HeapShown.{HeapShown, UnitShown, AdvShown, CallerShown}
@@ -35,7 +35,7 @@ module _ (s : Shape) (n : ℕ) (heap : HeapShown) (units : List UnitShown) (adva
   abbrev o : Opening
   o = fresh_opening s n
 
-  first_unwritten : (u : ℕ) → u < units_of s → IsUnwritten heap 0 (record { table = heap.table; held = first_unit o u })
+  first_unwritten : (u : ℕ) → u < units_of s → IsUnwritten heap 0 (record { table = heap.table; known = first_unit o u })
   first_unwritten u low =
       let fresh = empty.each_unit u low in
       let none = ap (λ (p : UnitPart). length p.history) fresh in
@@ -51,21 +51,21 @@ module _ (s : Shape) (n : ℕ) (heap : HeapShown) (units : List UnitShown) (adva
   dealt_unwritten : (k : ℕ) → k ≤ units_of s → All (IsUnwritten heap 0) (dealt_units heap.table o k)
   dealt_unwritten zero low = All-nil (IsUnwritten heap 0)
   dealt_unwritten (suc k) low =
-      All-append (IsUnwritten heap 0) (dealt_units heap.table o k) (record { table = heap.table; held = first_unit o k } ∷ [])
+      All-append (IsUnwritten heap 0) (dealt_units heap.table o k) (record { table = heap.table; known = first_unit o k } ∷ [])
       (dealt_unwritten k (omega arith))
-      (All-cons (IsUnwritten heap 0) (record { table = heap.table; held = first_unit o k }) [] (first_unwritten k (omega arith))
+      (All-cons (IsUnwritten heap 0) (record { table = heap.table; known = first_unit o k }) [] (first_unwritten k (omega arith))
       (All-nil (IsUnwritten heap 0)))
 
-  dealt_all : (P : CallerShown → Type 0) → ((k : ℕ) → P (record { table = heap.table; held = first_caller o k })) → (k : ℕ)
+  dealt_all : (P : CallerShown → Type 0) → ((k : ℕ) → P (record { table = heap.table; known = first_caller o k })) → (k : ℕ)
       → All P (dealt_callers heap.table o k)
   dealt_all P each zero = All-nil P
   dealt_all P each (suc k) =
-      All-append P (dealt_callers heap.table o k) (record { table = heap.table; held = first_caller o k } ∷ []) (dealt_all P each k)
-      (All-cons P (record { table = heap.table; held = first_caller o k }) [] (each k) (All-nil P))
+      All-append P (dealt_callers heap.table o k) (record { table = heap.table; known = first_caller o k } ∷ []) (dealt_all P each k)
+      (All-cons P (record { table = heap.table; known = first_caller o k }) [] (each k) (All-nil P))
 
-  pub unanswered : All (λ (q : CallerShown). q.held.part.receipts ≡ []) callers
-  unanswered = subst (All (λ (q : CallerShown). q.held.part.receipts ≡ [])) (sym opens.each_caller)
-      (dealt_all (λ (q : CallerShown). q.held.part.receipts ≡ []) (λ k. refl) n)
+  pub unanswered : All (λ (q : CallerShown). q.known.part.receipts ≡ []) callers
+  unanswered = subst (All (λ (q : CallerShown). q.known.part.receipts ≡ [])) (sym opens.each_caller)
+      (dealt_all (λ (q : CallerShown). q.known.part.receipts ≡ []) (λ k. refl) n)
 
   pub begins_unwritten : AreUnwritten heap 0 units advancer callers
   begins_unwritten = record {
@@ -73,8 +73,8 @@ module _ (s : Shape) (n : ℕ) (heap : HeapShown) (units : List UnitShown) (adva
         (record { clock_is = refl; recovered = empty.base });
     seats = opened_are_all o heap units advancer callers opens;
     each_unit = subst (All (IsUnwritten heap 0)) (sym opens.each_unit) (dealt_unwritten (units_of s) (omega arith));
-    each_caller = subst (All (λ (q : CallerShown). q.held.part.calls ≤ 0)) (sym opens.each_caller)
-        (dealt_all (λ (q : CallerShown). q.held.part.calls ≤ 0) (λ k. omega arith) n);
+    each_caller = subst (All (λ (q : CallerShown). q.known.part.calls ≤ 0)) (sym opens.each_caller)
+        (dealt_all (λ (q : CallerShown). q.known.part.calls ≤ 0) (λ k. omega arith) n);
   }
 
 -- ---- a read
@@ -91,18 +91,18 @@ module _ (heap : HeapShown) (reads : ℕ) (units : List UnitShown) (advancer : A
   unit_is : IsUnwritten heap reads s
   unit_is = all_gives (IsUnwritten heap reads) units u s w.each_unit of_unit
 
-  caller_is : q.held.part.calls ≤ reads
-  caller_is = all_gives (λ (r : CallerShown). r.held.part.calls ≤ reads) callers k q w.each_caller of_caller
+  caller_is : q.known.part.calls ≤ reads
+  caller_is = all_gives (λ (r : CallerShown). r.known.part.calls ≤ reads) callers k q w.each_caller of_caller
 
   pub ticket_table : q.table ≡ heap.table
   ticket_table = (w.seats.each_caller k q of_caller).0
 
   pub may_read : (op : Op) (reply : Reply) → reads ≤ 100 → IsReadOfNothing heap.opening.layout u op reply
-      → CanRead heap.opening.layout s.held.unit s.held.part q.held.part op reply
+      → CanRead heap.opening.layout s.known.unit s.known.part q.known.part op reply
   may_read op reply few r =
       let entries = unit_is.few in
       let calls = caller_is in
-      subst (λ (v : ℕ). CanRead heap.opening.layout v s.held.part q.held.part op reply) (sym (w.seats.each_unit u s of_unit).1)
+      subst (λ (v : ℕ). CanRead heap.opening.layout v s.known.part q.known.part op reply) (sym (w.seats.each_unit u s of_unit).1)
       (record {
         unfrozen = unit_is.unfrozen;
         stage = unit_is.idle;
@@ -120,21 +120,21 @@ module _ (heap : HeapShown) (reads : ℕ) (units : List UnitShown) (advancer : A
   module _ (t : UnitShown) (r : CallerShown) (e : Entry) (has : HasReadOnce s t q r e) where
     unit_then : IsUnwritten heap (reads + 1) t
     unit_then =
-        let more = ap (λ (x : UnitShown). length x.held.part.history) has.unit in
-        let one = length-append s.held.part.history (e ∷ []) in
+        let more = ap (λ (x : UnitShown). length x.known.part.history) has.unit in
+        let one = length-append s.known.part.history (e ∷ []) in
         let before = unit_is.few in
         record {
-          idle = ap (λ (x : UnitShown). x.held.part.stage) has.unit ∙ unit_is.idle;
-          unfrozen = ap (λ (x : UnitShown). x.held.part.frozen) has.unit ∙ unit_is.unfrozen;
-          records = ap (λ (x : UnitShown). x.held.part.records) has.unit ∙ unit_is.records;
+          idle = ap (λ (x : UnitShown). x.known.part.stage) has.unit ∙ unit_is.idle;
+          unfrozen = ap (λ (x : UnitShown). x.known.part.frozen) has.unit ∙ unit_is.unfrozen;
+          records = ap (λ (x : UnitShown). x.known.part.records) has.unit ∙ unit_is.records;
           few = omega (arith, more, one, before);
-          clean = subst (λ (x : UnitShown). IsTrue (are_clean (units_of heap.opening.layout) x.held.clean)) (sym has.unit) unit_is.clean;
-          home = ap (λ (x : UnitShown). x.held.turn.out) has.unit ∙ unit_is.home;
+          clean = subst (λ (x : UnitShown). IsTrue (are_clean (units_of heap.opening.layout) x.known.clean)) (sym has.unit) unit_is.clean;
+          home = ap (λ (x : UnitShown). x.known.turn.out) has.unit ∙ unit_is.home;
         }
 
-    caller_then : r.held.part.calls ≤ reads + 1
+    caller_then : r.known.part.calls ≤ reads + 1
     caller_then =
-        let more = ap (λ (x : CallerShown). x.held.part.calls) has.caller in
+        let more = ap (λ (x : CallerShown). x.known.part.calls) has.caller in
         let before = caller_is in
         omega (arith, more, before)
 
@@ -154,15 +154,15 @@ module _ (heap : HeapShown) (reads : ℕ) (units : List UnitShown) (advancer : A
       seats = caller_stepped heap (set units u t) advancer callers
           (unit_stepped heap units advancer callers w.seats u t (
             ap (λ (x : UnitShown). x.table) has.unit ∙ (w.seats.each_unit u s of_unit).0,
-            ap (λ (x : UnitShown). x.held.unit) has.unit ∙ (w.seats.each_unit u s of_unit).1,
+            ap (λ (x : UnitShown). x.known.unit) has.unit ∙ (w.seats.each_unit u s of_unit).1,
           ))
           k r (
             ap (λ (x : CallerShown). x.table) has.caller ∙ (w.seats.each_caller k q of_caller).0,
-            ap (λ (x : CallerShown). x.held.caller) has.caller ∙ (w.seats.each_caller k q of_caller).1,
+            ap (λ (x : CallerShown). x.known.caller) has.caller ∙ (w.seats.each_caller k q of_caller).1,
           );
       each_unit = All-set (IsUnwritten heap (reads + 1)) units u t unit_then
           (All-weaker (IsUnwritten heap reads) (IsUnwritten heap (reads + 1)) unit_more units w.each_unit);
-      each_caller = All-set (λ (x : CallerShown). x.held.part.calls ≤ reads + 1) callers k r caller_then
-          (All-weaker (λ (x : CallerShown). x.held.part.calls ≤ reads) (λ (x : CallerShown). x.held.part.calls ≤ reads + 1)
+      each_caller = All-set (λ (x : CallerShown). x.known.part.calls ≤ reads + 1) callers k r caller_then
+          (All-weaker (λ (x : CallerShown). x.known.part.calls ≤ reads) (λ (x : CallerShown). x.known.part.calls ≤ reads + 1)
           (λ x before. omega arith) callers w.each_caller);
     }

@@ -160,21 +160,21 @@ module _ (o : Opening) (units : List UnitShown) (advancer : AdvShown) (callers :
     whole = λ place inside. receipt_at unit place h at inside;
   }
 
-  part_at : (k : ℕ) (s : CallerShown) → slice_get callers k ≡ Some s → slice_get core.callers k ≡ Some s.held.part
-  part_at k s e = ap (λ (ps : List CallerPart). slice_get ps k) parts_are ∙ row_in_map (λ (q : CallerShown). q.held.part) callers k s e
+  part_at : (k : ℕ) (s : CallerShown) → slice_get callers k ≡ Some s → slice_get core.callers k ≡ Some s.known.part
+  part_at k s e = ap (λ (ps : List CallerPart). slice_get ps k) parts_are ∙ row_in_map (λ (q : CallerShown). q.known.part) callers k s e
 
-  seen_by : (k : ℕ) (s : CallerShown) → slice_get callers k ≡ Some s → HasSeen histories s.held
+  seen_by : (k : ℕ) (s : CallerShown) → slice_get callers k ≡ Some s → HasSeen histories s.known
   seen_by k s e =
-      let fits = (sound.callers.each k s.held.part (part_at k s e)).seen in
-      let is = all_gives (λ (q : CallerShown). q.held.entries ≡ seen_in q.held.part.fronts histories) callers k s stops.told.seen e in
+      let fits = (sound.callers.each k s.known.part (part_at k s e)).seen in
+      let is = all_gives (λ (q : CallerShown). q.known.entries ≡ seen_in q.known.part.fronts histories) callers k s stops.told.seen e in
       record {
-        units = ap length is ∙ seen_count s.held.part.fronts histories fits.units;
+        units = ap length is ∙ seen_count s.known.part.fronts histories fits.units;
         each = λ unit front h f g. ap (λ (es : List (List Entry)). slice_get es unit) is
-            ∙ seen_at s.held.part.fronts histories unit front h f g;
+            ∙ seen_at s.known.part.fronts histories unit front h f g;
       }
 
-  pub seen : All (λ (s : CallerShown). HasSeen histories s.held) callers
-  seen = all_at (λ (s : CallerShown). HasSeen histories s.held) callers seen_by
+  pub seen : All (λ (s : CallerShown). HasSeen histories s.known) callers
+  seen = all_at (λ (s : CallerShown). HasSeen histories s.known) callers seen_by
 
   pub clocks : AreClocks base_clock (parts_shown callers) (clock_of words.cur) (clock_of words.dur)
   clocks = record {
@@ -206,10 +206,10 @@ module _ (o : Opening) (units : List UnitShown) (advancer : AdvShown) (callers :
       (left_stage p.0.frozen p.0.stage w.epoch p.2) (sound.registration w.unit p.0 p.1) in
       subst (λ (ws : List ℕ). clock_of ws ≤ w.epoch + 1) (sym stops.current) registered.near
 
-  pub held_back : All (λ (q : CallerShown). All (IsHeldBack (clock_of words.cur)) q.held.within) callers
-  held_back = All-weaker (λ (q : CallerShown). AreLeft core.units q.held.within)
-      (λ (q : CallerShown). All (IsHeldBack (clock_of words.cur)) q.held.within)
-      (λ q left. All-weaker (IsLeft core.units) (IsHeldBack (clock_of words.cur)) held_at q.held.within left) callers stops.told.left
+  pub held_back : All (λ (q : CallerShown). All (IsHeldBack (clock_of words.cur)) q.known.within) callers
+  held_back = All-weaker (λ (q : CallerShown). AreLeft core.units q.known.within)
+      (λ (q : CallerShown). All (IsHeldBack (clock_of words.cur)) q.known.within)
+      (λ q left. All-weaker (IsLeft core.units) (IsHeldBack (clock_of words.cur)) held_at q.known.within left) callers stops.told.left
 
   -- ---- words
   pub all_words : AreAllWords o.layout words

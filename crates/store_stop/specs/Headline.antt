@@ -22,7 +22,7 @@ use Rattle.core_steps.specs.CallerClauses.{receipts_of, view_of}
 use Rattle.core_steps.specs.Notes.{NamesCaller, BeginsWith}
 use Rattle.core_steps.specs.Places.{RowHas}
 use Rattle.heap_rule.specs.declared.rule.Opening.{Opening}
-use Rattle.heap_rule.specs.declared.views.CallerHeld.{CallerHeld}
+use Rattle.heap_rule.specs.declared.views.CallerKnown.{CallerKnown}
 use Rattle.heap_rule.specs.declared.views.LeftWithin.{LeftWithin}
 use Rattle.heap.specs.HeapShown.{CallerShown}
 use Rattle.store_stop.specs.declared.headline.Stopped.{Stopped}
@@ -44,7 +44,7 @@ pub record AreLegal
       → slice_get histories unit ≡ Some h → IsLegal s unit state clock h
 
 -- The entries that a caller has seen of each unit are those before its front there.
-pub record HasSeen (histories : List (List Entry)) (q : CallerHeld) : Type 0 where
+pub record HasSeen (histories : List (List Entry)) (q : CallerKnown) : Type 0 where
   pub units : length q.entries ≡ length histories
   pub each :
       (unit front : ℕ) (h : List Entry) → slice_get q.part.fronts unit ≡ Some front
@@ -113,7 +113,7 @@ pub record HoldsHistories
 -- ---- the whole store
 -- what the tickets of the callers show
 abbrev pub parts_shown : List CallerShown → List CallerPart
-parts_shown callers = map (λ (s : CallerShown). s.held.part) callers
+parts_shown callers = map (λ (s : CallerShown). s.known.part) callers
 
 -- The store was opened with this layout, clock and contents, and its callers' tickets showed this
 -- when it was stopped.
@@ -128,11 +128,11 @@ pub record IsStopped
   -- each answered call is one entry, each entry one call; a caller's stand in the order that it saw
   pub order : IsCallersOrder t.histories
       (map receipts_of (parts_shown callers)) (map view_of (parts_shown callers))
-  pub seen : All (λ (q : CallerShown). HasSeen t.histories q.held) callers
+  pub seen : All (λ (q : CallerShown). HasSeen t.histories q.known) callers
   pub clocks : AreClocks clock (parts_shown callers) (clock_of t.words.cur) (clock_of t.words.dur)
   pub reached : AreEpochsReached (clock_of t.words.cur) t.histories
   pub held_back :
-      All (λ (q : CallerShown). All (IsHeldBack (clock_of t.words.cur)) q.held.within) callers
+      All (λ (q : CallerShown). All (IsHeldBack (clock_of t.words.cur)) q.known.within) callers
   pub marks : All (λ (q : CallerPart). All (IsCutAsMarked (parts_shown callers)) q.marks)
       (parts_shown callers)
   pub images :

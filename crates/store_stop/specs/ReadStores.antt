@@ -17,12 +17,12 @@ use Rattle.store_stop.specs.Headline.{IsBaseOf}
 
 -- nothing is stored in the unit, which has so many entries at most
 pub record IsUnwritten (heap : HeapShown) (reads : ℕ) (s : UnitShown) : Type 0 where
-  pub idle : s.held.part.stage ≡ Idle
-  pub unfrozen : s.held.part.frozen ≡ None
-  pub records : s.held.part.records ≡ []
-  pub few : length s.held.part.history ≤ reads
-  pub clean : IsTrue (are_clean (units_of heap.opening.layout) s.held.clean)
-  pub home : s.held.turn.out ≡ false
+  pub idle : s.known.part.stage ≡ Idle
+  pub unfrozen : s.known.part.frozen ≡ None
+  pub records : s.known.part.records ≡ []
+  pub few : length s.known.part.history ≤ reads
+  pub clean : IsTrue (are_clean (units_of heap.opening.layout) s.known.clean)
+  pub home : s.known.turn.out ≡ false
 
 -- a store that was opened with nothing in it, of which so many reads were made
 pub record AreUnwritten
@@ -31,7 +31,7 @@ pub record AreUnwritten
   pub base : IsBaseOf heap.opening FIRST_CLOCK (empty_states heap.opening.layout)
   pub seats : AreAllSeats heap units advancer callers
   pub each_unit : All (IsUnwritten heap reads) units
-  pub each_caller : All (λ (s : CallerShown). s.held.part.calls ≤ reads) callers
+  pub each_caller : All (λ (s : CallerShown). s.known.part.calls ≤ reads) callers
 
 -- how a unit answers an operation that changes nothing, where nothing is stored in it
 pub record IsReadOfNothing (s : Shape) (unit : ℕ) (op : Op) (reply : Reply) : Type 0 where
@@ -44,5 +44,5 @@ pub record IsReadOfNothing (s : Shape) (unit : ℕ) (op : Op) (reply : Reply) : 
 -- the unit has one entry more, and the caller was answered once more
 pub record HasReadOnce (old new : UnitShown) (q r : CallerShown) (entry : Entry) : Type 0 where
   pub unit : new
-      ≡ record { table = old.table; held = unit_read old.held entry.epoch entry }
-  pub caller : r ≡ record { table = q.table; held = caller_answered q.held old.held entry }
+      ≡ record { table = old.table; known = unit_read old.known entry.epoch entry }
+  pub caller : r ≡ record { table = q.table; known = caller_answered q.known old.known entry }

@@ -1,6 +1,6 @@
 // Stores of which only reads were made, on which the tests play.
 ghost use Rattle.std.specs.Prelude.{◌≡◌, ◌≤◌, [], map, All, IfOk, IsTrue};
-ghost use Rattle.core_steps.specs.Answering.{CanRead};
+ghost use Rattle.core_steps.specs.CallAnswers.{CanRead};
 ghost use Rattle.heap.specs.HeapShown.{CallerShown};
 ghost use Rattle.heap_pass.specs.Spare.{spare_of};
 ghost use Rattle.heap_rule.specs.Views.{are_clean};
@@ -52,7 +52,7 @@ pub(crate) fn begin(alloc: Global, letters: &[u8], callers: u64) -> Result<ReadS
 
 // The passes of callers that weren't answered yet.
 fn passes_of(alloc: Global, tickets: Vec<Ticket>) -> Result<Vec<Pass<Steady>>, AllocError>
-    requires { All (λ (s : CallerShown). s.held.part.receipts ≡ []) tickets.items }
+    requires { All (λ (s : CallerShown). s.known.part.receipts ≡ []) tickets.items }
     ensures { IfOk result (λ passes. map (λ p. p.ticket) passes.items ≡ tickets.items) }
 {
     let mut passes = Vec::new(alloc);
@@ -149,10 +149,10 @@ fn answer(
 ) -> Result<Receipt, Cut>
     requires heap { seat.old.table ≡ heap.now.table }
     requires ticket { pass.old.ticket.table ≡ heap.now.table }
-    requires may { CanRead heap.now.opening.layout seat.old.held.unit seat.old.held.part
-        pass.old.ticket.held.part op.now reply.now }
+    requires may { CanRead heap.now.opening.layout seat.old.known.unit seat.old.known.part
+        pass.old.ticket.known.part op.now reply.now }
     requires clean { IsTrue (are_clean (units_of heap.now.opening.layout)
-        seat.old.held.clean) }
+        seat.old.known.clean) }
     requires room { 1 ≤ spare_of pass.old.receipts }
     ensures { IfOk result (λ r. HasReadOnce
         seat.old seat.new pass.old.ticket pass.new.ticket r.entry) }

@@ -22,7 +22,7 @@ use Rattle.mont_laws.proofs.SameKind.{is_queue_by_state}
 use Rattle.mont_laws.proofs.Newest.{newest_is}
 use Rattle.mont_laws.proofs.Shown.{effects_lead}
 use Rattle.core_steps.specs.declared.parts.UnitPart.{UnitPart}
-use Rattle.core_steps.specs.Answering.{IsJudged, CanLeave, CanRead, after_answer}
+use Rattle.core_steps.specs.CallAnswers.{IsJudged, CanLeave, CanRead, after_answer}
 use Rattle.heap.specs.HeapShown.{HeapShown, CallerShown}
 use Rattle.heap.specs.Receipts.{receipt_of}
 use Rattle.heap_rule.specs.Plays.{answer_of}
@@ -77,9 +77,9 @@ none_from records written identity n numbered low = by (newest_of n records) ref
         let same = new.identity in absurd (omega arith)
 
 module _ (heap : HeapShown) (old : RegionShown) (q : CallerShown) (op : Op) (reply : Reply) (changes : List Change)
-    (ready : IsReady heap old) (plan : IsPlan old op reply changes) (none_ends : first_at_end q.held.part old changes ≡ None) where
-  left : AreLeft q.held.part old changes
-  left = numbers_left q.held.part old changes none_ends
+    (ready : IsReady heap old) (plan : IsPlan old op reply changes) (none_ends : first_at_end q.known.part old changes ≡ None) where
+  left : AreLeft q.known.part old changes
+  left = numbers_left q.known.part old changes none_ends
 
   abbrev effects : List Effect
   effects = (step plan.state op).effects
@@ -94,31 +94,31 @@ module _ (heap : HeapShown) (old : RegionShown) (q : CallerShown) (op : Op) (rep
   op_is = subst (λ (s : Shape). IsOpOf s old.books.unit op) shape plan.of_unit
 
   -- records with the same live ones show the same state
-  shown_by : (records : List Held) → ((identity : ℕ) → live_of identity records ≡ live_of identity old.seat.held.part.records)
+  shown_by : (records : List Held) → ((identity : ℕ) → live_of identity records ≡ live_of identity old.seat.known.part.records)
       → HasStructure heap.opening.layout old.books.unit records plan.state
   shown_by records live =
       subst (λ (s : Shape). HasStructure s old.books.unit records plan.state) shape
-      (structure_kept old.seat.held.part.records records live old.books.layout old.books.unit plan.state plan.shown)
+      (structure_kept old.seat.known.part.records records live old.books.layout old.books.unit plan.state plan.shown)
 
   -- so the operation is judged there as it was planned
   abbrev judged_in : (r : RegionShown) (told : Reply) → r.books.unit ≡ old.books.unit → told ≡ reply
-      → ((identity : ℕ) → live_of identity r.seat.held.part.records ≡ live_of identity old.seat.held.part.records)
-      → IsJudged heap.opening.layout r.books.unit r.seat.held.part op told
+      → ((identity : ℕ) → live_of identity r.seat.known.part.records ≡ live_of identity old.seat.known.part.records)
+      → IsJudged heap.opening.layout r.books.unit r.seat.known.part op told
   judged_in r told unit is live = record {
     of_unit = subst (λ (u : ℕ). IsOpOf heap.opening.layout u op) (sym unit) op_is;
     state = plan.state;
-    shown = subst (λ (u : ℕ). HasStructure heap.opening.layout u r.seat.held.part.records plan.state) (sym unit)
-        (shown_by r.seat.held.part.records live);
+    shown = subst (λ (u : ℕ). HasStructure heap.opening.layout u r.seat.known.part.records plan.state) (sym unit)
+        (shown_by r.seat.known.part.records live);
     replies = is ∙ plan.replies;
   }
 
   -- ---- once the operation has begun
   module _ (mid : RegionShown) (guard : Guard) (begun : HasBegun heap old mid q (length changes) guard) where
     abbrev kept : List Held
-    kept = mid.seat.held.part.records
+    kept = mid.seat.known.part.records
 
     makes : AllZip (Makes old.books kept) effects changes
-    makes = all_kept old.seat.held.part.records kept begun.keeps.live old.books effects changes plan.makes
+    makes = all_kept old.seat.known.part.records kept begun.keeps.live old.books effects changes plan.makes
 
     same_layout : mid.books.layout ≡ old.books.layout
     same_layout = begun.under_way.runs.of_heap.layout ∙ sym ready.runs.of_heap.layout
@@ -128,7 +128,7 @@ module _ (heap : HeapShown) (old : RegionShown) (q : CallerShown) (op : Op) (rep
     may_put_all = record {
       names = all_live old.books kept effects changes makes;
       identities = let few = left.identities in let same = begun.keeps.identity in omega arith;
-      versions = versions_left old.books kept old.seat.held.part.records begun.keeps.live effects changes makes left.versions;
+      versions = versions_left old.books kept old.seat.known.part.records begun.keeps.live effects changes makes left.versions;
       serials =
           subst (λ (x : Shape × ℕ). All (λ (c : Change). has_serial x.0 x.1 c ≡ true → serial_in c ≤ LAST) changes)
           (λ i. (sym same_layout i, sym begun.keeps.of_unit i))
@@ -139,8 +139,8 @@ module _ (heap : HeapShown) (old : RegionShown) (q : CallerShown) (op : Op) (rep
     -- an item gets a new serial
     new_serial : adds_item old.books changes ≡ true → IsNewSerial kept old.books.serial
     new_serial adds =
-        let next = next_kept old.seat.held.part.records kept begun.keeps.live old.books.serial
-        (subst (λ (ws : List Held). IsNextSerial old.seat.held.part.records ws old.books.serial) ready.rests.written
+        let next = next_kept old.seat.known.part.records kept begun.keeps.live old.books.serial
+        (subst (λ (ws : List Held). IsNextSerial old.seat.known.part.records ws old.books.serial) ready.rests.written
         (ready.runs.agrees.1.serials (queue_of old.books.layout old.books.unit changes adds))) in
         let some = next.some in
         let same = next.is in
@@ -153,7 +153,7 @@ module _ (heap : HeapShown) (old : RegionShown) (q : CallerShown) (op : Op) (rep
     unused : (n : ℕ) → old.books.identity ≤ n → newest_of n kept ≡ None
     unused n low =
         let same = begun.keeps.identity in
-        none_from kept mid.seat.held.part.written mid.books.identity n begun.under_way.runs.agrees.1.numbered (omega arith)
+        none_from kept mid.seat.known.part.written mid.books.identity n begun.under_way.runs.agrees.1.numbered (omega arith)
 
     -- ---- and its changes are written
     module _ (done : RegionShown) (g : Guard) (last : Option ℕ) (w : HasWrittenAll heap mid done guard g changes last) where
@@ -168,32 +168,32 @@ module _ (heap : HeapShown) (old : RegionShown) (q : CallerShown) (op : Op) (rep
       same_epoch : g.epoch ≡ guard.epoch
       same_epoch = ap (λ (x : Guard). x.epoch) w.guard_is
 
-      none_before : mid.seat.held.part.written ≡ []
+      none_before : mid.seat.known.part.written ≡ []
       none_before =
-          empty_is mid.seat.held.part.written (begun.under_way.wrote ∙ ap (λ (x : Guard). x.written) begun.guard_is)
+          empty_is mid.seat.known.part.written (begun.under_way.wrote ∙ ap (λ (x : Guard). x.written) begun.guard_is)
 
-      same_records : done.seat.held.part.records ≡ kept
+      same_records : done.seat.known.part.records ≡ kept
       same_records = ap (λ (p : UnitPart). p.records) w.part
 
       same_unit : done.books.unit ≡ old.books.unit
       same_unit = w.of_unit ∙ begun.keeps.of_unit
 
-      written_is : done.seat.held.part.written ≡ written g.epoch
+      written_is : done.seat.known.part.written ≡ written g.epoch
       written_is =
           ap (λ (p : UnitPart). p.written) w.part
           ∙ (λ i. none_before i
           ++ records_by (begun.keeps.of_unit i) (begun.keeps.identity i) kept (sym same_epoch i) changes w.slots)
 
-      same_history : done.seat.held.part.history ≡ old.seat.held.part.history
+      same_history : done.seat.known.part.history ≡ old.seat.known.part.history
       same_history = ap (λ (p : UnitPart). p.history) w.part ∙ begun.keeps.history
 
       -- ---- it may end
-      pub may_leave : changes ≢ [] → CanLeave heap.opening.layout done.books.unit done.seat.held.part q.held.part op reply g.epoch
+      pub may_leave : changes ≢ [] → CanLeave heap.opening.layout done.books.unit done.seat.known.part q.known.part op reply g.epoch
       may_leave some =
           let runs = w.under_way.runs in
           let places = left.place in
           let history = ready.runs.agrees.1.places_are in
-          let longer : length done.seat.held.part.history ≡ length old.seat.held.part.history = ap length same_history in
+          let longer : length done.seat.known.part.history ≡ length old.seat.known.part.history = ap length same_history in
           let newest = begun.reached.not_before in
           let epoch = same_epoch in
           record {
@@ -213,7 +213,7 @@ module _ (heap : HeapShown) (old : RegionShown) (q : CallerShown) (op : Op) (rep
       -- ---- and has ended
       module _ (new : RegionShown) (r : CallerShown) (receipt : Receipt)
           (k : HasCommitted heap done new q r op reply g.epoch receipt) where
-        abbrev entry_is : receipt.entry ≡ answer_of q.held op reply g.epoch
+        abbrev entry_is : receipt.entry ≡ answer_of q.known op reply g.epoch
         entry_is = ap (λ (x : Receipt). x.entry) k.answered.receipt_is
 
         same_epoch_now : receipt.entry.epoch ≡ g.epoch
@@ -222,13 +222,13 @@ module _ (heap : HeapShown) (old : RegionShown) (q : CallerShown) (op : Op) (rep
         pub reply_is : receipt.entry.reply ≡ reply
         reply_is = ap (λ (e : Entry). e.reply) entry_is
 
-        records_are : new.seat.held.part.records ≡ kept ++ written receipt.entry.epoch
+        records_are : new.seat.known.part.records ≡ kept ++ written receipt.entry.epoch
         records_are =
             ap (λ (p : UnitPart). p.records) k.part
             ∙ (λ i. same_records i ++ written_is i)
             ∙ ap (λ (epoch : ℕ). kept ++ written epoch) (sym same_epoch_now)
 
-        same_seat : done.seat.held.unit ≡ old.seat.held.unit
+        same_seat : done.seat.known.unit ≡ old.seat.known.unit
         same_seat = sym w.under_way.runs.agrees.0 ∙ same_unit ∙ ready.runs.agrees.0
 
         serial_behind_all : new.books.serial ≡ serial_behind old.books.layout old.books.unit old.books.serial changes
@@ -249,19 +249,19 @@ module _ (heap : HeapShown) (old : RegionShown) (q : CallerShown) (op : Op) (rep
               ∙ (λ i. record {
                 unit = same_seat i;
                 place = length (same_history i);
-                entry = answer_of q.held op (sym reply_is i) (sym same_epoch_now i);
+                entry = answer_of q.known op (sym reply_is i) (sym same_epoch_now i);
               });
           caller =
               k.answered.caller
               ∙ (λ i. record {
                 table = q.table;
-                held = record q.held {
-                  part = after_answer q.held.part (same_seat i) (length (same_history i)) receipt.entry;
-                  entries = slice_set q.held.entries (same_seat i) (same_history i ++ receipt.entry ∷ []);
+                known = record q.known {
+                  part = after_answer q.known.part (same_seat i) (length (same_history i)) receipt.entry;
+                  entries = slice_set q.known.entries (same_seat i) (same_history i ++ receipt.entry ∷ []);
                 };
               });
           history = ap (λ (p : UnitPart). p.history) k.part ∙ (λ i. same_history i ++ receipt.entry ∷ []);
-          seen = seen_at q.held old.seat.held done.seat.held same_seat same_history k.answered.seen;
+          seen = seen_at q.known old.seat.known done.seat.known same_seat same_history k.answered.seen;
           reached = subst (IsReachedBy q old) (sym (same_epoch_now ∙ same_epoch)) begun.reached;
           wrote = record {
             kept = kept;
@@ -303,13 +303,13 @@ module _ (heap : HeapShown) (old : RegionShown) (q : CallerShown) (op : Op) (rep
   module _ (none : changes ≡ []) where
     no_effects : effects ≡ []
     no_effects =
-        none_made old.books old.seat.held.part.records effects
-        (subst (λ (cs : List Change). AllZip (Makes old.books old.seat.held.part.records) effects cs) none plan.makes)
+        none_made old.books old.seat.known.part.records effects
+        (subst (λ (cs : List Change). AllZip (Makes old.books old.seat.known.part.records) effects cs) none plan.makes)
 
-    are_none : AreEffects old.books.unit old.seat.held.part.records effects []
-    are_none = subst (λ (es : List Effect). AreEffects old.books.unit old.seat.held.part.records es []) (sym no_effects) tt
+    are_none : AreEffects old.books.unit old.seat.known.part.records effects []
+    are_none = subst (λ (es : List Effect). AreEffects old.books.unit old.seat.known.part.records es []) (sym no_effects) tt
 
-    pub may_read : CanRead heap.opening.layout old.books.unit old.seat.held.part q.held.part op reply
+    pub may_read : CanRead heap.opening.layout old.books.unit old.seat.known.part q.known.part op reply
     may_read =
         let places = left.place in
         let history = ready.runs.agrees.1.places_are in
@@ -325,8 +325,8 @@ module _ (heap : HeapShown) (old : RegionShown) (q : CallerShown) (op : Op) (rep
       pub read_reply : receipt.entry.reply ≡ reply
       read_reply = ap (λ (x : Receipt). x.entry.reply) k.answered.receipt_is
 
-      same_records_read : new.seat.held.part.records ≡ old.seat.held.part.records ++ []
-      same_records_read = ap (λ (p : UnitPart). p.records) k.part ∙ sym (append-nil old.seat.held.part.records)
+      same_records_read : new.seat.known.part.records ≡ old.seat.known.part.records ++ []
+      same_records_read = ap (λ (p : UnitPart). p.records) k.part ∙ sym (append-nil old.seat.known.part.records)
 
       same_identity : new.books.identity ≡ old.books.identity
       same_identity = ap (λ (b : BooksShown). b.identity) k.answered.books
@@ -337,7 +337,7 @@ module _ (heap : HeapShown) (old : RegionShown) (q : CallerShown) (op : Op) (rep
         judged = judged_in old receipt.entry.reply refl read_reply (λ identity. refl);
         receipt_is =
             k.answered.receipt_is
-            ∙ ap (λ (told : Reply). receipt_of old.seat.held (answer_of q.held op told receipt.entry.epoch)) (sym read_reply);
+            ∙ ap (λ (told : Reply). receipt_of old.seat.known (answer_of q.known op told receipt.entry.epoch)) (sym read_reply);
         caller = k.answered.caller;
         history = ap (λ (p : UnitPart). p.history) k.part;
         seen = k.answered.seen;
@@ -352,7 +352,7 @@ module _ (heap : HeapShown) (old : RegionShown) (q : CallerShown) (op : Op) (rep
               after_durable = k.clock.after_durable;
             };
         wrote = record {
-          kept = old.seat.held.part.records;
+          kept = old.seat.known.part.records;
           live = λ identity. refl;
           written = [];
           records_are = same_records_read;
@@ -362,8 +362,8 @@ module _ (heap : HeapShown) (old : RegionShown) (q : CallerShown) (op : Op) (rep
         after =
             subst (λ (rs : List Held). HasStructure heap.opening.layout old.books.unit rs (step plan.state op).state)
             (sym same_records_read)
-            (effects_lead heap.opening.layout old.books.unit old.seat.held.part.records [] plan.state op op_is
-            (shown_by old.seat.held.part.records (λ identity. refl)) are_none);
+            (effects_lead heap.opening.layout old.books.unit old.seat.known.part.records [] plan.state op op_is
+            (shown_by old.seat.known.part.records (λ identity. refl)) are_none);
         identity =
             let many : count_by is_insertion effects ≡ 0 = ap (count_by is_insertion) no_effects in
             let same = same_identity in omega arith;
@@ -377,7 +377,7 @@ module _ (heap : HeapShown) (old : RegionShown) (q : CallerShown) (op : Op) (rep
 
       carried_none : HasCarried old new [] receipt None
       carried_none = record {
-        kept = old.seat.held.part.records;
+        kept = old.seat.known.part.records;
         live = λ identity. refl;
         slots = [];
         each = refl;

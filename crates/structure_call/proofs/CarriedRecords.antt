@@ -45,8 +45,8 @@ module _ (heap : HeapShown) (old new : RegionShown) (q r : CallerShown) (op : Op
   -- the state on which the operation was judged is the one on which it was planned
   pub same_state : a.judged.state ≡ plan.state
   same_state =
-      one_state heap.opening.layout old.books.unit old.seat.held.part.records a.judged.state plan.state a.judged.shown
-      (subst (λ (s : Shape). HasStructure s old.books.unit old.seat.held.part.records plan.state) layout plan.shown)
+      one_state heap.opening.layout old.books.unit old.seat.known.part.records a.judged.state plan.state a.judged.shown
+      (subst (λ (s : Shape). HasStructure s old.books.unit old.seat.known.part.records plan.state) layout plan.shown)
 
   abbrev pub written : List Held
   written = records_by old.books.unit old.books.identity k.kept receipt.entry.epoch changes k.slots
@@ -57,7 +57,7 @@ module _ (heap : HeapShown) (old new : RegionShown) (q r : CallerShown) (op : Op
       a.wrote.are_effects in
       let asked : length (step a.judged.state op).effects ≡ length (step plan.state op).effects =
       ap (λ (s : State). length (step s op).effects) same_state in
-      let made = AllZip-long (Makes old.books old.seat.held.part.records) (step plan.state op).effects changes plan.makes in
+      let made = AllZip-long (Makes old.books old.seat.known.part.records) (step plan.state op).effects changes plan.makes in
       let many = as_many old.books.unit old.books.identity k.kept receipt.entry.epoch changes k.slots k.each in
       same_ends a.wrote.kept k.kept a.wrote.written written (sym a.wrote.records_are ∙ k.records_are) (omega arith)
 

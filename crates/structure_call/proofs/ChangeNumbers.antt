@@ -28,7 +28,7 @@ pub record AreLeft (q : CallerPart) (r : RegionShown) (changes : List Change) : 
   pub call : q.calls ≤ LAST
   pub place : r.books.places ≤ LAST
   pub identities : inserts changes ≤ LAST + 1 - r.books.identity
-  pub versions : list_any (ends_version r.seat.held.part.records) changes ≡ false
+  pub versions : list_any (ends_version r.seat.known.part.records) changes ≡ false
   pub serial : adds_item r.books changes ≡ true → r.books.serial ≤ LAST
 
 none_of : (ends : Bool) (which : Which) (rest : Option Which) → cond ends (Some which) rest ≡ None → (ends ≡ false) × (rest ≡ None)
@@ -43,7 +43,7 @@ numbers_left q r changes none =
     let calls = none_of (nat_lt LAST q.calls) _ _ none in
     let places = none_of (nat_lt LAST r.books.places) _ _ calls.1 in
     let identities = none_of (nat_lt (LAST + 1 - r.books.identity) (inserts changes)) _ _ places.1 in
-    let versions = none_of (list_any (ends_version r.seat.held.part.records) changes) _ _ identities.1 in
+    let versions = none_of (list_any (ends_version r.seat.known.part.records) changes) _ _ identities.1 in
     let serials = none_of (adds_item r.books changes && nat_lt LAST r.books.serial) _ _ versions.1 in
     record {
       call = not_above q.calls calls.0;

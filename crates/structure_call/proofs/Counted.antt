@@ -26,7 +26,7 @@ use Rattle.mont_laws.proofs.Shown.{one_state}
 use Rattle.core_steps.specs.declared.parts.CallerPart.{CallerPart}
 use Rattle.heap.specs.HeapShown.{HeapShown, CallerShown}
 use Rattle.op_guard.specs.Regions.{KeepsUnit}
-use Rattle.slots.specs.Beginning.{greatest, identities_in, live_serials, serial_at_first}
+use Rattle.slots.specs.RegionBeginning.{greatest, identities_in, live_serials, serial_at_first}
 use Rattle.slots.specs.Books.{BooksShown, RegionShown}
 use Rattle.slots.specs.Changes.{ends_version, inserts}
 use Rattle.slots.specs.Serials.{is_queue}
@@ -48,12 +48,12 @@ module _ (heap : HeapShown) (r : RegionShown) where
 
   -- a unit has the records that it was opened with, has answered nothing, and its next numbers are those behind the records
   pub counted_at_first : r.books.identity ≡ greatest_opened heap r.books.unit + 1
-      → r.books.serial ≡ serial_at_first heap.opening.layout r.books.unit opened → r.seat.held.part.records ≡ opened
-      → r.seat.held.part.history ≡ [] → HasCounted heap r
+      → r.books.serial ≡ serial_at_first heap.opening.layout r.books.unit opened → r.seat.known.part.records ≡ opened
+      → r.seat.known.part.history ≡ [] → HasCounted heap r
   counted_at_first identity serial records none = λ running states recovered.
       let base = opened_with heap states r.books.unit in
-      let inserted : insertions base r.seat.held.part.history ≡ 0 = ap (insertions base) none in
-      let added : enqueued base r.seat.held.part.history ≡ 0 = ap (enqueued base) none in
+      let inserted : insertions base r.seat.known.part.history ≡ 0 = ap (insertions base) none in
+      let added : enqueued base r.seat.known.part.history ≡ 0 = ap (enqueued base) none in
       record {
         identity = omega (arith, identity, inserted);
         versions =
@@ -85,19 +85,19 @@ recovered_are_counted heap r lost books begins =
 -- ---- after a call
 -- a region is the unit's still
 module _ (heap : HeapShown) (new : RegionShown) (unit : ℕ) (same : new.books.unit ≡ unit) (states : List State) where
-  counted_in : new.books.identity ≡ greatest_opened heap unit + insertions (opened_with heap states unit) new.seat.held.part.history + 1
+  counted_in : new.books.identity ≡ greatest_opened heap unit + insertions (opened_with heap states unit) new.seat.known.part.history + 1
       → AreVersionsWithin heap.opening.layout unit (objects_opened heap unit)
-      (changes_made (opened_with heap states unit) new.seat.held.part.history) new.seat.held.part.records
+      (changes_made (opened_with heap states unit) new.seat.known.part.history) new.seat.known.part.records
       → new.books.serial ≡ serial_at_first heap.opening.layout unit (records_opened heap unit)
-      + enqueued (opened_with heap states unit) new.seat.held.part.history
+      + enqueued (opened_with heap states unit) new.seat.known.part.history
       → IsCountedFrom heap new (opened_with heap states new.books.unit)
   counted_in identity versions serial = record {
     identity = subst (λ (u : ℕ). new.books.identity
-        ≡ greatest_opened heap u + insertions (opened_with heap states u) new.seat.held.part.history + 1) (sym same) identity;
+        ≡ greatest_opened heap u + insertions (opened_with heap states u) new.seat.known.part.history + 1) (sym same) identity;
     versions = subst (λ (u : ℕ). AreVersionsWithin heap.opening.layout u (objects_opened heap u)
-        (changes_made (opened_with heap states u) new.seat.held.part.history) new.seat.held.part.records) (sym same) versions;
+        (changes_made (opened_with heap states u) new.seat.known.part.history) new.seat.known.part.records) (sym same) versions;
     serial = subst (λ (u : ℕ). new.books.serial ≡ serial_at_first heap.opening.layout u (records_opened heap u)
-        + enqueued (opened_with heap states u) new.seat.held.part.history) (sym same) serial;
+        + enqueued (opened_with heap states u) new.seat.known.part.history) (sym same) serial;
   }
 
 module _ (heap : HeapShown) (old new : RegionShown) (q r : CallerShown) (op : Op) (receipt : Receipt)
@@ -107,33 +107,33 @@ module _ (heap : HeapShown) (old new : RegionShown) (q r : CallerShown) (op : Op
   base = opened_with heap states old.books.unit
 
   abbrev history : List Entry
-  history = old.seat.held.part.history
+  history = old.seat.known.part.history
 
   -- the state on which it was judged is the one to which the entries had led
   judged_behind : a.judged.state ≡ state_after base history
   judged_behind =
-      one_state heap.opening.layout old.books.unit old.seat.held.part.records a.judged.state (state_after base history)
+      one_state heap.opening.layout old.books.unit old.seat.known.part.records a.judged.state (state_after base history)
       a.judged.shown (a.showed states recovered)
 
   -- and what is counted of its effects is counted of one entry more
   counted_more : (count : List Effect → ℕ)
-      → sum_over count base new.seat.held.part.history ≡ sum_over count base history + count (step a.judged.state op).effects
+      → sum_over count base new.seat.known.part.history ≡ sum_over count base history + count (step a.judged.state op).effects
   counted_more count =
       let asked : receipt.entry.op ≡ op = ap (λ (x : Receipt). x.entry.op) a.receipt_is in
       ap (sum_over count base) a.history ∙ sum_more count base history receipt.entry
       ∙ (λ i. sum_over count base history + count (step (sym judged_behind i) (asked i)).effects)
 
   versions_after : AreVersionsWithin heap.opening.layout old.books.unit (objects_opened heap old.books.unit) (changes_made base history)
-      old.seat.held.part.records
+      old.seat.known.part.records
       → AreVersionsWithin heap.opening.layout old.books.unit (objects_opened heap old.books.unit)
-      (changes_made base new.seat.held.part.history) new.seat.held.part.records
+      (changes_made base new.seat.known.part.history) new.seat.known.part.records
   versions_after within =
       subst (λ (x : ℕ × List Held). AreVersionsWithin heap.opening.layout old.books.unit (objects_opened heap old.books.unit) x.0 x.1)
       (λ i. (sym (counted_more length) i, sym a.wrote.records_are i))
       (let kind = the_kind (kind_of heap.opening.layout old.books.unit) a.judged.state a.judged.shown.of_unit in
       more_versions heap.opening.layout old.books.unit (objects_opened heap old.books.unit) (changes_made base history) a.wrote.kept
       (kept_versions heap.opening.layout old.books.unit (objects_opened heap old.books.unit) (changes_made base history)
-      old.seat.held.part.records a.wrote.kept a.wrote.live within)
+      old.seat.known.part.records a.wrote.kept a.wrote.live within)
       kind.0 kind.1 (step a.judged.state op).effects a.wrote.written a.wrote.are_effects
       (step_names kind.0 a.judged.state op kind.2 a.judged.of_unit.texts))
 
@@ -163,13 +163,13 @@ kept_counted heap old new running keeps counted = λ runs states recovered.
     let serial = before.serial in
     let given = keeps.identity in
     let next = keeps.serial in
-    let inserted : insertions base new.seat.held.part.history ≡ insertions base old.seat.held.part.history = ap (insertions base) same in
-    let added : enqueued base new.seat.held.part.history ≡ enqueued base old.seat.held.part.history = ap (enqueued base) same in
+    let inserted : insertions base new.seat.known.part.history ≡ insertions base old.seat.known.part.history = ap (insertions base) same in
+    let added : enqueued base new.seat.known.part.history ≡ enqueued base old.seat.known.part.history = ap (enqueued base) same in
     counted_in heap new old.books.unit keeps.of_unit states (omega (arith, identity, given, inserted))
     (subst (λ (n : ℕ). AreVersionsWithin heap.opening.layout old.books.unit (objects_opened heap old.books.unit) n
-    new.seat.held.part.records) (sym (ap (changes_made base) same))
+    new.seat.known.part.records) (sym (ap (changes_made base) same))
     (kept_versions heap.opening.layout old.books.unit (objects_opened heap old.books.unit)
-    (changes_made base old.seat.held.part.history) old.seat.held.part.records new.seat.held.part.records
+    (changes_made base old.seat.known.part.history) old.seat.known.part.records new.seat.known.part.records
     (λ identity. keeps.live identity) before.versions))
     (omega (arith, serial, next, added))
 
@@ -187,7 +187,7 @@ abbrev IsAtEnd : CallerPart → RegionShown → List Change → Which → Type 0
 IsAtEnd q r cs ends.Call = LAST < q.calls
 IsAtEnd q r cs ends.Place = LAST < r.books.places
 IsAtEnd q r cs ends.Identity = LAST + 1 - r.books.identity < inserts cs
-IsAtEnd q r cs ends.Version = list_any (ends_version r.seat.held.part.records) cs ≡ true
+IsAtEnd q r cs ends.Version = list_any (ends_version r.seat.known.part.records) cs ≡ true
 IsAtEnd q r cs ends.Serial = (adds_item r.books cs ≡ true) × (LAST < r.books.serial)
 
 here_or_later : (P : Which → Type 0) (b : Bool) (w : Which) (rest : Option Which) (which : Which) → (b ≡ true → P w)
@@ -208,41 +208,41 @@ at_end q r cs which =
     (here_or_later (IsAtEnd q r cs) (nat_lt LAST r.books.places) ends.Place _ which (is_below LAST r.books.places)
     (here_or_later (IsAtEnd q r cs) (nat_lt (LAST + 1 - r.books.identity) (inserts cs)) ends.Identity _ which
     (is_below (LAST + 1 - r.books.identity) (inserts cs))
-    (here_or_later (IsAtEnd q r cs) (list_any (ends_version r.seat.held.part.records) cs) ends.Version _ which (λ t. t)
+    (here_or_later (IsAtEnd q r cs) (list_any (ends_version r.seat.known.part.records) cs) ends.Version _ which (λ t. t)
     (here_or_later (IsAtEnd q r cs) (adds_item r.books cs && nat_lt LAST r.books.serial) ends.Serial None which
     (serial_ends (adds_item r.books cs) r.books.serial) (λ none. absurd (cc))))))
 
 module _ (heap : HeapShown) (old : RegionShown) (q : CallerPart) (op : Op) (reply : Reply) (changes : List Change)
     (layout : old.books.layout ≡ heap.opening.layout) (plan : IsPlan old op reply changes) (states : List State)
-    (shown : HasStructure heap.opening.layout old.books.unit old.seat.held.part.records
-    (state_after (opened_with heap states old.books.unit) old.seat.held.part.history))
+    (shown : HasStructure heap.opening.layout old.books.unit old.seat.known.part.records
+    (state_after (opened_with heap states old.books.unit) old.seat.known.part.history))
     (counted : IsCountedFrom heap old (opened_with heap states old.books.unit)) where
   abbrev opened_base : State
   opened_base = opened_with heap states old.books.unit
 
   abbrev reached : State
-  reached = state_after opened_base old.seat.held.part.history
+  reached = state_after opened_base old.seat.known.part.history
 
   planned : plan.state ≡ reached
   planned =
-      one_state heap.opening.layout old.books.unit old.seat.held.part.records plan.state reached
-      (subst (λ (s : Shape). HasStructure s old.books.unit old.seat.held.part.records plan.state) layout plan.shown) shown
+      one_state heap.opening.layout old.books.unit old.seat.known.part.records plan.state reached
+      (subst (λ (s : Shape). HasStructure s old.books.unit old.seat.known.part.records plan.state) layout plan.shown) shown
 
-  makes : AllZip (Makes old.books old.seat.held.part.records) (step reached op).effects changes
-  makes = subst (λ (s : State). AllZip (Makes old.books old.seat.held.part.records) (step s op).effects changes) planned plan.makes
+  makes : AllZip (Makes old.books old.seat.known.part.records) (step reached op).effects changes
+  makes = subst (λ (s : State). AllZip (Makes old.books old.seat.known.part.records) (step s op).effects changes) planned plan.makes
 
   lacks_identity : LAST + 1 - old.books.identity < inserts changes → LacksIdentity heap old op opened_base
   lacks_identity above =
-      let many = inserts_are old.books old.seat.held.part.records (step reached op).effects changes makes in
+      let many = inserts_are old.books old.seat.known.part.records (step reached op).effects changes makes in
       let few = few_inserted reached op in
       let here = counted.identity in
       record { inserts = omega (arith, above, many); none_left = omega (arith, above, many, few, here) }
 
-  lacks_versions : list_any (ends_version old.seat.held.part.records) changes ≡ true → LacksVersions heap old op opened_base
+  lacks_versions : list_any (ends_version old.seat.known.part.records) changes ≡ true → LacksVersions heap old op opened_base
   lacks_versions ends =
       let kind = the_kind (kind_of heap.opening.layout old.books.unit) reached shown.of_unit in
       versions_end heap.opening.layout old.books.unit (objects_opened heap old.books.unit)
-      (changes_made opened_base old.seat.held.part.history) old.seat.held.part.records counted.versions kind.0 kind.1
+      (changes_made opened_base old.seat.known.part.history) old.seat.known.part.records counted.versions kind.0 kind.1
       old.books (step reached op).effects changes makes (step_names kind.0 reached op kind.2 plan.of_unit.texts) ends
 
   lacks_serial : adds_item old.books changes ≡ true → LAST < old.books.serial → LacksSerial heap old op opened_base
@@ -257,7 +257,7 @@ module _ (heap : HeapShown) (old : RegionShown) (q : CallerPart) (op : Op) (repl
       record {
         of_queue = of_one_kind (kind_of heap.opening.layout old.books.unit) kinds.Queue here;
         adds =
-            some_enqueued old.books old.seat.held.part.records (is_state_of kinds.Queue reached)
+            some_enqueued old.books old.seat.known.part.records (is_state_of kinds.Queue reached)
             (ap (λ (s : Shape). is_queue s old.books.unit) layout
             ∙ is_queue_by_state (kind_of heap.opening.layout old.books.unit) reached shown.of_unit)
             (step reached op).effects changes (step_fits reached op) makes adds;
@@ -273,6 +273,6 @@ module _ (heap : HeapShown) (old : RegionShown) (q : CallerPart) (op : Op) (repl
 
 pub numbers_end : NumbersEnd
 numbers_end heap old new q r op which layout k counted states recovered =
-    lacks_number heap old q.held.part op k.reply k.changes layout k.plan states
+    lacks_number heap old q.known.part op k.reply k.changes layout k.plan states
     (subst (ShowsHistory heap) k.ends.1.same k.ends.1.showed states recovered) (counted k.running states recovered) which
-    (at_end q.held.part old k.changes which k.ends.0)
+    (at_end q.known.part old k.changes which k.ends.0)

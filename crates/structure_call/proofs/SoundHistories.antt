@@ -19,19 +19,19 @@ use Rattle.structure_call.proofs.KeptPlans.{structure_kept}
 abbrev led_to : HeapShown → List State → ℕ → List Entry → State
 led_to heap states unit history = state_after (base_state (opened_at (clock_of heap.opening.words) states) unit) history
 
-pub sound_shows : (heap : HeapShown) (r : RegionShown) → r.books.unit ≡ r.seat.held.unit → IsSound heap r → ShowsHistory heap r
+pub sound_shows : (heap : HeapShown) (r : RegionShown) → r.books.unit ≡ r.seat.known.unit → IsSound heap r → ShowsHistory heap r
 sound_shows heap r unit sound = λ states recovered.
-    subst (λ (u : ℕ). HasStructure heap.opening.layout u r.seat.held.part.records (led_to heap states u r.seat.held.part.history))
+    subst (λ (u : ℕ). HasStructure heap.opening.layout u r.seat.known.part.records (led_to heap states u r.seat.known.part.history))
     (sym unit)
-    (sound_units_show_histories heap.opening sound.0 sound.1.0 r.seat.held states sound.1.1 recovered)
+    (sound_units_show_histories heap.opening sound.0 sound.1.0 r.seat.known states sound.1.1 recovered)
 
 -- so they did when the same was live and the history was the same
 pub shows_before : (heap : HeapShown) (old r : RegionShown) → r.books.unit ≡ old.books.unit
-    → r.seat.held.part.history ≡ old.seat.held.part.history
-    → ((identity : ℕ) → live_of identity r.seat.held.part.records ≡ live_of identity old.seat.held.part.records)
+    → r.seat.known.part.history ≡ old.seat.known.part.history
+    → ((identity : ℕ) → live_of identity r.seat.known.part.records ≡ live_of identity old.seat.known.part.records)
     → ShowsHistory heap r → ShowsHistory heap old
 shows_before heap old r unit history live shows = λ states recovered.
-    structure_kept r.seat.held.part.records old.seat.held.part.records (λ identity. sym (live identity)) heap.opening.layout
-    old.books.unit (led_to heap states old.books.unit old.seat.held.part.history)
-    (subst (λ (x : ℕ × List Entry). HasStructure heap.opening.layout x.0 r.seat.held.part.records (led_to heap states x.0 x.1))
+    structure_kept r.seat.known.part.records old.seat.known.part.records (λ identity. sym (live identity)) heap.opening.layout
+    old.books.unit (led_to heap states old.books.unit old.seat.known.part.history)
+    (subst (λ (x : ℕ × List Entry). HasStructure heap.opening.layout x.0 r.seat.known.part.records (led_to heap states x.0 x.1))
     (λ i. (unit i, history i)) (shows states recovered))

@@ -25,9 +25,9 @@ module _ (heap : HeapShown) (old : RegionShown) (guard : Guard) where
     last_is = refl;
     guard_is = ap (λ (n : ℕ). record guard { written = n }) (omega arith);
     under_way = under;
-    part = λ i. record old.seat.held.part {
+    part = λ i. record old.seat.known.part {
       writing = under.registered.whole i;
-      written = sym (append-nil old.seat.held.part.written) i;
+      written = sym (append-nil old.seat.known.part.written) i;
     };
     of_unit = refl;
     layout = refl;
@@ -36,29 +36,29 @@ module _ (heap : HeapShown) (old : RegionShown) (guard : Guard) where
   }
 
   module _ (mid : RegionShown) (g : Guard) (cs : List Change) (last : Option ℕ) (k : HasWrittenAll heap old mid guard g cs last) where
-    same_records : mid.seat.held.part.records ≡ old.seat.held.part.records
+    same_records : mid.seat.known.part.records ≡ old.seat.known.part.records
     same_records = ap (λ (p : UnitPart). p.records) k.part
 
     -- one more
     module _ (new : RegionShown) (h : Guard) (c : Change) (slot : ℕ) (changed : HasChanged heap mid new g h c slot) where
-      written_is : record_by mid.books.unit mid.books.identity mid.seat.held.part.records c g.epoch slot
-          ≡ record_by old.books.unit (old.books.identity + inserts cs) old.seat.held.part.records c guard.epoch slot
+      written_is : record_by mid.books.unit mid.books.identity mid.seat.known.part.records c g.epoch slot
+          ≡ record_by old.books.unit (old.books.identity + inserts cs) old.seat.known.part.records c guard.epoch slot
       written_is = λ i. record_by (k.of_unit i) (k.identity i) (same_records i) c ((ap (λ (x : Guard). x.epoch) k.guard_is) i) slot
 
-      part_is : new.seat.held.part ≡ record old.seat.held.part {
+      part_is : new.seat.known.part ≡ record old.seat.known.part {
         writing = None;
-        written = old.seat.held.part.written
-            ++ records_by old.books.unit old.books.identity old.seat.held.part.records guard.epoch (cs ++ c ∷ [])
+        written = old.seat.known.part.written
+            ++ records_by old.books.unit old.books.identity old.seat.known.part.records guard.epoch (cs ++ c ∷ [])
             (k.slots ++ slot ∷ []);
       }
       part_is =
-          ap (λ (s : UnitShown). s.held.part) changed.put.seat_is
+          ap (λ (s : UnitShown). s.known.part) changed.put.seat_is
           ∙ (λ i. record (k.part i) { writing = None; written = (k.part i).written ++ written_is i ∷ [] })
-          ∙ ap (λ (ws : List Held). record old.seat.held.part { writing = None; written = ws })
-          (append_assoc old.seat.held.part.written
-          (records_by old.books.unit old.books.identity old.seat.held.part.records guard.epoch cs k.slots) _
-          ∙ ap (λ (ws : List Held). old.seat.held.part.written ++ ws)
-          (sym (records_more old.books.unit old.books.identity old.seat.held.part.records guard.epoch cs k.slots c slot k.each)))
+          ∙ ap (λ (ws : List Held). record old.seat.known.part { writing = None; written = ws })
+          (append_assoc old.seat.known.part.written
+          (records_by old.books.unit old.books.identity old.seat.known.part.records guard.epoch cs k.slots) _
+          ∙ ap (λ (ws : List Held). old.seat.known.part.written ++ ws)
+          (sym (records_more old.books.unit old.books.identity old.seat.known.part.records guard.epoch cs k.slots c slot k.each)))
 
       pub more_written : HasWrittenAll heap old new guard h (cs ++ c ∷ []) (Some slot)
       more_written = record {
@@ -96,7 +96,7 @@ module _ (heap : HeapShown) (old : RegionShown) (guard : Guard) where
       (more_written mid g (take i changes) last k new h (get_or changes i d) slot changed)
 
   -- the next change may be written
-  module _ (changes : List Change) (can : CanPutAll old.books old.seat.held.part.records changes) where
+  module _ (changes : List Change) (can : CanPutAll old.books old.seat.known.part.records changes) where
     room_for : (i : ℕ) (d : Change) → i < length changes
         → inserts (take i changes) + cond (is_insert (get_or changes i d)) 1 0 ≤ inserts changes
     room_for i d low =
@@ -107,20 +107,20 @@ module _ (heap : HeapShown) (old : RegionShown) (guard : Guard) where
 
     pub may_put : (mid : RegionShown) (g : Guard) (last : Option ℕ) (i : ℕ) (d : Change) → i < length changes
         → HasWrittenAll heap old mid guard g (take i changes) last
-        → CanPut mid.books mid.seat.held.part.records (get_or changes i d)
+        → CanPut mid.books mid.seat.known.part.records (get_or changes i d)
     may_put mid g last i d low k =
         let c = get_or changes i d in
         let records = same_records mid g (take i changes) last k in
         record {
           names = subst (λ (rs : List Held). NamesLive rs c) (sym records)
-              (All-get_or (NamesLive old.seat.held.part.records) changes i d low can.names);
+              (All-get_or (NamesLive old.seat.known.part.records) changes i d low can.names);
           identity = λ (new : is_insert c ≡ true).
               let one : cond {A = ℕ} (is_insert c) 1 0 ≡ 1 = ap (λ (t : Bool). cond t 1 0) new in
               let room = room_for i d low in
               let left = can.identities in
               let at = k.identity in omega arith;
           version = ap (λ (rs : List Held). ends_version rs c) records
-              ∙ All-get_or (λ (x : Change). ends_version old.seat.held.part.records x ≡ false) changes i d low can.versions;
+              ∙ All-get_or (λ (x : Change). ends_version old.seat.known.part.records x ≡ false) changes i d low can.versions;
           serial = λ has. All-get_or (HasSerialLeft old.books) changes i d low can.serials
               ((λ j. has_serial (sym k.layout j) (sym k.of_unit j) c) ∙ has);
         }

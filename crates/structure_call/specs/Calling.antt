@@ -15,7 +15,7 @@ use Rattle.mont_base.specs.State.{step}
 use Rattle.mont_laws.specs.Effects.{AreEffects}
 use Rattle.mont_laws.specs.Records.{live_of}
 use Rattle.mont_laws.specs.Structures.{HasStructure}
-use Rattle.core_steps.specs.Answering.{IsJudged}
+use Rattle.core_steps.specs.CallAnswers.{IsJudged}
 use Rattle.heap.specs.HeapShown.{HeapShown, CallerShown}
 use Rattle.heap.specs.Receipts.{receipt_of}
 use Rattle.heap_rule.specs.Plays.{IsNotBeyond, answer_of}
@@ -57,22 +57,22 @@ pub record HasAnsweredCall
     (heap : HeapShown) (old new : RegionShown) (q r : CallerShown) (op : Op) (receipt : Receipt)
     : Type 0 where
   pub showed : ShowsHistory heap old
-  pub judged : IsJudged heap.opening.layout old.books.unit old.seat.held.part op
+  pub judged : IsJudged heap.opening.layout old.books.unit old.seat.known.part op
       receipt.entry.reply
   pub receipt_is : receipt
-      ≡ receipt_of old.seat.held
-      (answer_of q.held op receipt.entry.reply receipt.entry.epoch)
+      ≡ receipt_of old.seat.known
+      (answer_of q.known op receipt.entry.reply receipt.entry.epoch)
   pub caller : r ≡ record {
     table = q.table;
-    held = caller_answered q.held old.seat.held receipt.entry;
+    known = caller_answered q.known old.seat.known receipt.entry;
   }
-  pub history : new.seat.held.part.history
-      ≡ old.seat.held.part.history ++ receipt.entry ∷ []
-  pub seen : IsNotBeyond q.held old.seat.held
+  pub history : new.seat.known.part.history
+      ≡ old.seat.known.part.history ++ receipt.entry ∷ []
+  pub seen : IsNotBeyond q.known old.seat.known
   pub reached : IsReachedBy q old receipt.entry.epoch
-  pub wrote : HasWritten old.books.unit old.seat.held.part.records new.seat.held.part.records
+  pub wrote : HasWritten old.books.unit old.seat.known.part.records new.seat.known.part.records
       (step judged.state op).effects receipt.entry.epoch
-  pub after : HasStructure heap.opening.layout old.books.unit new.seat.held.part.records
+  pub after : HasStructure heap.opening.layout old.books.unit new.seat.known.part.records
       (step judged.state op).state
   pub identity : new.books.identity
       ≡ old.books.identity + count_by is_insertion (step judged.state op).effects

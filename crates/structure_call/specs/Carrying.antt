@@ -54,11 +54,11 @@ pub record HasCarried
     : Type 0 where
   pub kept : List Held
   pub live : (identity : ℕ)
-      → live_of identity kept ≡ live_of identity old.seat.held.part.records
+      → live_of identity kept ≡ live_of identity old.seat.known.part.records
   pub slots : List ℕ
   pub each : length slots ≡ length changes
   pub last_is : last ≡ last_of slots
-  pub records_are : new.seat.held.part.records
+  pub records_are : new.seat.known.part.records
       ≡ kept ++ records_by old.books.unit old.books.identity kept receipt.entry.epoch changes slots
   pub identity : new.books.identity ≡ old.books.identity + inserts changes
   pub serial : new.books.serial
@@ -73,10 +73,10 @@ pub record HasWrittenAll
   pub last_is : last ≡ last_of slots
   pub guard_is : after ≡ record before { written = before.written + length changes }
   pub under_way : IsUnderWay heap after new
-  pub part : new.seat.held.part ≡ record old.seat.held.part {
+  pub part : new.seat.known.part ≡ record old.seat.known.part {
     writing = None;
-    written = old.seat.held.part.written
-        ++ records_by old.books.unit old.books.identity old.seat.held.part.records before.epoch
+    written = old.seat.known.part.written
+        ++ records_by old.books.unit old.books.identity old.seat.known.part.records before.epoch
         changes slots;
   }
   pub of_unit : new.books.unit ≡ old.books.unit

@@ -17,10 +17,10 @@ use Rattle.structure_call.specs.Planning.{IsPlan, first_at_end}
 pub record WasNoted
     (heap : HeapShown) (old new : RegionShown) (q r : CallerShown) : Type 0 where
   pub same : new ≡ old
-  pub seen : IsNotBeyond q.held old.seat.held
+  pub seen : IsNotBeyond q.known old.seat.known
   pub noted : HasNoted old q r
-  pub front : slice_index r.held.part.fronts old.books.unit ≡ length new.seat.held.part.history
-  pub entries : slice_get r.held.entries old.books.unit ≡ Some new.seat.held.part.history
+  pub front : slice_index r.known.part.fronts old.books.unit ≡ length new.seat.known.part.history
+  pub entries : slice_get r.known.entries old.books.unit ≡ Some new.seat.known.part.history
   pub showed : ShowsHistory heap new
 
 -- a caller was cut in the unit before
@@ -35,7 +35,7 @@ abbrev pub EndsCount :
     HeapShown → RegionShown → RegionShown → CallerShown → CallerShown → List Change → CallRefusal
     → Type 0
 EndsCount heap old new q r changes (CountEnd which) =
-    (first_at_end q.held.part old changes ≡ Some which) × WasNoted heap old new q r
+    (first_at_end q.known.part old changes ≡ Some which) × WasNoted heap old new q r
 EndsCount heap old new q r changes _ = ⊥
 
 -- No caller was cut in the unit, and there is a number for all that the operation would be given.
@@ -44,4 +44,4 @@ pub record MayBeCalled (q : CallerShown) (r : RegionShown) (op : Op) : Type 0 wh
   pub reply : Reply
   pub changes : List Change
   pub plan : IsPlan r op reply changes
-  pub numbers : first_at_end q.held.part r changes ≡ None
+  pub numbers : first_at_end q.known.part r changes ≡ None

@@ -29,7 +29,7 @@ use Rattle.core_steps.specs.declared.parts.CallerPart.{CallerPart}
 use Rattle.core_steps.specs.Opened.{opened_at}
 use Rattle.core_steps.specs.Sound.{base_state}
 use Rattle.heap.specs.HeapShown.{HeapShown, CallerShown}
-use Rattle.slots.specs.Beginning.{BeginsWith, greatest, identities_in, live_serials, serial_at_first, fresh_books, first_books}
+use Rattle.slots.specs.RegionBeginning.{BeginsWith, greatest, identities_in, live_serials, serial_at_first, fresh_books, first_books}
 use Rattle.slots.specs.Books.{RegionShown}
 use Rattle.structure_call.specs.Calling.{HasAnsweredCall, HasEnd, LeavesCall, is_insertion, is_enqueuing}
 
@@ -107,13 +107,13 @@ AreVersionsWithin s unit objects changes records =
 -- besides; and each change made a version later by one.
 pub record IsCountedFrom (heap : HeapShown) (r : RegionShown) (base : State) : Type 0 where
   pub identity : r.books.identity
-      ≡ greatest_opened heap r.books.unit + insertions base r.seat.held.part.history + 1
+      ≡ greatest_opened heap r.books.unit + insertions base r.seat.known.part.history + 1
   pub versions : AreVersionsWithin heap.opening.layout r.books.unit
-      (objects_opened heap r.books.unit) (changes_made base r.seat.held.part.history)
-      r.seat.held.part.records
+      (objects_opened heap r.books.unit) (changes_made base r.seat.known.part.history)
+      r.seat.known.part.records
   pub serial : r.books.serial
       ≡ serial_at_first heap.opening.layout r.books.unit (records_opened heap r.books.unit)
-      + enqueued base r.seat.held.part.history
+      + enqueued base r.seat.known.part.history
 
 -- Unless a caller was cut in the unit, its numbers are counted from the state that it was opened
 -- with, by whatever states recovery gives.
@@ -133,7 +133,7 @@ abbrev pub FreshAreCounted : Type 0
 FreshAreCounted =
     (heap : HeapShown) (r : RegionShown)
     → records_opened heap r.books.unit ≡ []
-    → r.books ≡ fresh_books heap.opening.layout r.books.unit → BeginsWith r.seat.held.part [] []
+    → r.books ≡ fresh_books heap.opening.layout r.books.unit → BeginsWith r.seat.known.part [] []
     → HasCounted heap r
 
 abbrev pub RecoveredAreCounted : Type 0
@@ -141,7 +141,7 @@ RecoveredAreCounted =
     (heap : HeapShown) (r : RegionShown) (lost : List ℕ)
     → r.books
     ≡ first_books heap.opening.layout r.books.unit (records_opened heap r.books.unit) lost
-    → BeginsWith r.seat.held.part (records_opened heap r.books.unit) lost → HasCounted heap r
+    → BeginsWith r.seat.known.part (records_opened heap r.books.unit) lost → HasCounted heap r
 
 -- and so it has after each call
 abbrev pub AnswersAreCounted : Type 0
@@ -160,9 +160,9 @@ RefusalsAreCounted =
 -- The operation would insert an object, and there is no identity for it.
 pub record LacksIdentity (heap : HeapShown) (r : RegionShown) (op : Op) (base : State)
     : Type 0 where
-  pub inserts : 1 ≤ count_by is_insertion (effects_behind base r.seat.held.part.history op)
+  pub inserts : 1 ≤ count_by is_insertion (effects_behind base r.seat.known.part.history op)
   pub none_left : LAST
-      ≤ greatest_opened heap r.books.unit + insertions base r.seat.held.part.history
+      ≤ greatest_opened heap r.books.unit + insertions base r.seat.known.part.history
 
 -- the effect would make a later version of its thing, and there is none
 abbrev pub LacksVersion : List Object → ℕ → Effect → Type 0
@@ -174,17 +174,17 @@ abbrev pub LacksVersions : HeapShown → RegionShown → Op → State → Type 0
 LacksVersions heap r op base =
     Any
     (LacksVersion (objects_opened heap r.books.unit)
-    (changes_made base r.seat.held.part.history))
-    (effects_behind base r.seat.held.part.history op)
+    (changes_made base r.seat.known.part.history))
+    (effects_behind base r.seat.known.part.history op)
 
 -- The operation would add an item, and there is no serial for it.
 pub record LacksSerial (heap : HeapShown) (r : RegionShown) (op : Op) (base : State)
     : Type 0 where
   pub of_queue : kind_of heap.opening.layout r.books.unit ≡ Some kinds.Queue
-  pub adds : 1 ≤ count_by is_enqueuing (effects_behind base r.seat.held.part.history op)
+  pub adds : 1 ≤ count_by is_enqueuing (effects_behind base r.seat.known.part.history op)
   pub none_left : LAST
       ≤ greatest (live_serials (records_opened heap r.books.unit))
-      + enqueued base r.seat.held.part.history
+      + enqueued base r.seat.known.part.history
 
 -- what a caller or its unit lacks
 abbrev pub LacksNumber : HeapShown → RegionShown → CallerPart → Op → State → Which → Type 0
@@ -200,4 +200,4 @@ NumbersEnd =
     → old.books.layout ≡ heap.opening.layout
     → HasEnd heap old new q r op (CountEnd which) → HasCounted heap old
     → (states : List State) → IsRecovered heap.opening.layout heap.opening.words states
-    → LacksNumber heap old q.held.part op (opened_with heap states old.books.unit) which
+    → LacksNumber heap old q.known.part op (opened_with heap states old.books.unit) which

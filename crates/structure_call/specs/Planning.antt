@@ -53,9 +53,9 @@ pub record IsPlan
     (r : RegionShown) (op : Op) (reply : Reply) (changes : List Change) : Type 0 where
   pub of_unit : IsOpOf r.books.layout r.books.unit op
   pub state : State
-  pub shown : HasStructure r.books.layout r.books.unit r.seat.held.part.records state
+  pub shown : HasStructure r.books.layout r.books.unit r.seat.known.part.records state
   pub replies : reply ≡ (step state op).reply
-  pub makes : AllZip (Makes r.books r.seat.held.part.records) (step state op).effects changes
+  pub makes : AllZip (Makes r.books r.seat.known.part.records) (step state op).effects changes
 
 -- ---- numbers
 -- an item is added to a queue
@@ -67,4 +67,4 @@ adds_item b changes = list_any (has_serial b.layout b.unit) changes
 abbrev pub first_at_end : CallerPart → RegionShown → List Change → Option Which
 first_at_end q r changes =
     if nat_lt LAST q.calls then Some ends.Call
-    else first_end r.books r.seat.held.part.records changes (adds_item r.books changes)
+    else first_end r.books r.seat.known.part.records changes (adds_item r.books changes)

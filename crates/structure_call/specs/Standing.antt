@@ -9,12 +9,12 @@ use Rattle.mont_laws.specs.Structures.{HasStructure}
 use Rattle.core_steps.specs.Opened.{opened_at}
 use Rattle.core_steps.specs.Sound.{base_state}
 use Rattle.heap.specs.HeapShown.{HeapShown}
-use Rattle.heap_rule.specs.declared.views.UnitHeld.{UnitHeld}
+use Rattle.heap_rule.specs.declared.views.UnitKnown.{UnitKnown}
 use Rattle.heap_rule.specs.Views.{are_clean, home_turn}
 use Rattle.slots.specs.Books.{RegionShown, IsRegionOf, IsAtRest}
 
 -- no operation is under way, and the unit's list is at home
-pub record IsIdle (h : UnitHeld) : Type 0 where
+pub record IsIdle (h : UnitKnown) : Type 0 where
   pub rests : IsAtRest h.part
   pub home : h.turn ≡ home_turn
 
@@ -22,9 +22,9 @@ pub record IsIdle (h : UnitHeld) : Type 0 where
 -- unless a caller was cut in it.
 pub record IsStanding (heap : HeapShown) (r : RegionShown) : Type 0 where
   pub of_heap : IsRegionOf heap r
-  pub clean : IsTrue (are_clean (units_of heap.opening.layout) r.seat.held.clean)
-  pub home : r.seat.held.turn.out ≡ false
-  pub idle : r.books.halted ≡ None → IsIdle r.seat.held
+  pub clean : IsTrue (are_clean (units_of heap.opening.layout) r.seat.known.clean)
+  pub home : r.seat.known.turn.out ≡ false
+  pub idle : r.books.halted ≡ None → IsIdle r.seat.known
 
 -- it does in one way at most
 pub standing_once : (heap : HeapShown) (r : RegionShown) → IsProp (IsStanding heap r)
@@ -35,6 +35,6 @@ standing_once heap r = hlevel props
 abbrev pub ShowsHistory : HeapShown → RegionShown → Type 0
 ShowsHistory heap r =
     (states : List State) → IsRecovered heap.opening.layout heap.opening.words states
-    → HasStructure heap.opening.layout r.books.unit r.seat.held.part.records
+    → HasStructure heap.opening.layout r.books.unit r.seat.known.part.records
     (state_after (base_state (opened_at (clock_of heap.opening.words) states) r.books.unit)
-    r.seat.held.part.history)
+    r.seat.known.part.history)

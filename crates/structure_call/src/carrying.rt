@@ -42,7 +42,7 @@ pub fn carry_out<R: Wait, G: Gate>(
     requires pass { pass.old.ticket.table ≡ heap.now.table }
     requires spare { 1 ≤ spare_of pass.old.receipts }
     requires plan { IsPlan region.old op.now reply.now changes.now }
-    requires numbers { first_at_end pass.old.ticket.held.part region.old changes.now ≡ None }
+    requires numbers { first_at_end pass.old.ticket.known.part region.old changes.now ≡ None }
     ensures gate { IsAskedOften G.cuts G.endless pass.old.gate pass.new.gate (was_cut result) }
     ensures answered { IfOk result (λ carried. HasAnsweredCall heap.now region.old region.new
         pass.old.ticket pass.new.ticket op.now carried.receipt) }
@@ -88,8 +88,8 @@ fn write_all<G: Gate>(
     requires under_way { IsUnderWay heap.now guard region.old }
     requires needed { guard.written + length changes.now ≤ guard.need }
     requires pass { pass.old.ticket.table ≡ heap.now.table }
-    requires by { guard.by ≡ pass.old.ticket.held.caller }
-    requires may { CanPutAll region.old.books region.old.seat.held.part.records changes.now }
+    requires by { guard.by ≡ pass.old.ticket.known.caller }
+    requires may { CanPutAll region.old.books region.old.seat.known.part.records changes.now }
     ensures gate { IsAskedOften G.cuts G.endless pass.old.gate pass.new.gate (is_err result) }
     ensures receipts { pass.new.receipts ≡ pass.old.receipts }
     ensures written { IfOk result (λ done. HasWrittenAll heap.now region.old region.new guard

@@ -49,13 +49,13 @@ pub fn check_numbers<G: Gate>(
     requires region { region.old.seat.table ≡ heap.now.table }
     requires agrees { Agrees region.old }
     requires pass { pass.old.ticket.table ≡ heap.now.table }
-    requires named { All (NamesLive region.old.seat.held.part.records) changes.now }
+    requires named { All (NamesLive region.old.seat.known.part.records) changes.now }
     requires serial { serial ≡ adds_item region.old.books changes.now }
     ensures gate { pass.new.gate ≡ pass.old.gate }
     ensures receipts { pass.new.receipts ≡ pass.old.receipts }
     ensures agrees { Agrees region.new }
     ensures ok { OnOk result (
-        (first_at_end pass.old.ticket.held.part region.old changes.now ≡ None)
+        (first_at_end pass.old.ticket.known.part region.old changes.now ≡ None)
         × (region.new ≡ region.old) × (pass.new.ticket ≡ pass.old.ticket)) }
     ensures ends { IfErr result (λ why. EndsCount heap.now region.old region.new
         pass.old.ticket pass.new.ticket changes.now why) }

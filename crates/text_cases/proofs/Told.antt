@@ -7,7 +7,7 @@ use Rattle.job_text.specs.Grammar.{Takes}
 use Rattle.job_text.specs.JobText.{job_text}
 use Rattle.text_cases.specs.declared.job_outcome.JobOutcome.{JobOutcome}
 use Rattle.text_cases.specs.declared.job_outcome.JobOutcome.TheVariants.{Read}
-use Rattle.text_cases.specs.Outcomes.{IsOutcome}
+use Rattle.text_cases.specs.CaseOutcomes.{IsOutcome}
 
 pub told_read : {E : Type 0} (g : Grammar) (text : List ℕ) (j : Job) (result : Result JobOutcome E) → Takes g j → text ≡ job_text j
     → IfOk result (λ (o : JobOutcome). o ≡ Read (length j.stops) (length j.lines) true) → IfOk result (IsOutcome g text)

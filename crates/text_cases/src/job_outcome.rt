@@ -2,7 +2,7 @@
 ghost use Rattle.std.specs.Prelude.{◌≡◌, ◌<◌, true, length, IfOk};
 ghost use Rattle.job_text.specs.Grammar.{IsJob};
 ghost use Rattle.job_text.specs.JobText.{job_text};
-ghost use Rattle.text_cases.specs.Outcomes.{IsOutcome};
+ghost use Rattle.text_cases.specs.CaseOutcomes.{IsOutcome};
 ghost use Rattle.text_cases.specs.declared.job_outcome.JobOutcome.TheVariants.{Read};
 
 use job_text::{Grammar, Job, JobFault, JobRefusal, read_job_of, write_job};

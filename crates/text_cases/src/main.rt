@@ -2,16 +2,16 @@
 //! why, and which are read back byte for byte.
 #![tactic(auto)]
 
-mod answers;
 mod job_answer;
 mod job_outcome;
 mod report_answer;
 mod report_outcome;
+mod text_answers;
 
-use answers::TextCases;
 use anyhow::Result;
 use case_file::try_cases;
 use std::process::ExitCode;
+use text_answers::TextCases;
 
 fn main(rt: HostRuntime) -> Result<ExitCode> {
     try_cases(&rt, &TextCases { alloc: rt.alloc() })

@@ -13,7 +13,7 @@ use Rattle.mont_base.specs.declared.operation.Op.{Op}
 use Rattle.mont_base.specs.declared.operation.Op.TheVariants as ops
 use Rattle.mont_base.specs.State.{Key, Value, Pairs, State, MapOf, Step, key_cmp, map_step, map_del, earlier_text}
 use Rattle.mont_base.specs.History.{state_after, RepliesFollow}
-use Rattle.unit_totals.specs.Books.{total_of, put_by, told_by, taken_by, put_in, taken_out, BooksBalance}
+use Rattle.unit_totals.specs.MapBooks.{total_of, put_by, told_by, taken_by, put_in, taken_out, BooksBalance}
 
 is_less : (r : Ordering) → is_lt r ≡ true → r ≡ Less
 is_less Less h = refl

@@ -18,7 +18,7 @@ use Rattle.mont_base.specs.declared.record.Object.{Object}
 use Rattle.mont_base.proofs.KindTable.{one_kind}
 use Rattle.mont_laws.proofs.SameKind.{same_kind_after, of_one_kind}
 use Rattle.store_stop.specs.Headline.{IsRebuilt}
-use Rattle.unit_totals.specs.Books.{total_of, put_by, taken_by, put_in, taken_out}
+use Rattle.unit_totals.specs.MapBooks.{total_of, put_by, taken_by, put_in, taken_out}
 use Rattle.unit_totals.proofs.Balance.{balance}
 
 -- what an entry counts if its epoch is at most x

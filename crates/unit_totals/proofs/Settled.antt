@@ -12,7 +12,7 @@ use Rattle.mont_base.specs.Image.{cut_of}
 use Rattle.mont_base.specs.State.{Value}
 use Rattle.store_stop.proofs.Outliving.{stopped_stores_outlive_crashes}
 use Rattle.plain.specs.States.{states_of}
-use Rattle.unit_totals.specs.Books.{put_in, taken_out}
+use Rattle.unit_totals.specs.MapBooks.{put_in, taken_out}
 use Rattle.unit_totals.specs.Transfers.{IsTransfer, IsNoMatter, AreTransfers, both_of, receipts_in, StoppedStoresKeepTotals}
 use Rattle.unit_totals.proofs.Named.{each_once, callers_name}
 use Rattle.unit_totals.proofs.Rebuilt.{within, accounts, all_account}

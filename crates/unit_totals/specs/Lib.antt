@@ -1,3 +1,3 @@
-pub mod Books
+pub mod MapBooks
 pub mod Naming
 pub mod Transfers

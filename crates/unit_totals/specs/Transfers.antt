@@ -13,7 +13,7 @@ use Rattle.core_steps.specs.CallerClauses.{receipts_of}
 use Rattle.heap.specs.HeapShown.{CallerShown}
 use Rattle.store_stop.specs.declared.headline.Stopped.{Stopped}
 use Rattle.store_stop.specs.Headline.{IsStopped, parts_shown}
-use Rattle.unit_totals.specs.Books.{total_in, put_in, taken_out}
+use Rattle.unit_totals.specs.MapBooks.{total_in, put_in, taken_out}
 use Rattle.unit_totals.specs.Naming.{all_receipts}
 
 -- two entries of one epoch, which together put in what they take out

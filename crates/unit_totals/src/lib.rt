@@ -2,10 +2,10 @@
 //! a crash keeps the total. These are laws over the definitions; nothing here runs.
 #![tactic(auto)]
 
-mod books;
+mod map_books;
 mod naming;
 mod transfers;
 
-pub use books::books_balance;
+pub use map_books::books_balance;
 pub use naming::{callers_name_each_once, each_once_sums_up};
 pub use transfers::stopped_stores_keep_totals;

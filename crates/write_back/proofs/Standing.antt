@@ -8,7 +8,7 @@ use Rattle.mont_base.specs.Layout.{Shape, total_of}
 use Rattle.core_steps.specs.declared.parts.AdvPart.{AdvPart}
 use Rattle.core_steps.specs.declared.parts.AdvPart.TheVariants.{Flushing, Holding}
 use Rattle.core_steps.specs.Flushing.{can_load_word}
-use Rattle.heap_rule.specs.declared.views.AdvHeld.{AdvHeld}
+use Rattle.heap_rule.specs.declared.views.AdvKnown.{AdvKnown}
 use Rattle.heap_rule.specs.Views.{joined, list_at, holding, place_at_hand, slot_at_hand, advancer_loaded, advancer_gave}
 use Rattle.write_back.specs.declared.flush.Flush.{Flush}
 use Rattle.heap_pass.specs.OfLayout.{IsOfLayout}
@@ -20,7 +20,7 @@ at_out : (b : Bool) (l : List ℕ) (k s : ℕ) → slice_get (cond b l []) k ≡
 at_out true l k s e = refl
 at_out false l k s e = absurd (cc)
 
-module _ (f : Flush) (a : AdvHeld) (s : StandsAt f a) where
+module _ (f : Flush) (a : AdvKnown) (s : StandsAt f a) where
   -- the unit is one of the store's
   pub taken_inside : a.turn.out ≡ true → a.turn.emptied < a.units
   taken_inside out =
@@ -91,7 +91,7 @@ module _ (f : Flush) (a : AdvHeld) (s : StandsAt f a) where
 
     -- it is loaded
     pub loaded : (found : ℕ) → f.held ≡ false → StandsAt (record f { held = true }) (advancer_loaded a found)
-    loaded found held = record {
+    loaded found known = record {
       part = ap (λ (p : AdvPart). holding p found) s.part
           ∙ ap (λ (b : Bool). holding
           (cond b (Holding (slots_given a + f.at) f.field a.loaded) (Flushing (slots_given a + f.at) f.field)) found) held;

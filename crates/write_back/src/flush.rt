@@ -48,16 +48,16 @@ impl Flush {
         gate: &mut G,
     ) -> Result<(), Cut>
         requires heap { seat.old.table ≡ heap.now.table }
-        requires layout { IsOfLayout heap.now.opening.layout seat.old.held }
-        requires stands { StandsAt self.old seat.old.held }
+        requires layout { IsOfLayout heap.now.opening.layout seat.old.known }
+        requires stands { StandsAt self.old seat.old.known }
         ensures gate { IsAskedOften G.cuts G.endless gate.old gate.new (is_err result) }
-        ensures stands { StandsAt self.new seat.new.held }
+        ensures stands { StandsAt self.new seat.new.known }
         ensures stays { seat.new ≡ record {
           table = seat.old.table;
-          held = with_flush_of seat.old.held seat.new.held;
+          known = with_flush_of seat.old.known seat.new.known;
         } }
-        ensures ok { OnOk result (IsFlushed seat.new.held) }
-        ensures left { OnErr result (seat.new.held.turn.emptied < seat.new.held.units) }
+        ensures ok { OnOk result (IsFlushed seat.new.known) }
+        ensures left { OnErr result (seat.new.known.turn.emptied < seat.new.known.units) }
     {
         for _unit in self.unit..heap.layout().units() {
             self.take(heap, seat);
@@ -70,15 +70,15 @@ impl Flush {
     // Takes the list of the unit out, unless it is out.
     fn take(&mut self, heap: &Heap, seat: &mut AdvSeat)
         requires heap { seat.old.table ≡ heap.now.table }
-        requires stands { StandsAt self.old seat.old.held }
-        requires unit { seat.old.held.turn.emptied < seat.old.held.units }
-        ensures stands { StandsAt self.new seat.new.held }
+        requires stands { StandsAt self.old seat.old.known }
+        requires unit { seat.old.known.turn.emptied < seat.old.known.units }
+        ensures stands { StandsAt self.new seat.new.known }
         ensures stays { seat.new ≡ record {
           table = seat.old.table;
-          held = with_flush_of seat.old.held seat.new.held;
+          known = with_flush_of seat.old.known seat.new.known;
         } }
-        ensures out { seat.new.held.turn
-            ≡ record { emptied = seat.old.held.turn.emptied; out = true } }
+        ensures out { seat.new.known.turn
+            ≡ record { emptied = seat.old.known.turn.emptied; out = true } }
     {
         if self.list.is_some() {
             return;
@@ -94,17 +94,17 @@ impl Flush {
         gate: &mut G,
     ) -> Result<(), Cut>
         requires heap { seat.old.table ≡ heap.now.table }
-        requires layout { IsOfLayout heap.now.opening.layout seat.old.held }
+        requires layout { IsOfLayout heap.now.opening.layout seat.old.known }
         requires range { IsLayout heap.now.opening.layout }
-        requires stands { StandsAt self.old seat.old.held }
+        requires stands { StandsAt self.old seat.old.known }
         ensures gate { IsAskedOften G.cuts G.endless gate.old gate.new (is_err result) }
-        ensures stands { StandsAt self.new seat.new.held }
+        ensures stands { StandsAt self.new seat.new.known }
         ensures stays { seat.new ≡ record {
           table = seat.old.table;
-          held = with_flush_of seat.old.held seat.new.held;
+          known = with_flush_of seat.old.known seat.new.known;
         } }
-        ensures turn { seat.new.held.turn ≡ seat.old.held.turn }
-        ensures ok { OnOk result (self.new.at ≡ length (slots_out seat.old.held)) }
+        ensures turn { seat.new.known.turn ≡ seat.old.known.turn }
+        ensures ok { OnOk result (self.new.at ≡ length (slots_out seat.old.known)) }
     {
         while let Some(slot) = self.slot() {
             self.load(heap, seat, slot, gate)?;
@@ -116,18 +116,18 @@ impl Flush {
     // Gives the list back empty, and goes to the next unit.
     fn give(&mut self, heap: &Heap, seat: &mut AdvSeat)
         requires heap { seat.old.table ≡ heap.now.table }
-        requires layout { IsOfLayout heap.now.opening.layout seat.old.held }
+        requires layout { IsOfLayout heap.now.opening.layout seat.old.known }
         requires range { IsLayout heap.now.opening.layout }
-        requires stands { StandsAt self.old seat.old.held }
-        requires out { seat.old.held.turn.out ≡ true }
-        requires end { self.old.at ≡ length (slots_out seat.old.held) }
-        ensures stands { StandsAt self.new seat.new.held }
+        requires stands { StandsAt self.old seat.old.known }
+        requires out { seat.old.known.turn.out ≡ true }
+        requires end { self.old.at ≡ length (slots_out seat.old.known) }
+        ensures stands { StandsAt self.new seat.new.known }
         ensures stays { seat.new ≡ record {
           table = seat.old.table;
-          held = with_flush_of seat.old.held seat.new.held;
+          known = with_flush_of seat.old.known seat.new.known;
         } }
-        ensures home { seat.new.held.turn
-            ≡ record { emptied = seat.old.held.turn.emptied + 1; out = false } }
+        ensures home { seat.new.known.turn
+            ≡ record { emptied = seat.old.known.turn.emptied + 1; out = false } }
     {
         match self.list.take() {
             Some(mut list) => {
@@ -165,16 +165,16 @@ impl Flush {
         gate: &mut G,
     ) -> Result<(), Cut>
         requires heap { seat.old.table ≡ heap.now.table }
-        requires layout { IsOfLayout heap.now.opening.layout seat.old.held }
-        requires stands { StandsAt self.old seat.old.held }
-        requires slot { slice_get (slots_out seat.old.held) self.old.at ≡ Some slot }
+        requires layout { IsOfLayout heap.now.opening.layout seat.old.known }
+        requires stands { StandsAt self.old seat.old.known }
+        requires slot { slice_get (slots_out seat.old.known) self.old.at ≡ Some slot }
         ensures gate { IsAskedOften G.cuts G.endless gate.old gate.new (is_err result) }
-        ensures stands { StandsAt self.new seat.new.held }
+        ensures stands { StandsAt self.new seat.new.known }
         ensures stays { seat.new ≡ record {
           table = seat.old.table;
-          held = with_flush_of seat.old.held seat.new.held;
+          known = with_flush_of seat.old.known seat.new.known;
         } }
-        ensures turn { seat.new.held.turn ≡ seat.old.held.turn }
+        ensures turn { seat.new.known.turn ≡ seat.old.known.turn }
         ensures same { (self.new.at ≡ self.old.at) × (self.new.field ≡ self.old.field) }
         ensures ok { OnOk result (self.new.held ≡ true) }
     {
@@ -195,18 +195,18 @@ impl Flush {
         gate: &mut G,
     ) -> Result<(), Cut>
         requires heap { seat.old.table ≡ heap.now.table }
-        requires layout { IsOfLayout heap.now.opening.layout seat.old.held }
+        requires layout { IsOfLayout heap.now.opening.layout seat.old.known }
         requires range { IsLayout heap.now.opening.layout }
-        requires stands { StandsAt self.old seat.old.held }
-        requires slot { slice_get (slots_out seat.old.held) self.old.at ≡ Some slot }
+        requires stands { StandsAt self.old seat.old.known }
+        requires slot { slice_get (slots_out seat.old.known) self.old.at ≡ Some slot }
         requires held { self.old.held ≡ true }
         ensures gate { IsAskedOften G.cuts G.endless gate.old gate.new (is_err result) }
-        ensures stands { StandsAt self.new seat.new.held }
+        ensures stands { StandsAt self.new seat.new.known }
         ensures stays { seat.new ≡ record {
           table = seat.old.table;
-          held = with_flush_of seat.old.held seat.new.held;
+          known = with_flush_of seat.old.known seat.new.known;
         } }
-        ensures turn { seat.new.held.turn ≡ seat.old.held.turn }
+        ensures turn { seat.new.known.turn ≡ seat.old.known.turn }
         ensures ok { OnOk result (words_done self.new ≡ words_done self.old + 1) }
     {
         heap.persist_word(seat, slot, gate)?;

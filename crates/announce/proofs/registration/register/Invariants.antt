@@ -8,7 +8,7 @@ use Rattle.announce.proofs.registration.register.Given as goal
 abbrev pub invariant-loop : goal.invariant-loop
 invariant-loop g l = record {
   out : IsOut l.fn.seat l.seat;
-  steps : l.fn.seat.held.steps + 1 ≤ l.seat.held.steps;
-  clock : IsClock l.fn.seat.held.learnt l.fn.seat.held.part l.epoch;
+  steps : l.fn.seat.known.steps + 1 ≤ l.seat.known.steps;
+  clock : IsClock l.fn.seat.known.learnt l.fn.seat.known.part l.epoch;
   gate : IsAskedOften g.G.Gate.cuts g.G.Gate.endless l.fn.gate l.gate false;
 }

@@ -6,6 +6,6 @@ use Rattle.caller.proofs.telling.hear.Goals as goal
 
 pub returns-clause-greater : goal.returns-clause-greater
 returns-clause-greater g c =
-    let old = c.args.pass.now.ticket.held.part in
-    let news = c.args.news.held.note in
-    subst (λ (v : CallerShown). TakesGreater old news v.held.part) (sym c.hear_news.ensures) (takes_greater old news)
+    let old = c.args.pass.now.ticket.known.part in
+    let news = c.args.news.known.note in
+    subst (λ (v : CallerShown). TakesGreater old news v.known.part) (sym c.hear_news.ensures) (takes_greater old news)

@@ -4,7 +4,7 @@ use Rattle.core_steps.specs.declared.event.Event.{Event}
 use Rattle.core_steps.specs.Stages.{epoch_of}
 use Rattle.core_steps.specs.declared.parts.UnitPart.{UnitPart}
 use Rattle.core_steps.specs.declared.parts.CallerPart.{CallerPart}
-use Rattle.core_steps.specs.Answering.{CanLeave, CanRead}
+use Rattle.core_steps.specs.CallAnswers.{CanLeave, CanRead}
 use Rattle.core_steps.specs.Events.{UnitMay}
 use Rattle.core_run.proofs.AllowedSteps.{rows_decided}
 use Rattle.core_run.proofs.allowing.unit_may.Goals as goal

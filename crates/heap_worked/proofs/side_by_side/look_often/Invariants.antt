@@ -4,4 +4,4 @@ use Rattle.heap_worked.proofs.side_by_side.look_often.Given as goal
 
 abbrev pub invariant-loop-load : goal.invariant-loop-load
 invariant-loop-load l =
-    IsSameUnit l.initial.unit l.unit × (l.unit.held.part ≡ l.initial.unit.held.part)
+    IsSameUnit l.initial.unit l.unit × (l.unit.known.part ≡ l.initial.unit.known.part)

@@ -1,7 +1,7 @@
 use Rattle.std.proofs.Common.{refl, List, subst}
 use Rattle.mont_base.specs.declared.operation.Entry.{Entry}
 use Rattle.plain.specs.States.{states_of}
-use Rattle.job_report.specs.Ranges.{AreRuns}
+use Rattle.job_report.specs.FoundRuns.{AreRuns}
 use Rattle.job_report.proofs.Telling.{faithful as tells}
 use Rattle.job_report.proofs.reported.make_report.Goals as goal
 

@@ -8,7 +8,7 @@ returns-in_err-done-clause-stands g c =
     let ps = c.args.passes.now.items in
     on_err_of c.from_residual.result (
       map (λ _. None) ps,
-      none_begun (g.S.Asks.opening c.args.store.now) (g.S.Asks.has c.args.store.now) g.S.Asks.held
+      none_begun (g.S.Asks.opening c.args.store.now) (g.S.Asks.has c.args.store.now) g.S.Asks.known
           g.S.Asks.cuts g.S.Asks.endless c.args.job.now ps c.done_by.new.passes.items c.in_err-done.ensures.untouched
           c.requires.passes,
     )

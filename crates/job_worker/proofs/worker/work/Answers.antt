@@ -12,7 +12,7 @@ use Rattle.job_worker.proofs.worker.work.Goals.{else-loop-line-test, then-loop-l
 pub loop-line-init : goal.loop-line-init
 loop-line-init g c =
     let o = g.S.Asks.opening c.args.store.now in
-    let q = g.S.Asks.held c.args.pass.now in
+    let q = g.S.Asks.known c.args.pass.now in
     let none = c.new-outcomes.ensures.items in
     record {
       has = c.requires.pass;
@@ -26,27 +26,27 @@ loop-line-init g c =
 pub returns-in_err-reserve-clause-uncut : goal.returns-in_err-reserve-clause-uncut
 returns-in_err-reserve-clause-uncut g c =
     let i = c.loop-line.invariant in
-    on_err_of c.from_residual.result (uncut_cuts (g.S.Asks.opening c.args.store.now) (g.S.Asks.held c.args.pass.now)
-    (g.S.Asks.held c.loop-line.pass) c.args.lines.now c.loop-line.outcomes.items i.ends i.uncut)
+    on_err_of c.from_residual.result (uncut_cuts (g.S.Asks.opening c.args.store.now) (g.S.Asks.known c.args.pass.now)
+    (g.S.Asks.known c.loop-line.pass) c.args.lines.now c.loop-line.outcomes.items i.ends i.uncut)
 
 pub returns-in_err-outcome-clause-goes_on : goal.returns-in_err-outcome-clause-goes_on
 returns-in_err-outcome-clause-goes_on g c =
-    goes_trans (g.S.Asks.held c.args.pass.now) (g.S.Asks.held c.loop-line.pass) (g.S.Asks.held c.carry_out.new.pass)
+    goes_trans (g.S.Asks.known c.args.pass.now) (g.S.Asks.known c.loop-line.pass) (g.S.Asks.known c.carry_out_line.new.pass)
     c.loop-line.invariant.ends.goes_on c.in_err-outcome.ensures.keeps.goes_on
 
 pub returns-in_err-outcome-clause-uncut : goal.returns-in_err-outcome-clause-uncut
 returns-in_err-outcome-clause-uncut g c =
     let i = c.loop-line.invariant in
     on_err_of c.from_residual-in_err-outcome.result
-    (c.in_err-outcome.ensures.keeps.cuts ∙ uncut_cuts (g.S.Asks.opening c.args.store.now) (g.S.Asks.held c.args.pass.now)
-    (g.S.Asks.held c.loop-line.pass) c.args.lines.now c.loop-line.outcomes.items i.ends i.uncut)
+    (c.in_err-outcome.ensures.keeps.cuts ∙ uncut_cuts (g.S.Asks.opening c.args.store.now) (g.S.Asks.known c.args.pass.now)
+    (g.S.Asks.known c.loop-line.pass) c.args.lines.now c.loop-line.outcomes.items i.ends i.uncut)
 
 pub loop-line-preserved : goal.loop-line-preserved
 loop-line-preserved g c =
     let o = g.S.Asks.opening c.args.store.now in
-    let q = g.S.Asks.held c.args.pass.now in
-    let r = g.S.Asks.held c.loop-line.pass in
-    let s = g.S.Asks.held c.carry_out.new.pass in
+    let q = g.S.Asks.known c.args.pass.now in
+    let r = g.S.Asks.known c.loop-line.pass in
+    let s = g.S.Asks.known c.carry_out_line.new.pass in
     let i = c.loop-line.invariant in
     let xs = c.loop-line.outcomes.items in
     let x = c.in_ok-outcome.outcome in
@@ -55,8 +55,8 @@ loop-line-preserved g c =
     c.push_reserved.ensures.items ∙ ap (λ (v : List Outcome). v ++ x ∷ []) c.reserve.ensures.items in
     let uncut = sym c.is_cut.ensures ∙ c.if-is_cut.false in
     record {
-      has = c.carry_out.ensures.pass;
-      gate = asked_on g.S.Asks.cuts g.S.Asks.endless c.args.pass.now c.loop-line.pass c.carry_out.new.pass (ends_lines x) uncut
+      has = c.carry_out_line.ensures.pass;
+      gate = asked_on g.S.Asks.cuts g.S.Asks.endless c.args.pass.now c.loop-line.pass c.carry_out_line.new.pass (ends_lines x) uncut
           i.gate c.in_ok-outcome.ensures.gate;
       count = let long = ap length made in let n = length-append xs (x ∷ []) in let k = i.count in omega (arith, long, n, k);
       uncut = subst (λ (v : List Outcome). AreUncut v) (sym made) (more_uncut xs x i.uncut uncut);
@@ -73,22 +73,22 @@ returns g c =
     let start = c.args.pass.now in
     let i = c.loop-line.invariant in
     let xs = c.loop-line.outcomes.items in
-    let d : HasDone g.S.Asks.cuts g.S.Asks.endless g.S.Asks.held has o lines start c.loop-line-test.pass c.loop-line-test.outcomes.items =
+    let d : HasDone g.S.Asks.cuts g.S.Asks.endless g.S.Asks.known has o lines start c.loop-line-test.pass c.loop-line-test.outcomes.items =
     elim c.loop-line-test.branch [
       | else-loop-line-test w ↦
-          done_along g.S.Asks.cuts g.S.Asks.endless g.S.Asks.held has o lines start c.loop-line-test.pass c.loop-line.pass
+          done_along g.S.Asks.cuts g.S.Asks.endless g.S.Asks.known has o lines start c.loop-line-test.pass c.loop-line.pass
           c.loop-line-test.outcomes.items xs w.pass-is (ap (λ v. v.items) w.outcomes-is)
-          (done_all g.S.Asks.cuts g.S.Asks.endless g.S.Asks.held has o lines start c.loop-line.pass xs i.has i.gate
+          (done_all g.S.Asks.cuts g.S.Asks.endless g.S.Asks.known has o lines start c.loop-line.pass xs i.has i.gate
           (let count = i.count in let past = w.loop-line-test.false in let most = c.loop-line.auto.line-index-end in
           omega (arith, count, past, most)) i.uncut i.ends)
       | then-loop-line-test+in_ok-reserve+in_ok-outcome+then-is_cut w ↦ (
           let x = w.in_ok-outcome.outcome in
           let made : w.push_reserved.new.self.items ≡ xs ++ x ∷ [] =
           w.push_reserved.ensures.items ∙ ap (λ (v : List Outcome). v ++ x ∷ []) w.reserve.ensures.items in
-          done_along g.S.Asks.cuts g.S.Asks.endless g.S.Asks.held has o lines start c.loop-line-test.pass w.carry_out.new.pass
+          done_along g.S.Asks.cuts g.S.Asks.endless g.S.Asks.known has o lines start c.loop-line-test.pass w.carry_out_line.new.pass
           c.loop-line-test.outcomes.items (xs ++ x ∷ []) w.pass-is (ap (λ v. v.items) w.outcomes-is ∙ made)
-          (done_cut g.S.Asks.cuts g.S.Asks.endless g.S.Asks.held has o lines start c.loop-line.pass w.carry_out.new.pass xs
-          w.line-item.result x w.carry_out.ensures.pass i.gate w.in_ok-outcome.ensures.gate
+          (done_cut g.S.Asks.cuts g.S.Asks.endless g.S.Asks.known has o lines start c.loop-line.pass w.carry_out_line.new.pass xs
+          w.line-item.result x w.carry_out_line.ensures.pass i.gate w.in_ok-outcome.ensures.gate
           (sym w.is_cut.ensures ∙ w.if-is_cut.true)
           (line_there lines xs c.loop-line.line-index w.line-item.result i.count w.loop-line-test.true w.line-item.is)
           i.uncut i.ends w.in_ok-outcome.ensures.ends))

@@ -10,5 +10,5 @@ invariant-loop-line g l = record {
   gate : IsAskedOften g.S.Asks.cuts g.S.Asks.endless l.fn.pass l.pass false;
   count : length l.outcomes.items ≡ l.line-index;
   uncut : AreUncut l.outcomes.items;
-  ends : AreEnds (g.S.Asks.opening l.fn.store) (g.S.Asks.held l.fn.pass) (g.S.Asks.held l.pass) l.lines l.outcomes.items;
+  ends : AreEnds (g.S.Asks.opening l.fn.store) (g.S.Asks.known l.fn.pass) (g.S.Asks.known l.pass) l.lines l.outcomes.items;
 }

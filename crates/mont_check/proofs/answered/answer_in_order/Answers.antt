@@ -5,7 +5,7 @@ use Rattle.job_text.specs.declared.outcome.Outcome.TheVariants.{At}
 use Rattle.job_text.specs.Outcomes.{InOrder}
 use Rattle.job_text.specs.PlainReport.{report_of}
 use Rattle.mont_check.specs.Ahead.{AreAhead}
-use Rattle.mont_check.specs.Answered.{AnswersInOrder}
+use Rattle.mont_check.specs.AnsweredCallers.{AnswersInOrder}
 use Rattle.mont_check.proofs.AnswerLaws.{AskFor, adds_never, ask_more, ask_never, asked_for_all, line_found, more_in_order, more_shown, not_allowed}
 use Rattle.mont_check.proofs.answered.answer_in_order.Goals as goal
 

@@ -3,7 +3,7 @@ use Rattle.std.specs.Prelude.{◌↔◌, IsTrue}
 use Rattle.std.proofs.lemmas.Option.{slice_get_within}
 use Rattle.job_text.specs.PlainReport.{report_of}
 use Rattle.mont_check.specs.declared.moments.Question.{Question}
-use Rattle.mont_check.specs.Answered.{AllMet}
+use Rattle.mont_check.specs.AnsweredCallers.{AllMet}
 use Rattle.mont_check.proofs.AnswerLaws.{ask_caller, never_caller}
 use Rattle.mont_check.proofs.answered.are_answered.Goals as goal
 

@@ -3,7 +3,7 @@ use Rattle.std.specs.Prelude.{◌↔◌}
 use Rattle.mont_base.specs.declared.record.Held.{Held}
 use Rattle.job_text.specs.Faithful.{AnsweredAt}
 use Rattle.job_text.specs.PlainReport.{report_of}
-use Rattle.mont_check.specs.Answered.{AllMet}
+use Rattle.mont_check.specs.AnsweredCallers.{AllMet}
 use Rattle.mont_check.proofs.answered.are_answered.Given as goal
 
 abbrev pub invariant-loop-caller : goal.invariant-loop-caller

@@ -4,7 +4,7 @@ use Rattle.job_text.specs.declared.outcome.Outcome.{Outcome}
 use Rattle.job_text.specs.Faithful.{AnsweredAt}
 use Rattle.job_text.specs.PlainReport.{report_of}
 use Rattle.job_text.specs.Report.{lines_of}
-use Rattle.mont_check.specs.Answered.{AnswersInOrder, AreCounted, TellsLines}
+use Rattle.mont_check.specs.AnsweredCallers.{AnswersInOrder, AreCounted, TellsLines}
 use Rattle.mont_check.proofs.AnswerLaws.{adds_as, answered_where}
 use Rattle.mont_check.proofs.answered.is_answered.Goals as goal
 

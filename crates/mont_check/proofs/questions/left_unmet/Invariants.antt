@@ -1,6 +1,6 @@
 use Rattle.std.proofs.Common.{List, take}
 use Rattle.mont_base.specs.declared.record.Held.{Held}
-use Rattle.mont_check.specs.Opening.{IsOpening}
+use Rattle.mont_check.specs.OpenedNumbers.{IsOpening}
 use Rattle.mont_check.specs.Questions.{AreTried}
 use Rattle.mont_check.specs.Walk.{facts_of}
 use Rattle.mont_check.proofs.questions.left_unmet.Given as goal

@@ -4,7 +4,7 @@ use Rattle.std.specs.List.Sorted.{IsNonDecreasingBy}
 use Rattle.mont_base.specs.declared.record.Held.{Held}
 use Rattle.plain.specs.States.{state_of}
 use Rattle.mont_check.specs.declared.asked.Asked.{Asked}
-use Rattle.mont_check.specs.Opening.{IsOpening}
+use Rattle.mont_check.specs.OpenedNumbers.{IsOpening}
 use Rattle.mont_check.specs.Questions.{IsReady}
 use Rattle.mont_check.specs.Walk.{facts_after, facts_of}
 use Rattle.mont_check.proofs.QuestionLaws.{Asks}

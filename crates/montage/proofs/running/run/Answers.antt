@@ -10,7 +10,8 @@ use Rattle.montage.proofs.running.run.Goals as goal
 pub returns-clause-worked : goal.returns-clause-worked
 returns-clause-worked g c =
     subst
-    (λ (h : HeapShown). IfOk c.run_job.result (λ ran. AreWorked h.opening (λ p. IsWholePass h p.ticket p.receipts.items) (λ p. p.ticket.held)
+    (λ (h : HeapShown). IfOk c.run_job.result (λ ran. AreWorked h.opening (λ p. IsWholePass h p.ticket p.receipts.items)
+    (λ p. p.ticket.known)
     (λ p. g.G.Gate.cuts p.gate) (λ p. g.G.Gate.endless p.gate) c.args.job.now c.args.passes.now.items
     c.run_job.new.passes.items (map Some ran.outcomes)))
     c.heap-heap.ensures.named c.run_job.ensures.worked
@@ -19,7 +20,7 @@ pub returns-clause-stands : goal.returns-clause-stands
 returns-clause-stands g c =
     subst
     (λ (h : HeapShown). OnErr c.run_job.result ((done : List (Option (List Outcome)))
-    × AreWorked h.opening (λ p. IsWholePass h p.ticket p.receipts.items) (λ p. p.ticket.held) (λ p. g.G.Gate.cuts p.gate)
+    × AreWorked h.opening (λ p. IsWholePass h p.ticket p.receipts.items) (λ p. p.ticket.known) (λ p. g.G.Gate.cuts p.gate)
     (λ p. g.G.Gate.endless p.gate) c.args.job.now c.args.passes.now.items c.run_job.new.passes.items done))
     c.heap-heap.ensures.named c.run_job.ensures.stands
 
@@ -30,7 +31,8 @@ returns-clause-callers g c =
     subst
     (λ (h : HeapShown). AreAllCallers h (map (λ p. p.ticket) olds) → AreAllCallers h (map (λ p. p.ticket) news))
     c.heap-heap.ensures.named
-    (all_left c.args.store.now (λ p. p.ticket) (λ p. p.receipts.items) (λ p. g.G.Gate.cuts p.gate) (λ p. g.G.Gate.endless p.gate) c.args.job.now olds news
+    (all_left c.args.store.now (λ p. p.ticket) (λ p. p.receipts.items) (λ p. g.G.Gate.cuts p.gate) (λ p. g.G.Gate.endless p.gate)
+    c.args.job.now olds news
     c.run_job.result (λ ran. map Some ran.outcomes) c.run_job.ensures.worked c.run_job.ensures.stands)
 
 pub returns-clause-whole : goal.returns-clause-whole

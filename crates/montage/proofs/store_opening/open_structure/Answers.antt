@@ -5,7 +5,7 @@ use Rattle.std.specs.Vec.Iter.{into_iter_items}
 use Rattle.std.specs.FinMap as finite
 use Rattle.mont_base.specs.declared.kinds.UnitKind.TheVariants as kinds
 use Rattle.mont_base.specs.Layout.{Shape, IsLayout}
-use Rattle.slots.specs.Beginning.{fresh_books}
+use Rattle.slots.specs.RegionBeginning.{fresh_books}
 use Rattle.montage.specs.declared.unit_at.Structure.TheVariants.{Map, Queue, Graph}
 use Rattle.montage.proofs.FirstSeats.{seat_begins, first_is_empty, first_stands_at}
 use Rattle.montage.specs.MapBoxes.{RefusesBox}

@@ -1,5 +1,5 @@
 use Rattle.std.proofs.Common.{◌≡◌, drop}
-use Rattle.montage_tool.specs.Gates.{gate_of}
+use Rattle.montage_tool.specs.RunGates.{gate_of}
 use Rattle.montage_tool.proofs.gates.gate_of.Given as goal
 
 -- none of the stops so far is that of this number

@@ -1,4 +1,4 @@
-use Rattle.montage_tool.specs.Gates.{AreGates}
+use Rattle.montage_tool.specs.RunGates.{AreGates}
 use Rattle.montage_tool.proofs.gates.gates_of.Given as goal
 
 -- the gates of the callers so far

@@ -6,7 +6,7 @@ use Rattle.mont_base.specs.Image.{clock_of}
 use Rattle.mont_image.specs.StoredImage.{IsImage}
 use Rattle.scan.specs.Scanned.{IsReadable}
 use Rattle.image_units.specs.Found.{all_records}
-use Rattle.image_units.specs.Versions.{HasNoRepeat, IsRepeatRefusal}
+use Rattle.image_units.specs.FoundVersions.{HasNoRepeat, IsRepeatRefusal}
 use Rattle.image_units.proofs.UnitParts.{records_rise}
 use Rattle.old_image.specs.Migration.{IsUnitRefusal}
 use Rattle.old_image.specs.OldRecords.{IsSlotRefusal}

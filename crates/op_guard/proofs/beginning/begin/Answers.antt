@@ -39,10 +39,10 @@ returns-clause-begun g c =
     c.or_halt.ensures.ok in
     let registered = subst (λ (s : UnitShown). IsRegistered s seat epoch) c.seat_mut.ensures.value
     (IfOk-at_ok (λ (e : ℕ). IsRegistered c.seat_mut.result.now seat e) is c.register-registered.ensures.ok) in
-    let clock = subst (λ (s : UnitShown). IsClock s.held.learnt s.held.part epoch) c.seat_mut.ensures.value
-    (IfOk-at_ok (λ (e : ℕ). IsClock c.seat_mut.result.now.held.learnt c.seat_mut.result.now.held.part e) is
+    let clock = subst (λ (s : UnitShown). IsClock s.known.learnt s.known.part epoch) c.seat_mut.ensures.value
+    (IfOk-at_ok (λ (e : ℕ). IsClock c.seat_mut.result.now.known.learnt c.seat_mut.result.now.known.part e) is
     c.register-registered.ensures.clock) in
     begun_as heap old r c.or_halt.new.region p need epoch c.unit.result c.number.result seat kept.0
     (c.unit.ensures ∙ ap (λ (x : RegionShown). x.books.unit) kept.0)
-    (c.number.ensures ∙ ap (λ (x : CallerShown). x.held.caller) (kept.1 ∙ room.caller))
+    (c.number.ensures ∙ ap (λ (x : CallerShown). x.known.caller) (kept.1 ∙ room.caller))
     (has_begun heap old r p need epoch seat room.ready room.keeps room.learnt room.room room.made registered clock)

@@ -54,4 +54,4 @@ returns-in-Err-Cut-clause-refused g c =
     c.register_at.ensures.refused in
     let out = subst (λ (s : UnitShown). IsOut s seat) c.seat_mut.ensures.value found in
     halted_since c.args.heap.now old (region_with old seat) c.halt.new.region c.args.pass.now.ticket c.halt.new.ticket refl
-    (ap (λ (s : UnitShown). s.held.part.history) out.only) c.halt.ensures.halted
+    (ap (λ (s : UnitShown). s.known.part.history) out.only) c.halt.ensures.halted

@@ -16,7 +16,7 @@ use Rattle.op_guard.proofs.beginning.make_room.Goals as goal
 abbrev noting : CallerShown → UnitShown → CallerShown
 noting q seat = record {
   table = q.table;
-  held = caller_heard q.held (note_of_unit (length q.held.part.fronts) seat.held);
+  known = caller_heard q.known (note_of_unit (length q.known.part.fronts) seat.known);
 }
 
 pub or_halt-requires-clause-home : goal.or_halt-requires-clause-home
@@ -48,9 +48,9 @@ returns-then-free-need-2-clause-made g c =
       closed = IfOk-at_ok (λ (x : ℕ). HasClosed shown new x (due_at x shown.books.retired)) is given.closed;
       agrees = given.agrees;
       stays = given.stays;
-      rests = IfOk-at_ok (λ (x : ℕ). IsAtRest new.seat.held.part) is given.rests;
+      rests = IfOk-at_ok (λ (x : ℕ). IsAtRest new.seat.known.part) is given.rests;
       live = IfOk-at_ok (λ (x : ℕ). KeepsLive shown new) is given.live;
-      found = IfOk-at_ok (λ (x : ℕ). IsDurable (max shown.seat.held.part.durable shown.seat.held.learnt.durable) x) is given.clock;
+      found = IfOk-at_ok (λ (x : ℕ). IsDurable (max shown.seat.known.part.durable shown.seat.known.learnt.durable) x) is given.clock;
       begun = IfOk-at_ok (λ (x : ℕ). clock_of heap.opening.words ≤ x) is given.begun;
       sound = IfOk-at_ok (λ (x : ℕ). IsSound heap new) is given.sound;
     } in
@@ -77,18 +77,18 @@ returns-clause-refused g c =
       closed = IfOk-at_ok (λ (x : ℕ). HasClosed shown new x (due_at x shown.books.retired)) is given.closed;
       agrees = given.agrees;
       stays = given.stays;
-      rests = IfOk-at_ok (λ (x : ℕ). IsAtRest new.seat.held.part) is given.rests;
+      rests = IfOk-at_ok (λ (x : ℕ). IsAtRest new.seat.known.part) is given.rests;
       live = IfOk-at_ok (λ (x : ℕ). KeepsLive shown new) is given.live;
-      found = IfOk-at_ok (λ (x : ℕ). IsDurable (max shown.seat.held.part.durable shown.seat.held.learnt.durable) x) is given.clock;
+      found = IfOk-at_ok (λ (x : ℕ). IsDurable (max shown.seat.known.part.durable shown.seat.known.learnt.durable) x) is given.clock;
       begun = IfOk-at_ok (λ (x : ℕ). clock_of heap.opening.words ≤ x) is given.begun;
       sound = IfOk-at_ok (λ (x : ℕ). IsSound heap new) is given.sound;
     } in
     let seat : c.seat_mut.result.now ≡ new.seat = c.seat_mut.ensures.value ∙ ap (λ (x : RegionShown). x.seat) kept.0 in
     let same = kept.1 ∙ c.show.ensures.caller in
     let noted = c.hear_unit.ensures.caller ∙ (λ i. noting (same i) (seat i)) in
-    let had_seen = subst (λ (s : UnitShown). IsNotBeyond q.held s.held) seat
-    (subst (λ (x : CallerShown). IsNotBeyond x.held c.seat_mut.result.now.held) same c.hear_unit.ensures.front) in
-    let seen = subst (λ (s : UnitShown). HasSeenAll c.hear_unit.new.ticket.held s.held) seat c.hear_unit.ensures.all in
+    let had_seen = subst (λ (s : UnitShown). IsNotBeyond q.known s.known) seat
+    (subst (λ (x : CallerShown). IsNotBeyond x.known c.seat_mut.result.now.known) same c.hear_unit.ensures.front) in
+    let seen = subst (λ (s : UnitShown). HasSeenAll c.hear_unit.new.ticket.known s.known) seat c.hear_unit.ensures.all in
     let free = c.free-free.ensures ∙ ap (λ (x : RegionShown). length x.books.free) kept.0 in
     let whole : record { seat = c.hear_unit.new.seat; books = c.or_halt.new.region.books } ≡ new =
     (λ i. record { seat = (c.hear_unit.ensures.unit ∙ c.seat_mut.ensures.value) i; books = c.or_halt.new.region.books }) ∙ kept.0 in (

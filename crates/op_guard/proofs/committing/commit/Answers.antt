@@ -20,13 +20,13 @@ returns-clause-committed g c =
     let seat : lent ≡ seat_gave old = c.seat_mut.ensures.value ∙ c.list_written.ensures.seat in
     let kept = subst (λ z. OnOk z ((c.or_halt.new.region ≡ record { seat = left.seat; books = c.list_written.new.region.books })
     × (c.or_halt.new.ticket ≡ left.ticket))) is c.or_halt.ensures.ok in
-    let front = subst (λ z. OnOk z (IsNotBeyond q.held lent.held)) is given.front in
-    let before = subst (λ z. OnOk z ((now durable : ℕ) × IsSoundUnit heap.opening now durable lent.held)) is given.sound_before in
-    let sound = IfOk-at_ok (λ (x : Receipt). (now durable : ℕ) × IsSoundUnit heap.opening now durable left.seat.held) is given.sound in
+    let front = subst (λ z. OnOk z (IsNotBeyond q.known lent.known)) is given.front in
+    let before = subst (λ z. OnOk z ((now durable : ℕ) × IsSoundUnit heap.opening now durable lent.known)) is given.sound_before in
+    let sound = IfOk-at_ok (λ (x : Receipt). (now durable : ℕ) × IsSoundUnit heap.opening now durable left.seat.known) is given.sound in
     record {
       answered = record {
         receipt_is = search rules;
-        seen = seen_gave heap old lent seat q.held front;
+        seen = seen_gave heap old lent seat q.known front;
         caller = search rules;
         books = search rules;
         ready = search rules;

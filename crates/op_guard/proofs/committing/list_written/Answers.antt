@@ -11,10 +11,10 @@ give_list-requires-clause-list c =
     let r = c.args.region.now in
     let list = c.take_list-list.result in
     let seat = c.seat_mut.ensures.value in
-    let taken = c.take_list-list.ensures.list ∙ ap (λ (s : UnitShown). list_taken s.held) seat in
+    let taken = c.take_list-list.ensures.list ∙ ap (λ (s : UnitShown). list_taken s.known) seat in
     let pushed = c.push_slots.ensures
     ∙ ap (λ (ws : List Written). record { slots = list.slots ++ slots_of_written ws; room = list.room }) c.written.ensures in
     let out = c.seat_mut-2.ensures.value
-    ∙ (c.take_list-list.ensures.out ∙ ap (λ (s : UnitShown). record { table = s.table; held = unit_took s.held }) seat) in
+    ∙ (c.take_list-list.ensures.out ∙ ap (λ (s : UnitShown). record { table = s.table; known = unit_took s.known }) seat) in
     list_pushed r list c.requires.runs.agrees c.requires.home taken c.push_slots.new.list pushed
-    ∙ ap (λ (s : UnitShown). list_due s.held) (sym out)
+    ∙ ap (λ (s : UnitShown). list_due s.known) (sym out)

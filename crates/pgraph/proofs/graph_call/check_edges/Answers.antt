@@ -23,12 +23,12 @@ checked g c = subst (λ (es : List (Ends × Node)). AreChecked c.args.region.now
     c.in-Some.ensures.steps c.loop-node.invariant.2
 
 pub check_numbers-requires-clause-named : goal.check_numbers-requires-clause-named
-check_numbers-requires-clause-named g c = named_one c.loop-node.region.seat.held.part.records c.removal.result
-    (subst (NamesLive c.loop-node.region.seat.held.part.records) (sym c.removal.ensures)
+check_numbers-requires-clause-named g c = named_one c.loop-node.region.seat.known.part.records c.removal.result
+    (subst (NamesLive c.loop-node.region.seat.known.part.records) (sym c.removal.ensures)
     (next_live c.args.region.now c.loop-node.region c.args.pass.now.ticket c.loop-node.pass.ticket c.loop-node.yielded c.next.new.self
     (nodes_at c.args.index.now c.in-Vertex.vertex) (c.in-Some.field-0-0, c.in-Some.node)
     (checked g (goal.at.check_numbers-requires-clause-named g c).After-removal)
-    (subst (λ (n : Name). AreLiveEdges c.args.region.now.seat.held.part.records (nodes_with c.args.index.now (part_of n)))
+    (subst (λ (n : Name). AreLiveEdges c.args.region.now.seat.known.part.records (nodes_with c.args.index.now (part_of n)))
     c.in-Vertex.is c.requires.named)))
 
 pub loop-node-preserved : goal.loop-node-preserved
@@ -39,7 +39,7 @@ loop-node-preserved g c = (
       (nodes_at c.args.index.now c.in-Vertex.vertex) (c.in-Some.field-0-0, c.in-Some.node)
       (checked g (goal.at.loop-node-preserved g c).After-removal) c.check_numbers.new.region
       c.check_numbers.new.pass.ticket c.in_ok-check_numbers.ensures.ok.1 c.in_ok-check_numbers.ensures.ok.2
-      (subst (λ (x : Change). first_at_end c.loop-node.pass.ticket.held.part c.loop-node.region (x ∷ []) ≡ None)
+      (subst (λ (x : Change). first_at_end c.loop-node.pass.ticket.known.part c.loop-node.region (x ∷ []) ≡ None)
       c.removal.ensures c.in_ok-check_numbers.ensures.ok.0),
   c.in_ok-check_numbers.ensures.gate ∙ c.loop-node.invariant.3,
   c.in_ok-check_numbers.ensures.receipts ∙ c.loop-node.invariant.4,

@@ -12,10 +12,10 @@ use Rattle.pgraph.proofs.RemovalNumbers.{edges_named, last_named, removal_named,
 use Rattle.pgraph.proofs.graph_call.check_edit.Goals as goal
 
 pub check_edges-requires-clause-named : goal.check_edges-requires-clause-named
-check_edges-requires-clause-named g c = edges_named c.args.region.now.seat.held.part.records
+check_edges-requires-clause-named g c = edges_named c.args.region.now.seat.known.part.records
     (nodes_with c.args.index.now (part_of c.in-Remove.name)) c.in-Remove.node
     (removal_named c.args.index.now c.args.edit.now c.in-Remove.name c.in-Remove.node c.in-Remove.is
-    c.args.region.now.seat.held.part.records c.requires.named)
+    c.args.region.now.seat.known.part.records c.requires.named)
 
 pub returns-in_err-check_edges-in-Remove-clause-ends : goal.returns-in_err-check_edges-in-Remove-clause-ends
 returns-in_err-check_edges-in-Remove-clause-ends g c =
@@ -27,19 +27,19 @@ returns-in_err-check_edges-in-Remove-clause-ends g c =
 pub check_numbers-requires-in-Remove-clause-named : goal.check_numbers-requires-in-Remove-clause-named
 check_numbers-requires-in-Remove-clause-named g c =
     let ok = c.in_ok-check_edges-in-Remove.ensures.ok in
-    subst (λ (x : RegionShown × Change). All (NamesLive x.0.seat.held.part.records) (x.1 ∷ []))
+    subst (λ (x : RegionShown × Change). All (NamesLive x.0.seat.known.part.records) (x.1 ∷ []))
     (λ i. (sym ok.1 i, sym c.removal.ensures i))
-    (last_named c.args.region.now.seat.held.part.records (nodes_with c.args.index.now (part_of c.in-Remove.name)) c.in-Remove.node
+    (last_named c.args.region.now.seat.known.part.records (nodes_with c.args.index.now (part_of c.in-Remove.name)) c.in-Remove.node
     (removal_named c.args.index.now c.args.edit.now c.in-Remove.name c.in-Remove.node c.in-Remove.is
-    c.args.region.now.seat.held.part.records c.requires.named))
+    c.args.region.now.seat.known.part.records c.requires.named))
 
 pub returns-in_ok-check_edges-in-Remove-clause-ok : goal.returns-in_ok-check_edges-in-Remove-clause-ok
 returns-in_ok-check_edges-in-Remove-clause-ok g c =
     let ok = c.in_ok-check_edges-in-Remove.ensures.ok in
     ok_more c.check_numbers-in-Remove.result _ _ c.check_numbers-in-Remove.ensures.ok (λ h. (
-      removal_numbers c.args.index.now c.args.edit.now c.in-Remove.name c.in-Remove.node c.in-Remove.is c.args.pass.now.ticket.held.part
+      removal_numbers c.args.index.now c.args.edit.now c.in-Remove.name c.in-Remove.node c.in-Remove.is c.args.pass.now.ticket.known.part
           c.args.region.now ok.0
-          (subst (λ (x : CallerShown × RegionShown × Change). first_at_end x.0.held.part x.1 (x.2 ∷ []) ≡ None)
+          (subst (λ (x : CallerShown × RegionShown × Change). first_at_end x.0.known.part x.1 (x.2 ∷ []) ≡ None)
           (λ i. (ok.2 i, ok.1 i, c.removal.ensures i)) h.0),
       h.1 ∙ ok.1,
       h.2 ∙ ok.2,

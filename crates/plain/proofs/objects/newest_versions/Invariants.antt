@@ -1,5 +1,5 @@
 use Rattle.std.proofs.Common.{take}
-use Rattle.plain.specs.Newest.{HasNewest}
+use Rattle.plain.specs.NewestVersions.{HasNewest}
 use Rattle.plain.proofs.objects.newest_versions.Given as goal
 
 abbrev pub invariant-loop-held : goal.invariant-loop-held

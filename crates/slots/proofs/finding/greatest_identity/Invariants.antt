@@ -1,7 +1,7 @@
 use Rattle.std.proofs.Common.{◌≡◌, drop}
 use Rattle.std.specs.Prelude.{max}
 use Rattle.std.specs.List.{fold}
-use Rattle.slots.specs.Beginning.{identities_in}
+use Rattle.slots.specs.RegionBeginning.{identities_in}
 use Rattle.slots.proofs.finding.greatest_identity.Given as goal
 
 abbrev pub invariant-loop-held : goal.invariant-loop-held

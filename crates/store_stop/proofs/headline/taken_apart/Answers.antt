@@ -11,13 +11,13 @@ use Rattle.store_stop.proofs.headline.taken_apart.Goals as goal
 
 -- one ticket more, and its receipts
 one_more : (tickets more : List CallerShown) (t : CallerShown) (rows all : List (List Receipt)) (rs : List Receipt)
-    → more ≡ tickets ++ t ∷ [] → all ≡ rows ++ rs ∷ [] → rs ≡ t.held.part.receipts → rows ≡ map receipts_of (parts_shown tickets)
+    → more ≡ tickets ++ t ∷ [] → all ≡ rows ++ rs ∷ [] → rs ≡ t.known.part.receipts → rows ≡ map receipts_of (parts_shown tickets)
     → all ≡ map receipts_of (parts_shown more)
 one_more tickets more t rows all rs is add kept so_far =
-    let parts : parts_shown more ≡ parts_shown tickets ++ t.held.part ∷ [] =
-    ap parts_shown is ∙ map-append (λ (s : CallerShown). s.held.part) tickets (t ∷ []) in
+    let parts : parts_shown more ≡ parts_shown tickets ++ t.known.part ∷ [] =
+    ap parts_shown is ∙ map-append (λ (s : CallerShown). s.known.part) tickets (t ∷ []) in
     add ∙ ((λ i. so_far i ++ kept i ∷ [])
-    ∙ sym (ap (map receipts_of) parts ∙ map-append receipts_of (parts_shown tickets) (t.held.part ∷ [])))
+    ∙ sym (ap (map receipts_of) parts ∙ map-append receipts_of (parts_shown tickets) (t.known.part ∷ [])))
 
 pub loop-pass-preserved : goal.loop-pass-preserved
 loop-pass-preserved g c =

@@ -9,8 +9,8 @@ pub loop-ticket-preserved : goal.loop-ticket-preserved
 loop-ticket-preserved c =
     let i = c.loop-ticket.invariant in
     record {
-      unanswered = All-tail (λ (s : CallerShown). s.held.part.receipts ≡ []) c.in-Some.ticket _
-          (subst (All (λ (s : CallerShown). s.held.part.receipts ≡ [])) c.in-Some.ensures.steps.0 i.unanswered);
+      unanswered = All-tail (λ (s : CallerShown). s.known.part.receipts ≡ []) c.in-Some.ticket _
+          (subst (All (λ (s : CallerShown). s.known.part.receipts ≡ [])) c.in-Some.ensures.steps.0 i.unanswered);
       tickets = ap (map (λ p. p.ticket)) c.in_ok-push.ensures.items
           ∙ (map-append (λ p. p.ticket) c.loop-ticket.passes.items (c.new.result ∷ [])
           ∙ (λ j. i.tickets j ++ c.new.ensures.ticket j ∷ []));

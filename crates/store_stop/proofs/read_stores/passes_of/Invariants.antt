@@ -5,6 +5,6 @@ use Rattle.store_stop.proofs.read_stores.passes_of.Given as goal
 
 abbrev pub invariant-loop-ticket : goal.invariant-loop-ticket
 invariant-loop-ticket l = record {
-  unanswered : All (λ (s : CallerShown). s.held.part.receipts ≡ []) l.ticket-iterator.rest.items;
+  unanswered : All (λ (s : CallerShown). s.known.part.receipts ≡ []) l.ticket-iterator.rest.items;
   tickets : map (λ p. p.ticket) l.passes.items ≡ l.yielded;
 }

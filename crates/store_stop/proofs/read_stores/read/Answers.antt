@@ -1,6 +1,6 @@
 use Rattle.std.proofs.Common.{◌+◌, List, map, set, ap, sym, ◌∙◌, subst, arith}
 use Rattle.std.proofs.lemmas.List.{map-set}
-use Rattle.core_steps.specs.Answering.{CanRead}
+use Rattle.core_steps.specs.CallAnswers.{CanRead}
 use Rattle.core_steps.proofs.RowFacts.{row_in_map}
 use Rattle.heap.specs.HeapShown.{CallerShown}
 use Rattle.store_stop.specs.ReadStores.{AreUnwritten, HasReadOnce}
@@ -29,7 +29,7 @@ answer-requires-clause-may c =
     let at_u = item_read store.units.items c.args.unit unit (omega arith) c.index_mut.ensures.value in
     let at_k = row_in_map (λ p. p.ticket) store.passes.items c.args.caller pass
     (item_read store.passes.items c.args.caller pass (omega arith) c.index_mut-pass.ensures.value) in
-    subst (λ (q : CallerShown). CanRead store.heap.opening.layout unit.held.unit unit.held.part q.held.part c.args.op c.args.reply)
+    subst (λ (q : CallerShown). CanRead store.heap.opening.layout unit.known.unit unit.known.part q.known.part c.args.op c.args.reply)
     (sym c.reserve.ensures.ticket)
     (may_read store.heap store.reads store.units.items store.advancer callers c.requires.unwritten c.args.unit c.args.caller
     unit pass.ticket at_u at_k c.args.op c.args.reply (omega arith) c.requires.read)

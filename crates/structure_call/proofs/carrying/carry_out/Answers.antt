@@ -2,7 +2,7 @@ use Rattle.std.proofs.Common.{◌≡◌, ℕ, length, sym, ◌∙◌, subst}
 use Rattle.std.specs.Prelude.{Option}
 use Rattle.std.proofs.lemmas.Result.{IfOk-at_ok}
 use Rattle.mont_base.specs.declared.operation.Receipt.{Receipt}
-use Rattle.core_steps.specs.Answering.{CanLeave}
+use Rattle.core_steps.specs.CallAnswers.{CanLeave}
 use Rattle.heap.specs.HeapShown.{CallerShown}
 use Rattle.op_guard.specs.declared.guard.Guard.{Guard}
 use Rattle.op_guard.specs.Answered.{HasCommitted, HasRead}
@@ -77,7 +77,8 @@ commit-committed-requires-clause-may g c =
     let same = IfOk-at_ok (λ (x : Guard). c.begin-begun.new.pass.ticket ≡ q) ok c.begin-begun.ensures.caller in
     let same2 = IfOk-at_ok (λ (x : Guard × Option ℕ). c.write_all-written.new.pass.ticket ≡ c.begin-begun.new.pass.ticket) ok2
     c.write_all-written.ensures.caller in
-    subst (λ (x : CallerShown). CanLeave heap.opening.layout done.books.unit done.seat.held.part x.held.part c.args.op.now c.args.reply.now
+    subst (λ (x : CallerShown). CanLeave heap.opening.layout done.books.unit done.seat.known.part x.known.part c.args.op.now
+    c.args.reply.now
     g2.epoch) (sym (same2 ∙ same))
     (may_leave heap old q c.args.op.now c.args.reply.now changes c.requires.ready c.requires.plan c.requires.numbers mid guard begun done g2
     last written (some_there changes (sym c.is_empty.ensures ∙ c.if-is_empty.false)))

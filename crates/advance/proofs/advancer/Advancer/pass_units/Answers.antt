@@ -51,5 +51,5 @@ returns-in_err-pass_unit-clause-way g c =
 pub returns-in_err-pass_unit-clause-reason : goal.returns-in_err-pass_unit-clause-reason
 returns-in_err-pass_unit-clause-reason g c =
     let p = err_from_is_err_and c.from_residual.result c.from_residual.ensures.1 in
-    rw (p.1, p.2) (reason_more _ c.args.self.now.held c.loop-unit.self.held c.pass_unit.new.self.held
+    rw (p.1, p.2) (reason_more _ c.args.self.now.known c.loop-unit.self.known c.pass_unit.new.self.known
     c.loop-unit.invariant.checked.steps (λ w. c.in_err-pass_unit.ensures.going (ap Err w)) c.in_err-pass_unit.ensures.reason)

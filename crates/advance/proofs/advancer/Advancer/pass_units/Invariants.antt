@@ -12,10 +12,10 @@ abbrev pub invariant-loop-unit : goal.invariant-loop-unit
 invariant-loop-unit g l = record {
   gate : IsAskedOften g.G.Gate.cuts g.G.Gate.endless l.fn.gate l.gate false;
   same : IsSameSeat l.fn.self l.self;
-  first : is_clocked l.fn.self.held.part ≡ false;
-  checked : HasChecked l.fn.self.held l.self.held;
-  clean : l.self.held.part ≡ Rest → are_clean (units_of l.heap.opening.layout) l.self.held.clean ≡ true;
-  here : l.unit < l.unit-end → (can_check l.self.held.clock l.self.held.part ≡ true) × (l.unit ≡ unit_at_hand l.self.held.part);
-  past : l.unit-end ≤ l.unit → has_passed l.self.held.part ≡ true;
-  count : l.unit-end ≡ l.self.held.units;
+  first : is_clocked l.fn.self.known.part ≡ false;
+  checked : HasChecked l.fn.self.known l.self.known;
+  clean : l.self.known.part ≡ Rest → are_clean (units_of l.heap.opening.layout) l.self.known.clean ≡ true;
+  here : l.unit < l.unit-end → (can_check l.self.known.clock l.self.known.part ≡ true) × (l.unit ≡ unit_at_hand l.self.known.part);
+  past : l.unit-end ≤ l.unit → has_passed l.self.known.part ≡ true;
+  count : l.unit-end ≡ l.self.known.units;
 }

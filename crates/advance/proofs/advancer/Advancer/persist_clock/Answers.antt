@@ -8,8 +8,8 @@ use Rattle.advance.proofs.advancer.Advancer.persist_clock.Goals as goal
 
 pub returns-clause-ok : goal.returns-clause-ok
 returns-clause-ok g c =
-    let moved = ap (λ (s : AdvShown). is_clocked s.held.part) c.self.view_is ∙ c.requires.moved in
-    subst (λ (s : AdvShown). IsAdvanced s.held c.self.inside.clock c.persist_clock.new.seat.held) c.self.view_is
-    (rested_advanced _ c.self.inside.seat.held c.persist_clock.new.seat.held c.self.inside.clock
-    (ap (λ (s : AdvShown). s.held) c.in_ok-persist_clock.ensures.ok) c.self.invariant.clock_is moved
+    let moved = ap (λ (s : AdvShown). is_clocked s.known.part) c.self.view_is ∙ c.requires.moved in
+    subst (λ (s : AdvShown). IsAdvanced s.known c.self.inside.clock c.persist_clock.new.seat.known) c.self.view_is
+    (rested_advanced _ c.self.inside.seat.known c.persist_clock.new.seat.known c.self.inside.clock
+    (ap (λ (s : AdvShown). s.known) c.in_ok-persist_clock.ensures.ok) c.self.invariant.clock_is moved
     (clocked_rests _ _ _ _ _ c.self.invariant moved) c.in_ok-persist_clock.ensures.ahead)

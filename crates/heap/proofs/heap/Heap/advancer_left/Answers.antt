@@ -18,5 +18,5 @@ invariant_of-result c =
 pub returns : goal.returns
 returns c = λ i. record {
   table = c.requires.heap i;
-  held = the_advancer (seat_left c.args.self.now.opening _ c.requires.left i).0;
+  known = the_advancer (seat_left c.args.self.now.opening _ c.requires.left i).0;
 }

@@ -10,7 +10,7 @@ pub store-requires : goal.store-requires
 store-requires g c =
     let s = c.seat.invariant in
     let place = c.current-place.ensures in
-    let may = subst (λ (x : UnitShown). CanClose x.held.part c.args.slot) (sym c.seat.view_is) c.requires.may in (
+    let may = subst (λ (x : UnitShown). CanClose x.known.part c.args.slot) (sym c.seat.view_is) c.requires.may in (
       unit_table _ _ _ _ c.seat.view_is c.requires.heap c.self.view_is,
       word_inside _ _ _ c.self.view_is place.inside,
       closes_label_as _ _ _ _ _ _ _ c.args.slot (ap (λ (x : Seated). x.0) s.whole) place.place refl may

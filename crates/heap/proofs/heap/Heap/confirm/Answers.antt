@@ -10,7 +10,7 @@ pub load-requires : goal.load-requires
 load-requires g c =
     let s = c.seat.invariant in
     let words = c.self.invariant.words in
-    let may = ap (λ (x : UnitShown). can_confirm x.held.part) c.seat.view_is ∙ c.requires.may in (
+    let may = ap (λ (x : UnitShown). can_confirm x.known.part) c.seat.view_is ∙ c.requires.may in (
       unit_table _ _ _ _ c.seat.view_is c.requires.heap c.self.view_is,
       omega (arith, words),
       confirms_as _ _ _ _ _ _ (ap (λ (x : Seated). x.0) s.whole) refl may

@@ -44,8 +44,8 @@ store-requires c =
           (joined_pair _ _ _ _ _ (ap (λ m. m.0) e.2) (ap (λ m. m.0) c.seat.invariant.whole)
           (ap (λ m. m.0) w.4 ∙ ap (λ m. m.0) c.ticket.invariant.whole))
           (place_announced _ _ _ _ _ c.seat.view_is c.self.view_is place.place) refl
-          (ap (λ (x : UnitShown). can_freeze x.held.part) c.seat.view_is ∙ c.requires.may)
-          (subst (λ (z : HeapShown × UnitShown). are_clean (units_of z.0.opening.layout) z.1.held.clean ≡ true)
+          (ap (λ (x : UnitShown). can_freeze x.known.part) c.seat.view_is ∙ c.requires.may)
+          (subst (λ (z : HeapShown × UnitShown). are_clean (units_of z.0.opening.layout) z.1.known.clean ≡ true)
           (λ j. (sym c.self.view_is j, sym c.seat.view_is j)) c.requires.clean)
-          (c.odd-odd.ensures ∙ ap (λ (x : UnitShown). odd_announcement x.held.part.stage) (sym c.seat.view_is)),
+          (c.odd-odd.ensures ∙ ap (λ (x : UnitShown). odd_announcement x.known.part.stage) (sym c.seat.view_is)),
     )

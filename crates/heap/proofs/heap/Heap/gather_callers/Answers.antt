@@ -30,5 +30,5 @@ loop-ticket-preserved c =
           (subst (AreCallersOf c.args.self.now) steps i.of_heap);
       table = j.0 ∙ i.table;
       view = callers_gathered c.args.all.now.me c.loop-ticket.all.me _ c.ticket.inside.seat.me _ _ _ c.in-Some.ticket i.view j.2
-          c.ticket.invariant.whole (ap (λ (s : CallerShown). s.held) c.ticket.view_is);
+          c.ticket.invariant.whole (ap (λ (s : CallerShown). s.known) c.ticket.view_is);
     }

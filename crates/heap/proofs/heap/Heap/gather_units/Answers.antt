@@ -13,10 +13,10 @@ join_seat-requires c =
     let i = c.loop-unit.invariant in
     let steps = c.in-Some.ensures.steps.0 in
     let of_heap = head_of_all (λ (s : UnitShown). s.table ≡ c.args.self.now.table) c.in-Some.unit _ _ steps i.of_heap in
-    let at_home = head_of_all (λ (s : UnitShown). s.held.turn.out ≡ false) c.in-Some.unit _ _ steps i.at_home in (
+    let at_home = head_of_all (λ (s : UnitShown). s.known.turn.out ≡ false) c.in-Some.unit _ _ steps i.at_home in (
       i.table ∙ (c.requires.heap ∙ sym (ap (λ (x : HeapShown). x.table) c.self.view_is)),
       unit_table _ _ _ _ c.unit.view_is of_heap c.self.view_is,
-      none_out _ c.unit.invariant.whole (ap (λ (s : UnitShown). s.held.turn.out) c.unit.view_is ∙ at_home),
+      none_out _ c.unit.invariant.whole (ap (λ (s : UnitShown). s.known.turn.out) c.unit.view_is ∙ at_home),
       omega (arith, words),
       joins_units _ _ _ _ _,
     )
@@ -28,8 +28,8 @@ loop-unit-preserved c =
     let j = c.join_seat.ensures in record {
       of_heap = All-tail (λ (s : UnitShown). s.table ≡ c.args.self.now.table) c.in-Some.unit _
           (subst (AreUnitsOf c.args.self.now) steps i.of_heap);
-      at_home = All-tail (λ (s : UnitShown). s.held.turn.out ≡ false) c.in-Some.unit _ (subst AreAtHome steps i.at_home);
+      at_home = All-tail (λ (s : UnitShown). s.known.turn.out ≡ false) c.in-Some.unit _ (subst AreAtHome steps i.at_home);
       table = j.0 ∙ i.table;
       view = units_gathered c.args.all.now.me c.loop-unit.all.me _ c.unit.inside.seat.me _ _ _ c.in-Some.unit i.view j.2
-          c.unit.invariant.whole (ap (λ (s : UnitShown). s.held) c.unit.view_is);
+          c.unit.invariant.whole (ap (λ (s : UnitShown). s.known) c.unit.view_is);
     }

@@ -1,21 +1,21 @@
 use Rattle.std.proofs.Common.{ap, sym, refl, arith, ◌∙◌, ◌++◌}
 use Rattle.mont_base.specs.SlotLists.{Roomy}
 use Rattle.core_steps.specs.Stages.{is_within}
-use Rattle.heap_rule.specs.declared.views.UnitHeld.{UnitHeld}
+use Rattle.heap_rule.specs.declared.views.UnitKnown.{UnitKnown}
 use Rattle.heap_rule.specs.Views.{listed_in, slots_written}
 use Rattle.heap_rule.proofs.SeatedPlays.{gives_list_as}
 use Rattle.heap.specs.HeapShown.{UnitShown}
 use Rattle.heap.proofs.SeatTables.{unit_table, gave_slot, out_slot}
 use Rattle.heap.proofs.heap.Heap.give_list.Goals as goal
 
-abbrev whole_list : UnitHeld → Roomy
+abbrev whole_list : UnitKnown → Roomy
 whole_list h = record { slots = listed_in h ++ slots_written h.part; room = h.room }
 
 pub exchange-requires : goal.exchange-requires
 exchange-requires c = (
   unit_table _ _ _ _ c.seat.view_is c.requires.heap c.self.view_is,
   out_slot _ _ _ _ _ _ c.seat.inside.seat.me c.seat.invariant _
-      (ap (λ (x : UnitShown). x.held.turn.out) c.seat.view_is ∙ c.requires.out) c.place-home.ensures,
+      (ap (λ (x : UnitShown). x.known.turn.out) c.seat.view_is ∙ c.requires.out) c.place-home.ensures,
 )
 
 pub load-requires : goal.load-requires
@@ -28,8 +28,8 @@ load-requires c =
       omega (arith, words),
       gives_list_as _ _ _ _ _ _ _
           (gave_slot _ _ _ _ _ _ c.seat.inside.seat.me s _ _ c.args.list
-          (ap (λ (x : UnitShown). x.held.turn.out) c.seat.view_is ∙ c.requires.out) c.place-home.ensures e.3)
+          (ap (λ (x : UnitShown). x.known.turn.out) c.seat.view_is ∙ c.requires.out) c.place-home.ensures e.3)
           refl
-          (ap (λ (x : UnitShown). is_within x.held.part.stage) c.seat.view_is ∙ c.requires.may)
-          (c.requires.list ∙ sym (ap (λ (x : UnitShown). whole_list x.held) c.seat.view_is)),
+          (ap (λ (x : UnitShown). is_within x.known.part.stage) c.seat.view_is ∙ c.requires.may)
+          (c.requires.list ∙ sym (ap (λ (x : UnitShown). whole_list x.known) c.seat.view_is)),
     )

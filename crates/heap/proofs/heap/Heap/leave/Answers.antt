@@ -1,6 +1,6 @@
 use Rattle.std.proofs.Common.{rules, ap, subst, sym, arith, ◌∙◌}
 use Rattle.core_steps.specs.Stages.{epoch_of}
-use Rattle.heap_rule.specs.declared.views.UnitHeld.{UnitHeld}
+use Rattle.heap_rule.specs.declared.views.UnitKnown.{UnitKnown}
 use Rattle.heap_rule.specs.Plays.{answer_of}
 use Rattle.heap_rule.specs.SoundUnits.{IsSoundUnit}
 use Rattle.heap_rule.specs.Views.{the_unit, the_caller}
@@ -43,4 +43,4 @@ invariant_of-seat g c = left_keeps _ _ _ _ _ _ c.seat.inside.seat.me c.seat.inva
 pub returns-clause-sound : goal.returns-clause-sound
 returns-clause-sound g c =
     let k = c.store_left.ensures.sound in
-    (k.0, k.1, subst (λ (h : UnitHeld). IsSoundUnit c.args.self.now.opening k.0 k.1 h) (search rules) k.2)
+    (k.0, k.1, subst (λ (h : UnitKnown). IsSoundUnit c.args.self.now.opening k.0 k.1 h) (search rules) k.2)

@@ -13,5 +13,5 @@ load-requires g c =
       unit_table _ _ _ _ c.seat.view_is c.requires.heap c.self.view_is,
       omega (arith, words),
       looks_as _ _ _ _ _ _ (ap (λ (x : Seated). x.0) s.whole) refl
-          (ap (λ (x : UnitShown). can_look x.held.part) c.seat.view_is ∙ c.requires.may),
+          (ap (λ (x : UnitShown). can_look x.known.part) c.seat.view_is ∙ c.requires.may),
     )

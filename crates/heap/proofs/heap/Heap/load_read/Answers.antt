@@ -1,7 +1,7 @@
 use Rattle.std.proofs.Common.{ap, refl, subst, sym, arith, ◌∙◌}
 use Rattle.mont_base.specs.declared.operation.Op.{Op}
 use Rattle.mont_base.specs.declared.operation.Reply.{Reply}
-use Rattle.core_steps.specs.Answering.{CanRead}
+use Rattle.core_steps.specs.CallAnswers.{CanRead}
 use Rattle.mont_base.specs.Layout.{units_of}
 use Rattle.heap_rule.specs.Views.{the_unit, the_caller, are_clean}
 use Rattle.heap_rule.proofs.SeatedPlays.{reads_as}

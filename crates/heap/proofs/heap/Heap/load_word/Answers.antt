@@ -22,7 +22,7 @@ load-found-requires g c =
       word_inside _ _ _ c.self.view_is place.inside,
       loads_word_as _ _ _ _ _ _ (ap (λ (x : Seated). x.0) s.whole)
           (place.place ∙ hand_word c.args.slot _ c.seat.inside.part _ _ c.seat.view_is c.requires.slot c.field.ensures s.part_is)
-          (subst (λ (x : AdvShown). can_load_word (length (joined x.held.lists)) x.held.part ≡ true) (sym c.seat.view_is) c.requires.may)
+          (subst (λ (x : AdvShown). can_load_word (length (joined x.known.lists)) x.known.part ≡ true) (sym c.seat.view_is) c.requires.may)
           (hand_inside c.args.slot _ _ _ _ c.seat.view_is c.self.view_is c.requires.slot c.requires.inside)
           (subst (λ p. field_at_hand p < FIELDS) s.part_is s.field),
     )

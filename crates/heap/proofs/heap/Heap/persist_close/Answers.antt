@@ -8,4 +8,4 @@ use Rattle.heap.proofs.heap.Heap.persist_close.Goals as goal
 pub store_closed-requires-clause-home : goal.store_closed-requires-clause-home
 store_closed-requires-clause-home g c =
     c.seat.invariant.rests (persist_close_rests (the_unit c.seat.inside.seat.me.0).part c.args.slot
-    (subst (λ (x : UnitShown). CanPersistClose x.held.part c.args.slot) (sym c.seat.view_is) c.requires.may))
+    (subst (λ (x : UnitShown). CanPersistClose x.known.part c.args.slot) (sym c.seat.view_is) c.requires.may))

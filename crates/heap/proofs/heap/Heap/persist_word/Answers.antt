@@ -26,7 +26,7 @@ store-requires g c =
           ∙ ap (durable_place _) (hand_word c.args.slot _ c.seat.inside.part _ _ c.seat.view_is c.requires.slot c.field.ensures
           s.part_is))
           (c.word-value.ensures ∙ ap word_in_hand s.part_is)
-          (subst (λ (x : AdvShown). can_persist_word x.held.part ≡ true) (sym c.seat.view_is) c.requires.may)
+          (subst (λ (x : AdvShown). can_persist_word x.known.part ≡ true) (sym c.seat.view_is) c.requires.may)
           (hand_inside c.args.slot _ _ _ _ c.seat.view_is c.self.view_is c.requires.slot c.requires.inside)
           (subst (λ p. field_at_hand p < FIELDS) s.part_is s.field),
     )

@@ -13,6 +13,6 @@ store-requires g c =
       advancer_table _ _ _ _ c.seat.view_is c.requires.heap c.self.view_is,
       omega (arith, words),
       sets_clock_as _ _ _ _ _ _ _ (ap (λ (x : Seated). x.0) s.whole) refl (ap (λ (x : ℕ). x + 1) s.clock_is)
-          (subst (λ (x : AdvShown). is_flushed (length (joined x.held.lists)) x.held.part ≡ true) (sym c.seat.view_is) c.requires.may)
+          (subst (λ (x : AdvShown). is_flushed (length (joined x.known.lists)) x.known.part ≡ true) (sym c.seat.view_is) c.requires.may)
           (emptied_turn _ _ c.seat.view_is c.requires.empty.0 c.requires.empty.1),
     )

@@ -12,7 +12,7 @@ returns c =
     let key = sym (ap (λ (x : HeapShown). x.opening) c.self.view_is) in
     let final = c.close_with-closed.ensures.values.2 in
     let is = all_gathered c.advancer.inside.seat.me c.gather_units.new.all.me c.gather_callers.new.all.me _ _ s.units.items s.advancer
-    s.callers.items c.advancer.invariant.whole (ap (λ (a : AdvShown). a.held) c.advancer.view_is) c.gather_units.ensures.view
+    s.callers.items c.advancer.invariant.whole (ap (λ (a : AdvShown). a.known) c.advancer.view_is) c.gather_units.ensures.view
     c.gather_callers.ensures.view in
     IfOk-weaker _ _ (λ words. StopsAt c.args.self.opening s.units.items s.advancer s.callers.items words)
     (λ words read. stops_shown _ c.args.self _ _ _ _ s.units.items s.advancer s.callers.items key final c.requires.seats is _ words

@@ -1,7 +1,7 @@
 use Rattle.std.proofs.Common.{ap, refl, subst, sym, ◌∙◌}
 use Rattle.mont_base.specs.declared.operation.Op.{Op}
 use Rattle.mont_base.specs.declared.operation.Reply.{Reply}
-use Rattle.core_steps.specs.Answering.{CanLeave}
+use Rattle.core_steps.specs.CallAnswers.{CanLeave}
 use Rattle.core_steps.specs.Stages.{epoch_of}
 use Rattle.heap_rule.specs.TableWords.{announcement_place}
 use Rattle.heap_rule.specs.Views.{the_unit, the_caller}

@@ -21,8 +21,8 @@ store-requires g c =
       unit_table _ _ _ _ c.seat.view_is c.requires.heap c.self.view_is,
       word_inside _ _ _ c.self.view_is place.inside,
       stores_as _ _ _ _ _ _ _ c.args.slot c.args.field c.args.value (ap (λ (x : Seated). x.0) s.whole) place.place refl
-          (subst (λ (z : HeapShown × UnitShown). CanStore (IsFreeSlot z.0.opening.layout z.1.held.unit z.1.held.part c.args.slot)
-          z.1.held.unit z.1.held.part c.args.slot c.args.field c.args.value) (λ j.
+          (subst (λ (z : HeapShown × UnitShown). CanStore (IsFreeSlot z.0.opening.layout z.1.known.unit z.1.known.part c.args.slot)
+          z.1.known.unit z.1.known.part c.args.slot c.args.field c.args.value) (λ j.
           (sym c.self.view_is j, sym c.seat.view_is j)) c.requires.may)
           (slot_inside _ _ _ c.self.view_is c.requires.slot),
     )

@@ -11,25 +11,25 @@ load-requires c =
     let s = c.seat.invariant in
     let words = c.self.invariant.words in
     let v = c.seat.view_is in
-    let next = c.requires.next ∙ sym (ap (λ (x : AdvShown). x.held.turn.emptied) v) in (
+    let next = c.requires.next ∙ sym (ap (λ (x : AdvShown). x.known.turn.emptied) v) in (
       advancer_table _ _ _ _ c.seat.view_is c.requires.heap c.self.view_is,
       omega (arith, words),
       takes_full_as _ _ _ _ _ _ (ap (λ (x : Seated). x.0) s.whole) refl
-          (subst (λ (z : ℕ × AdvShown). z.0 < z.1.held.units) (λ j. (next j, sym v j)) c.requires.inside)
-          (subst (λ (z : ℕ × AdvShown). z.0 < passed_of z.1.held.units z.1.held.part) (λ j. (next j, sym v j)) c.requires.passed)
-          (ap (λ (x : AdvShown). x.held.turn.out) v ∙ c.requires.home),
+          (subst (λ (z : ℕ × AdvShown). z.0 < z.1.known.units) (λ j. (next j, sym v j)) c.requires.inside)
+          (subst (λ (z : ℕ × AdvShown). z.0 < passed_of z.1.known.units z.1.known.part) (λ j. (next j, sym v j)) c.requires.passed)
+          (ap (λ (x : AdvShown). x.known.turn.out) v ∙ c.requires.home),
     )
 
 pub exchange-requires : goal.exchange-requires
 exchange-requires c = (
   c.load.ensures.0 ∙ advancer_table _ _ _ _ c.seat.view_is c.requires.heap c.self.view_is,
   full_slot _ _ _ _ _ c.seat.inside.seat.me c.seat.invariant _ _ _ c.place-place.ensures
-      (c.requires.next ∙ sym (ap (λ (x : AdvShown). x.held.turn.emptied) c.seat.view_is)) c.load.ensures.2.0,
+      (c.requires.next ∙ sym (ap (λ (x : AdvShown). x.known.turn.emptied) c.seat.view_is)) c.load.ensures.2.0,
 )
 
 pub place-place-requires : goal.place-place-requires
 place-place-requires c =
     let inside = c.requires.inside in
     let few = c.seat.invariant.few in
-    let same = ap (λ (x : AdvShown). x.held.units) c.seat.view_is in
+    let same = ap (λ (x : AdvShown). x.known.units) c.seat.view_is in
     omega (arith, inside, few, same)

@@ -13,8 +13,8 @@ load-requires c =
       unit_table _ _ _ _ c.seat.view_is c.requires.heap c.self.view_is,
       omega (arith, words),
       takes_list_as _ _ _ _ _ _ (ap (λ (x : Seated). x.0) s.whole) refl
-          (ap (λ (x : UnitShown). is_within x.held.part.stage) c.seat.view_is ∙ c.requires.may)
-          (ap (λ (x : UnitShown). x.held.turn.out) c.seat.view_is ∙ c.requires.home),
+          (ap (λ (x : UnitShown). is_within x.known.part.stage) c.seat.view_is ∙ c.requires.may)
+          (ap (λ (x : UnitShown). x.known.turn.out) c.seat.view_is ∙ c.requires.home),
     )
 
 pub exchange-requires : goal.exchange-requires

@@ -12,18 +12,18 @@ use Rattle.heap.proofs.heap.Heap.tell.Goals as goal
 pub store-requires : goal.store-requires
 store-requires g c =
     let s = c.seat.invariant in
-    let may = ap (λ (x : UnitShown). can_tell x.held.part c.args.epoch) c.seat.view_is ∙ c.requires.may in
+    let may = ap (λ (x : UnitShown). can_tell x.known.part c.args.epoch) c.seat.view_is ∙ c.requires.may in
     let place = c.announcement-place.ensures in (
       unit_table _ _ _ _ c.seat.view_is c.requires.heap c.self.view_is,
       word_inside _ _ _ c.self.view_is place.inside,
       tells_as _ _ _ _ _ _ _ _ (ap (λ (x : Seated). x.0) s.whole) (place_announced _ _ _ _ _ c.seat.view_is c.self.view_is place.place)
           refl may
-          (subst (λ (z : HeapShown × UnitShown). is_idle z.1.held.part.stage ≡ true
-          → are_clean (units_of z.0.opening.layout) z.1.held.clean ≡ true) (λ j.
+          (subst (λ (z : HeapShown × UnitShown). is_idle z.1.known.part.stage ≡ true
+          → are_clean (units_of z.0.opening.layout) z.1.known.clean ≡ true) (λ j.
           (sym c.self.view_is j, sym c.seat.view_is j)) c.requires.clean)
           (s.rests (tell_rests (the_unit c.seat.inside.seat.me.0).part c.args.epoch may)),
     )
 
 pub invariant_of-seat : goal.invariant_of-seat
 invariant_of-seat g c = told_keeps _ _ _ _ _ _ c.seat.inside.seat.me c.seat.invariant _ _ c.args.epoch (search rules)
-    (ap (λ (x : UnitShown). can_tell x.held.part c.args.epoch) c.seat.view_is ∙ c.requires.may) (search rules)
+    (ap (λ (x : UnitShown). can_tell x.known.part c.args.epoch) c.seat.view_is ∙ c.requires.may) (search rules)

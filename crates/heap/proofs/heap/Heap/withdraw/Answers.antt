@@ -15,8 +15,8 @@ store-requires g c =
       word_inside _ _ _ c.self.view_is place.inside,
       withdraws_as _ _ _ _ _ _ _ (ap (λ (x : Seated). x.0) s.whole) (place_announced _ _ _ _ _ c.seat.view_is c.self.view_is
           place.place) refl
-          (ap (λ (x : UnitShown). can_withdraw x.held.part) c.seat.view_is ∙ c.requires.may)
+          (ap (λ (x : UnitShown). can_withdraw x.known.part) c.seat.view_is ∙ c.requires.may)
           (withdraw_rests (the_unit c.seat.inside.seat.me.0) s.rests
-          (subst (λ (x : UnitShown). is_within x.held.part.stage ≡ true → x.held.turn ≡ home_turn) (sym c.seat.view_is)
+          (subst (λ (x : UnitShown). is_within x.known.part.stage ≡ true → x.known.turn ≡ home_turn) (sym c.seat.view_is)
           c.requires.home)),
     )

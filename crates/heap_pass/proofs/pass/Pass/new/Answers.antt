@@ -5,5 +5,5 @@ use Rattle.heap_pass.proofs.pass.Pass.new.Goals as goal
 
 pub invariant_of-result : goal.invariant_of-result
 invariant_of-result g c = record {
-  kept = subst (StandLast c.args.ticket.held.part.receipts) (sym c.new.ensures.items) (none_last c.args.ticket.held.part.receipts);
+  kept = subst (StandLast c.args.ticket.known.part.receipts) (sym c.new.ensures.items) (none_last c.args.ticket.known.part.receipts);
 }

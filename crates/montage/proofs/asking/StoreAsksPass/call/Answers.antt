@@ -11,7 +11,7 @@ returns-clause-answered g c =
     let q = c.args.pass.now.ticket in
     let r = c.call_unit.new.pass.ticket in
     subst
-    (λ (h : HeapShown). IfOk c.call_unit.result (λ receipt. HasContinued h.opening q.held r.held c.args.op.now receipt))
+    (λ (h : HeapShown). IfOk c.call_unit.result (λ receipt. HasContinued h.opening q.known r.known c.args.op.now receipt))
     (sym c.heap-heap.ensures.named)
     (if_continued g.N.HeapName.heap q r c.args.op.now c.call_unit.result c.call_unit.ensures.answered)
 
@@ -19,7 +19,7 @@ pub returns-clause-refused : goal.returns-clause-refused
 returns-clause-refused g c =
     let q = c.args.pass.now.ticket in
     let r = c.call_unit.new.pass.ticket in
-    subst (λ (h : HeapShown). IfErr c.call_unit.result (λ why. HasLearntWhy h.opening q.held r.held c.args.op.now why))
+    subst (λ (h : HeapShown). IfErr c.call_unit.result (λ why. HasLearntWhy h.opening q.known r.known c.args.op.now why))
     (sym c.heap-heap.ensures.named)
     (if_learnt_why g.N.HeapName.heap q r c.args.op.now c.call_unit.result c.call_unit.ensures.refused)
 

@@ -92,7 +92,7 @@ new-requires-clause-layout g c =
     let same = c.layout-layout.ensures ∙ ap (λ (h : HeapShown). h.opening.layout) c.requires.named in
     let fits = advancer_fits g.N.HeapName.heap s.units.items s.advancer s.callers.items c.requires.opens
     (subst IsLayout same c.units.ensures.layout) in
-    subst (λ (l : Shape). IsOfLayout l s.advancer.held) (sym same) fits.of_layout
+    subst (λ (l : Shape). IsOfLayout l s.advancer.known) (sym same) fits.of_layout
 
 pub new-requires-clause-rest : goal.new-requires-clause-rest
 new-requires-clause-rest g c =

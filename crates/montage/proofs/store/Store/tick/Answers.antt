@@ -9,28 +9,28 @@ use Rattle.montage.proofs.store.Store.tick.Goals as goal
 pub advance-answer-requires-clause-heap : goal.advance-answer-requires-clause-heap
 advance-answer-requires-clause-heap g c =
     let named = c.deref_mut-named.result.now in
-    let fits = shown_fits g.N.HeapName.heap c.self.inside.heap named.part c.show.new.self c.args.pass.now.ticket.held
+    let fits = shown_fits g.N.HeapName.heap c.self.inside.heap named.part c.show.new.self c.args.pass.now.ticket.known
     c.self.invariant.of_heap named.of_heap c.show.ensures.advancer in
     fits.of_heap.of_table
 
 pub advance-answer-requires-clause-layout : goal.advance-answer-requires-clause-layout
 advance-answer-requires-clause-layout g c =
     let named = c.deref_mut-named.result.now in
-    let fits = shown_fits g.N.HeapName.heap c.self.inside.heap named.part c.show.new.self c.args.pass.now.ticket.held
+    let fits = shown_fits g.N.HeapName.heap c.self.inside.heap named.part c.show.new.self c.args.pass.now.ticket.known
     c.self.invariant.of_heap named.of_heap c.show.ensures.advancer in
     fits.of_layout
 
 pub advance-answer-requires-clause-clean : goal.advance-answer-requires-clause-clean
 advance-answer-requires-clause-clean g c =
     let named = c.deref_mut-named.result.now in
-    let fits = shown_fits g.N.HeapName.heap c.self.inside.heap named.part c.show.new.self c.args.pass.now.ticket.held
+    let fits = shown_fits g.N.HeapName.heap c.self.inside.heap named.part c.show.new.self c.args.pass.now.ticket.known
     c.self.invariant.of_heap named.of_heap c.show.ensures.advancer in
     λ rests. fits.of_heap.all_clean
 
 pub take_note-requires-clause-heap : goal.take_note-requires-clause-heap
 take_note-requires-clause-heap g c =
     let named = c.deref_mut-named.result.now in
-    let fits = shown_fits g.N.HeapName.heap c.self.inside.heap named.part c.show.new.self c.args.pass.now.ticket.held
+    let fits = shown_fits g.N.HeapName.heap c.self.inside.heap named.part c.show.new.self c.args.pass.now.ticket.known
     c.self.invariant.of_heap named.of_heap c.show.ensures.advancer in
     c.advance-answer.ensures.same.table ∙ fits.of_heap.of_table
 
@@ -46,7 +46,7 @@ invariant_of-named g c =
     record {
       of_heap = subst (λ (a : AdvShown). IsAdvancerOf heap a) (sym c.take_note.ensures.advancer)
           (same_fits heap c.show.new.self c.advance-answer.new.self
-          (shown_fits heap heap named.part c.show.new.self c.args.pass.now.ticket.held refl named.of_heap c.show.ensures.advancer)
+          (shown_fits heap heap named.part c.show.new.self c.args.pass.now.ticket.known refl named.of_heap c.show.ensures.advancer)
           c.advance-answer.ensures.same);
     }
 

@@ -34,7 +34,7 @@ plan g c = planned c.args.heap.now c.check_running.new.region c.check_running.ne
 pub check_edit-requires-clause-named : goal.check_edit-requires-clause-named
 check_edit-requires-clause-named g c =
     let k = called g (goal.at.check_edit-requires-clause-named g c).After-plan-reply in
-    edit_live c.check_running.new.region.seat.held.part.records c.self.inside.index (k.unit.indexed k.running)
+    edit_live c.check_running.new.region.seat.known.part.records c.self.inside.index (k.unit.indexed k.running)
     c.check_running.new.region.books c.plan-reply.result.edit c.plan-reply.ensures.fits
 
 -- ---- a number at its end

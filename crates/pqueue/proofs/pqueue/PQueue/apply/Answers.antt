@@ -31,7 +31,7 @@ invariant_of-self-2 g c = answered_unit c.args.heap.now c.self.inside.region c.c
     c.self.inside.items.items c.plan-reply.result.change c.self.invariant c.in_ok-check_running.ensures.ok.0
     (subst (λ (x : PQueueShown). IsStanding c.args.heap.now x.region) (sym c.self.view_is) c.requires.stands)
     c.carry_out.ensures.stands c.carry_out.ensures.agrees c.check_running.new.region c.check_numbers.new.region _ _
-    c.check_running.new.pass.ticket.held.part _
+    c.check_running.new.pass.ticket.known.part _
     c.in_ok-carried.carried.receipt c.in_ok-carried.carried.slot c.as_slice.result.now c.as_slice-2.result.now
     c.reserve.new.items.items c.follow.new.items.items c.in_ok-check_running.ensures.ok.1
     (c.in_ok-check_numbers.ensures.ok.1 ∙ c.in_ok-check_running.ensures.ok.1)
@@ -45,7 +45,7 @@ returns-clause-items g c = (answered_unit c.args.heap.now c.self.inside.region c
     c.self.inside.items.items c.plan-reply.result.change c.self.invariant c.in_ok-check_running.ensures.ok.0
     (subst (λ (x : PQueueShown). IsStanding c.args.heap.now x.region) (sym c.self.view_is) c.requires.stands)
     c.carry_out.ensures.stands c.carry_out.ensures.agrees c.check_running.new.region c.check_numbers.new.region _ _
-    c.check_running.new.pass.ticket.held.part _
+    c.check_running.new.pass.ticket.known.part _
     c.in_ok-carried.carried.receipt c.in_ok-carried.carried.slot c.as_slice.result.now c.as_slice-2.result.now
     c.reserve.new.items.items c.follow.new.items.items c.in_ok-check_running.ensures.ok.1
     (c.in_ok-check_numbers.ensures.ok.1 ∙ c.in_ok-check_running.ensures.ok.1)

@@ -6,5 +6,5 @@ use Rattle.slots.proofs.region.Region.any_ends.Given as goal
 -- the changes that are left decide
 abbrev pub invariant-loop-change : goal.invariant-loop-change
 invariant-loop-change l =
-    list_any (ends_version l.self.seat.held.part.records) l.changes
-    ≡ list_any (ends_version l.self.seat.held.part.records) (drop l.change-index l.changes)
+    list_any (ends_version l.self.seat.known.part.records) l.changes
+    ≡ list_any (ends_version l.self.seat.known.part.records) (drop l.change-index l.changes)

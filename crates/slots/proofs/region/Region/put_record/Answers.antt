@@ -11,7 +11,7 @@ store_record-requires-clause-may g c =
 
 pub put-requires : goal.put-requires
 put-requires g c =
-    let may = subst (λ (x : RegionShown). CanPut x.books x.seat.held.part.records c.args.change.now) (sym c.self.view_is) c.requires.may in
+    let may = subst (λ (x : RegionShown). CanPut x.books x.seat.known.part.records c.args.change.now) (sym c.self.view_is) c.requires.may in
     record {
       room = room_at _ _ _ c.self.view_is _ _ _ _ c.requires.heap c.requires.agrees c.requires.running c.requires.may
           c.first_free-slot.ensures c.record_by-held.ensures.record_is c.record_by-held.ensures.valid;

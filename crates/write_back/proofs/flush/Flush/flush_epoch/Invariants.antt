@@ -7,6 +7,6 @@ abbrev pub invariant-loop-unit : goal.invariant-loop-unit
 invariant-loop-unit g l = record {
   unit : l.self.unit ≡ l._unit;
   gate : IsAskedOften g.G.Gate.cuts g.G.Gate.endless l.fn.gate l.gate false;
-  stands : StandsAt l.self l.seat.held;
-  stays : l.seat ≡ record { table = l.fn.seat.table; held = with_flush_of l.fn.seat.held l.seat.held };
+  stands : StandsAt l.self l.seat.known;
+  stays : l.seat ≡ record { table = l.fn.seat.table; known = with_flush_of l.fn.seat.known l.seat.known };
 }

@@ -15,5 +15,5 @@ load_word-requires-clause-inside g c = slot_inside _ _ c.requires.stands _ c.req
 
 pub returns-clause-stands : goal.returns-clause-stands
 returns-clause-stands g c =
-    subst (λ (x : AdvShown). StandsAt (record c.args.self.now { held = true }) x.held) (sym c.in_ok-load_word.ensures.ok)
+    subst (λ (x : AdvShown). StandsAt (record c.args.self.now { held = true }) x.known) (sym c.in_ok-load_word.ensures.ok)
     (loaded _ _ c.requires.stands _ c.requires.slot _ c.if-self.false)
