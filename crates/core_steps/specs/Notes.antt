@@ -121,7 +121,9 @@ BeginsWith h front = (rest : List Entry) × (h ≡ front ++ rest)
 pub record Grows (old new : Moment) : Type 0 where
   pub histories : AllZip BeginsWith new.histories old.histories
   pub cuts : (u k : ℕ) → slice_get old.cuts u ≡ Some (Some k) → slice_get new.cuts u ≡ Some (Some k)
-  pub lefts : (u e : ℕ) → slice_get old.lefts u ≡ Some (Some e) → slice_get new.lefts u ≡ Some (Some e)
+  pub lefts :
+      (u e : ℕ) → slice_get old.lefts u ≡ Some (Some e)
+      → slice_get new.lefts u ≡ Some (Some e)
   pub now : old.now ≤ new.now
   pub durable : old.durable ≤ new.durable
 

@@ -4,6 +4,8 @@
 #![tactic(auto)]
 
 #[cfg(test)]
+mod base_parts;
+#[cfg(test)]
 mod crash_images;
 #[cfg(test)]
 mod following;

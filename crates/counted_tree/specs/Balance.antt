@@ -12,6 +12,6 @@ pub record IsNearlyBalanced (left right : ℕ) : Type 0 where
   pub right_light : right + 1 ≤ 3 * (left + 1) + 3
 
 -- a list that is an item between two others, which are balanced
-pub record IsSplit {T : Type 0} (whole left : List T) (item : T) (right : List T) : Type 0 where
+pub record IsForked {T : Type 0} (whole left : List T) (item : T) (right : List T) : Type 0 where
   pub parts : whole ≡ left ++ item ∷ right
   pub balanced : IsBalanced (length left) (length right)

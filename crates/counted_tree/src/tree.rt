@@ -1,6 +1,6 @@
 // A list in a balanced tree: the tree, and what is done to it by places.
 ghost use Rattle.std.specs.Prelude.{◌≡◌, ◌+◌, ◌<◌, ◌≤◌, ◌^◌, [], ◌∷◌, ◌++◌, length, take, drop, slice_get, slice_set, Some, None, IfOk, MatchOption};
-ghost use Rattle.counted_tree.specs.Balance.{IsBalanced, IsSplit};
+ghost use Rattle.counted_tree.specs.Balance.{IsBalanced, IsForked};
 
 use crate::balance::{joined, rebalanced};
 use std::alloc::{AllocError, Global};
@@ -231,7 +231,7 @@ impl<T> Tree<T> {
     // The root's item and the trees beside it.
     pub(crate) fn split(self) -> Option<(Tree<T>, Box<Branch<T>>, Tree<T>)>
         ensures { MatchOption result (self ≡ [])
-            (λ parts. IsSplit self parts.0 parts.1.value.item parts.2) }
+            (λ parts. IsForked self parts.0 parts.1.value.item parts.2) }
     {
         match self.node {
             Node::Leaf => None,

@@ -59,6 +59,7 @@ pub(crate) fn stop(alloc: Global, engine: Engine) -> Result<Words, Fail>
         ticket,
         gate: _,
         receipts: _,
+        apart: _,
     } = pass;
     units.insert(0, region.into_seat())?;
     let mut callers = Vec::new(alloc);

@@ -1,5 +1,6 @@
 // The records of a region, as its readers tell them.
 ghost use Rattle.std.specs.Prelude.{◌≡◌, ◌++◌, IfOk, OnOk, option_to_list};
+ghost use Rattle.std.specs.Option.{option_copied};
 ghost use Rattle.core_answer.specs.Newest.{HaveSameNewest};
 ghost use Rattle.slots.specs.Books.{Agrees};
 
@@ -25,11 +26,12 @@ pub(crate) fn records_of(
     Ok(records)
 }
 
-fn push_found(records: &mut Vec<Held>, found: Option<Held>) -> Result<(), AllocError>
-    ensures { OnOk result (records.new.items ≡ records.old.items ++ option_to_list found) }
+fn push_found(records: &mut Vec<Held>, found: Option<&Held>) -> Result<(), AllocError>
+    ensures { OnOk result (records.new.items
+        ≡ records.old.items ++ option_to_list (option_copied found.entry)) }
 {
     if let Some(held) = found {
-        records.push(held)?;
+        records.push(*held)?;
     }
     Ok(())
 }

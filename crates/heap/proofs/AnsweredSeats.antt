@@ -19,20 +19,20 @@ last_of_push (d ∷ []) e = refl
 last_of_push (d ∷ c ∷ cs) e = last_of_push (c ∷ cs) e
 
 module _ (t : TableId) (unit epoch entries newest durable : ℕ) (m : Seated) (k : IsUnit t unit epoch entries newest durable m) where
-  abbrev held : UnitKnown
+  abbrev known : UnitKnown
   known = the_unit m.0
 
   -- an epoch was announced
-  pub told_keeps : (r : TableId) (n : Seated) (e : ℕ) → r ≡ t → can_tell held.part e ≡ true → n ≡ (unit_view (unit_told held e), m.1)
+  pub told_keeps : (r : TableId) (n : Seated) (e : ℕ) → r ≡ t → can_tell known.part e ≡ true → n ≡ (unit_view (unit_told known e), m.1)
       → IsUnit r unit e entries newest durable n
   told_keeps r n e same may is =
-      let home = k.rests (tell_rests held.part e may) in
+      let home = k.rests (tell_rests known.part e may) in
       let out : m.1 ≡ [] = ap (λ (x : Seated). x.1) k.whole
-      ∙ ap (λ (x : UnitTurn). cond x.out ((list_place held.unit (epoch_of held.part.stage), None) ∷ []) []) home in
-      let told : unit_out (unit_told held e) ≡ [] = ap (λ (x : UnitTurn). cond x.out ((list_place held.unit e, None) ∷ []) []) home in
+      ∙ ap (λ (x : UnitTurn). cond x.out ((list_place known.unit (epoch_of known.part.stage), None) ∷ []) []) home in
+      let told : unit_out (unit_told known e) ≡ [] = ap (λ (x : UnitTurn). cond x.out ((list_place known.unit e, None) ∷ []) []) home in
       subst (λ (z : TableId × Seated). IsUnit z.0 unit e entries newest durable z.1) (λ j. (sym same j, sym is j))
       (record {
-        whole = λ j. (unit_view (unit_told held e), (out ∙ sym told) j);
+        whole = λ j. (unit_view (unit_told known e), (out ∙ sym told) j);
         number = k.number;
         epoch_is = refl;
         entries_are = k.entries_are;
@@ -41,12 +41,12 @@ module _ (t : TableId) (unit epoch entries newest durable : ℕ) (m : Seated) (k
         rests = λ _. home;
         slot = k.slot;
         small = k.small;
-        last = tell_last held.part e may;
-        begun = λ _. tell_first held.part e may;
+        last = tell_last known.part e may;
+        begun = λ _. tell_first known.part e may;
       })
 
   -- it was left with an answer
-  pub left_keeps : (r : TableId) (n : Seated) (e : Entry) → r ≡ t → e.epoch ≡ epoch → n ≡ (unit_view (unit_left held e), [])
+  pub left_keeps : (r : TableId) (n : Seated) (e : Entry) → r ≡ t → e.epoch ≡ epoch → n ≡ (unit_view (unit_left known e), [])
       → IsUnit r unit 0 (entries + 1) epoch durable n
   left_keeps r n e same of_epoch is = subst (λ (z : TableId × Seated). IsUnit z.0 unit 0 (entries + 1) epoch durable z.1)
       (λ j. (sym same j, sym is j))
@@ -54,8 +54,8 @@ module _ (t : TableId) (unit epoch entries newest durable : ℕ) (m : Seated) (k
         whole = refl;
         number = k.number;
         epoch_is = refl;
-        entries_are = ap (λ (x : ℕ). x + 1) k.entries_are ∙ sym (length-append held.part.history (e ∷ []));
-        newest_is = sym of_epoch ∙ sym (last_of_push held.part.history e);
+        entries_are = ap (λ (x : ℕ). x + 1) k.entries_are ∙ sym (length-append known.part.history (e ∷ []));
+        newest_is = sym of_epoch ∙ sym (last_of_push known.part.history e);
         durable_is = k.durable_is;
         rests = λ _. refl;
         slot = k.slot;
@@ -65,15 +65,15 @@ module _ (t : TableId) (unit epoch entries newest durable : ℕ) (m : Seated) (k
       })
 
   pub read_keeps : (r : TableId) (n : Seated) (found : ℕ) (e : Entry) → r ≡ t → e.epoch ≡ found
-      → n ≡ (unit_view (unit_read held found e), m.1) → IsUnit r unit epoch (entries + 1) found durable n
+      → n ≡ (unit_view (unit_read known found e), m.1) → IsUnit r unit epoch (entries + 1) found durable n
   read_keeps r n found e same of_epoch is = subst (λ (z : TableId × Seated). IsUnit z.0 unit epoch (entries + 1) found durable z.1)
       (λ j. (sym same j, sym is j))
       (record {
-        whole = λ j. (unit_view (unit_read held found e), (k.whole j).1);
+        whole = λ j. (unit_view (unit_read known found e), (k.whole j).1);
         number = k.number;
         epoch_is = k.epoch_is;
-        entries_are = ap (λ (x : ℕ). x + 1) k.entries_are ∙ sym (length-append held.part.history (e ∷ []));
-        newest_is = sym of_epoch ∙ sym (last_of_push held.part.history e);
+        entries_are = ap (λ (x : ℕ). x + 1) k.entries_are ∙ sym (length-append known.part.history (e ∷ []));
+        newest_is = sym of_epoch ∙ sym (last_of_push known.part.history e);
         durable_is = k.durable_is;
         rests = k.rests;
         slot = k.slot;
@@ -82,12 +82,12 @@ module _ (t : TableId) (unit epoch entries newest durable : ℕ) (m : Seated) (k
         begun = k.begun;
       })
 
-  pub frozen_keeps : (r : TableId) (n : Seated) (by : ℕ) → r ≡ t → n ≡ (unit_view (unit_frozen held by), m.1)
+  pub frozen_keeps : (r : TableId) (n : Seated) (by : ℕ) → r ≡ t → n ≡ (unit_view (unit_frozen known by), m.1)
       → IsUnit r unit epoch entries newest durable n
   frozen_keeps r n by same is = subst (λ (z : TableId × Seated). IsUnit z.0 unit epoch entries newest durable z.1)
       (λ j. (sym same j, sym is j))
       (record {
-        whole = λ j. (unit_view (unit_frozen held by), (k.whole j).1);
+        whole = λ j. (unit_view (unit_frozen known by), (k.whole j).1);
         number = k.number;
         epoch_is = k.epoch_is;
         entries_are = k.entries_are;

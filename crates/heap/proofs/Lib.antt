@@ -10,3 +10,4 @@ pub mod GatheredSeats
 pub mod StoppedCores
 pub mod StoppedCuts
 pub mod AllSeats
+pub mod FlushedWords

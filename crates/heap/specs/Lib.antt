@@ -1,4 +1,5 @@
 pub mod GateAsked
+pub mod FlushSteps
 pub mod HeapShown
 pub mod NewsShown
 pub mod SeatFields

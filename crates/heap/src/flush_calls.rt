@@ -1,14 +1,15 @@
 // The steps by which the advancer passes the units, writes slots back, and moves the clock.
-ghost use Rattle.std.specs.Prelude.{◌≡◌, ◌<◌, length, false, IsTrue, IfOk, OnOk, OnErr};
+ghost use Rattle.std.specs.Prelude.{◌≡◌, ◌<◌, length, false, is_err, IsTrue, IfOk, OnOk, OnErr};
 ghost use Rattle.mont_base.specs.declared.constants.TheConstants.{LAST, FIELDS};
 ghost use Rattle.mont_base.specs.Layout.{units_of, total_of};
-ghost use Rattle.core_steps.specs.declared.parts.AdvPart.TheVariants.{Rest};
+ghost use Rattle.core_steps.specs.declared.parts.AdvPart.TheVariants.{Rest, Flushing};
 ghost use Rattle.core_steps.specs.Advancing.{can_check, unit_at_hand, after_check, is_clocked};
 ghost use Rattle.core_steps.specs.Flushing.{can_load_word, can_persist_word, after_persist_word, is_flushed};
 ghost use Rattle.heap_rule.specs.Plays.{IsAnnouncement, IsAhead, IsPlaceListed};
-ghost use Rattle.heap_rule.specs.Views.{are_clean, joined, holding, slot_at_hand, field_at_hand, word_in_hand, advancer_loaded, advancer_persisted, advancer_set, advancer_rested, advancer_view, the_advancer};
+ghost use Rattle.heap_rule.specs.Views.{are_clean, joined, holding, place_at_hand, slot_at_hand, field_at_hand, word_in_hand, advancer_loaded, advancer_persisted, advancer_set, advancer_rested, advancer_view, the_advancer};
 ghost use Rattle.heap_rule.specs.TableWords.{announcement_place, durable_place};
-ghost use Rattle.heap.specs.GateAsked.{IsAskedOnce};
+ghost use Rattle.heap.specs.FlushSteps.{Flushes, IsWithinSlot, with_hand_of, behind_slot};
+ghost use Rattle.heap.specs.GateAsked.{IsAskedOnce, IsAskedOften};
 ghost use Rattle.heap.specs.Passing.{RemembersList, ShowsList};
 
 use crate::heap::Heap;
@@ -113,6 +114,88 @@ impl Heap {
         Ok(())
     }
 
+    /// Loads each word of a slot from the one at hand on, and makes it durable. Where the gate
+    /// cuts, the advancer stands at the word that would have come next.
+    pub fn flush_slot<G: Gate>(
+        &self,
+        seat: &mut AdvSeat,
+        slot: Slot,
+        gate: &mut G,
+    ) -> Result<(), Cut>
+        requires heap { seat.old.table ≡ self.now.table }
+        requires may { IsTrue (can_load_word (length (joined seat.old.known.lists))
+            seat.old.known.part) }
+        requires slot { slot ≡ slot_at_hand seat.old.known }
+        requires inside { slot < total_of self.now.opening.layout }
+        ensures gate { IsAskedOften G.cuts G.endless gate.old gate.new (is_err result) }
+        ensures steps { Flushes G.asked seat.old.known gate.old seat.new.known gate.new
+            (is_err result) }
+        ensures stays { seat.new ≡ record {
+          table = seat.old.table;
+          known = with_hand_of seat.old.known seat.new.known;
+        } }
+        ensures ok { OnOk result (seat.new.known.part
+            ≡ behind_slot (place_at_hand seat.old.known.part)) }
+        ensures listed { OnOk result (IsPlaceListed seat.old.known) }
+        ensures cut { OnErr result (IsWithinSlot seat.old.known seat.new.known) }
+    {
+        let done = slots_done(seat.part);
+        let first = field(seat.part);
+        let (part, flushed) = self.flush_fields(&mut seat.seat, slot, done, first, gate);
+        seat.part = part;
+        flushed
+    }
+
+    // The same by the advancer's seat, from a field on. Answers where the advancer then stands, and
+    // whether the gate cut.
+    fn flush_fields<G: Gate>(
+        &self,
+        seat: &mut Seat<Cell, View>,
+        slot: Slot,
+        done: u64,
+        first: u64,
+        gate: &mut G,
+    ) -> (AdvPart, Result<(), Cut>)
+        requires heap { seat.old.table_id ≡ self.now.table }
+        requires view { seat.old.me.0 ≡ advancer_view (the_advancer seat.old.me.0) }
+        requires part { (the_advancer seat.old.me.0).part ≡ Flushing done first }
+        requires field { first < FIELDS }
+        requires may { done < length (joined (the_advancer seat.old.me.0).lists) }
+        requires slot { slot ≡ slot_at_hand (the_advancer seat.old.me.0) }
+        requires inside { slot < total_of self.now.opening.layout }
+        ensures seat { seat.new.table_id ≡ seat.old.table_id }
+        ensures view { seat.new.me ≡ (
+          advancer_view (with_hand_of (the_advancer seat.old.me.0)
+              (the_advancer seat.new.me.0)),
+          seat.old.me.1,
+        ) }
+        ensures part { result.0 ≡ (the_advancer seat.new.me.0).part }
+        ensures gate { IsAskedOften G.cuts G.endless gate.old gate.new (is_err result.1) }
+        ensures steps { Flushes G.asked (the_advancer seat.old.me.0) gate.old
+            (the_advancer seat.new.me.0) gate.new (is_err result.1) }
+        ensures ok { OnOk result.1 ((the_advancer seat.new.me.0).part ≡ behind_slot done) }
+        ensures listed { OnOk result.1 (IsPlaceListed (the_advancer seat.old.me.0)) }
+        ensures cut { OnErr result.1
+            (IsWithinSlot (the_advancer seat.old.me.0) (the_advancer seat.new.me.0)) }
+    {
+        let words = self.layout.words() as usize;
+        let start = self.current(slot, 0);
+        for field in first..FIELDS as u64 {
+            let Ok(()) = gate.step() else {
+                return (AdvPart::Flushing { done, field }, Err(Cut));
+            };
+            let place = start + field as usize;
+            let value = self.table.shared.load::<LoadsWord>(seat, place);
+            let Ok(()) = gate.step() else {
+                return (AdvPart::Holding { done, field, value }, Err(Cut));
+            };
+            self.table
+                .shared
+                .store::<PersistsWord>(seat, words + place, value);
+        }
+        (next_slot(done), Ok(()))
+    }
+
     /// Moves the clock on, once all is written back and every list is at home and empty.
     pub fn set_clock<G: Gate>(&self, seat: &mut AdvSeat, gate: &mut G) -> Result<(), Cut>
         requires heap { seat.old.table ≡ self.now.table }
@@ -202,6 +285,16 @@ fn checked(units: u64, clock: Epoch, word: u64, part: AdvPart) -> AdvPart
     }
 }
 
+// The place of the slot at hand among those that are to be written back.
+fn slots_done(part: AdvPart) -> u64
+    ensures { result ≡ place_at_hand part }
+{
+    match part {
+        AdvPart::Flushing { done, .. } | AdvPart::Holding { done, .. } => done,
+        _ => 0,
+    }
+}
+
 // The field of the word at hand.
 fn field(part: AdvPart) -> u64
     ensures { result ≡ field_at_hand part }
@@ -249,12 +342,19 @@ fn persisted(part: AdvPart) -> AdvPart
                     field: field + 1,
                 }
             } else {
-                AdvPart::Flushing {
-                    done: done.saturating_add(1),
-                    field: 0,
-                }
+                next_slot(done)
             }
         }
         other => other,
+    }
+}
+
+// The part once so many slots and one more are durable.
+fn next_slot(done: u64) -> AdvPart
+    ensures { result ≡ behind_slot done }
+{
+    AdvPart::Flushing {
+        done: done.saturating_add(1),
+        field: 0,
     }
 }

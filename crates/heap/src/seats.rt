@@ -105,6 +105,13 @@ impl UnitSeat {
 }
 
 impl AdvSeat {
+    /// How far the advance is that it makes.
+    pub fn part(&self) -> AdvPart
+        ensures { result ≡ self.now.known.part }
+    {
+        self.part
+    }
+
     /// The durable clock. It is the clock, unless the clock has moved and is not durable yet.
     pub fn durable(&self) -> Epoch
         ensures clock { result ≡ self.now.known.durable }

@@ -3,9 +3,11 @@
 #![tactic(auto)]
 
 mod named;
+mod padding;
 mod pass;
 #[cfg(test)]
 mod tests;
 
 pub use named::{HeapName, Named, OfHeap};
+pub use padding::Padding;
 pub use pass::Pass;

@@ -3,9 +3,13 @@ ghost use Rattle.std.specs.Prelude.{◌≡◌, ◌↔◌, ◌≤◌, [], IsTrue,
 ghost use Rattle.heap_pass.specs.Kept.{StandLast, IsWhole};
 ghost use Rattle.heap_pass.specs.Spare.{spare_of};
 
+use crate::padding::Padding;
 use heap::Ticket;
 use mont_base::{Gate, Receipt};
 use std::alloc::{AllocError, Global};
+
+// Receipts are kept by the hundred thousand, and each is copied under its unit's lock.
+const _: () = prove!(size_of::<Receipt>() <= 168);
 
 /// A caller's ticket, the gate that its steps ask, and the receipts of its answered calls: all of
 /// them, or those since it forgot the earlier ones.
@@ -13,11 +17,15 @@ use std::alloc::{AllocError, Global};
 /// A step call takes the ticket and the gate each by itself. One that answers the caller gives the
 /// receipt that the ticket then shows, and it has to be kept before the pass is used again: by
 /// `receipts.push_reserved`, into room that was reserved before the call.
+///
+/// Callers' passes lie side by side in a list. What a caller uses of its own stands in no cache
+/// line of another's.
 #[derive(Drop)]
 pub struct Pass<G: Gate> {
     pub ticket: Ticket,
     pub gate: G,
     pub receipts: Vec<Receipt>,
+    pub apart: Padding,
     pub ghost kept: { StandLast ticket.known.part.receipts receipts.items },
 }
 
@@ -33,6 +41,7 @@ impl<G: Gate> Pass<G> {
             ticket,
             gate,
             receipts: Vec::new(alloc),
+            apart: Padding::new(),
         }
     }
 

@@ -132,6 +132,7 @@ fn work<N: HeapName>(
         ticket: _,
         gate,
         receipts,
+        apart: _,
     } = pass;
     if begun && !again && receipts.is_empty() && gate == Fuel::new(0) {
         Ok(clock)

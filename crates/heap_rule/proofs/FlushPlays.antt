@@ -110,10 +110,11 @@ none_at_check units (Holding d g v) wait rest = none_moving units (Holding d g v
 none_at_check units Clocked wait rest = none_moving units Clocked wait (λ e. absurd (cc))
 
 -- the list of a unit by its part
-list_known : (o : Opening) (s : State Cell View) (k : ShowsCore o s) (a : AdvKnown) (u : ℕ) (p : UnitPart)
-    → slice_get k.board.core.units u ≡ Some p → u ≡ unit_at_hand a.part → clock k.board.core ≡ a.clock
-    → IsListOf o a.clock (unit_at_hand a.part) (unit_list (clock k.board.core - 1) p)
-list_known o s k a u p at hand now =
+list_known : (o : Opening) (s : State Cell View) (k : ShowsCore o s) (a : AdvKnown) (u x : ℕ) (p : UnitPart)
+    → slice_get k.board.core.units u ≡ Some p → u ≡ unit_at_hand a.part → x ≡ announcement p.stage p.frozen
+    → clock k.board.core ≡ a.clock → durable_clock k.board.core ≡ a.durable
+    → IsListOf o a x (unit_list (clock k.board.core - 1) p)
+list_known o s k a u x p at hand word now durable =
     let core = k.board.core in
     let h : UnitKnown = record {
       unit = u;
@@ -125,11 +126,11 @@ list_known o s k a u p at hand now =
       learnt = none_learnt;
       clean = [];
     } in record {
-      durable = durable_clock core;
       shown = h;
-      sound = subst (λ (x : ℕ). IsSoundUnit o x (durable_clock core) h) now
+      sound = subst (λ (z : ℕ × ℕ). IsSoundUnit o z.0 z.1 h) (λ i. (now i, durable i))
           (unit_sound o s k core (stays o s k) refl h at (λ v q is among. absurd (cc)));
       of_unit = hand;
+      announced = word;
       is = ap (λ (x : ℕ). unit_list (x - 1) p) now;
     }
 
@@ -176,7 +177,7 @@ checks o slots seat a c may rest inside s k long at small =
           ∙ lists_after_check core a.lists x one.0 can one.1 (omega arith) f.lists u q is passed)
           refl refl refl refl),
       (
-        (list, refl, list_known o s k a j one.0 one.1 there f.clock_is),
+        (list, refl, list_known o s k a j x one.0 one.1 there (found ∙ word) f.clock_is f.durable),
         subst IsAnnouncement (sym (found ∙ word)) (announces o s k j one.0 one.1),
       ),
     )

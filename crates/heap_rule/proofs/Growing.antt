@@ -29,7 +29,8 @@ learnt_still c d l g is = let now = g.now in let durable = g.durable in let a = 
     record { newest = omega arith; durable = omega arith }
 
 -- what is left within an epoch stays so
-pub left_still : (c d : Core) (within : List LeftWithin) → Grows (moment_of c) (moment_of d) → AreLeft c.units within → AreLeft d.units within
+pub left_still : (c d : Core) (within : List LeftWithin) → Grows (moment_of c) (moment_of d) → AreLeft c.units within
+    → AreLeft d.units within
 left_still c d within g are = All-weaker (IsLeft c.units) (IsLeft d.units) (λ w is. g.lefts w.unit w.epoch is) within are
 
 -- the entries before a front that is there

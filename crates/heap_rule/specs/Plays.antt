@@ -13,6 +13,7 @@ use Rattle.core_steps.specs.CallAnswers.{entry_of}
 use Rattle.core_steps.specs.Events.{closing_of}
 use Rattle.core_steps.specs.Flushing.{unit_list}
 use Rattle.core_steps.specs.Notes.{last_epoch}
+use Rattle.core_steps.specs.Sound.{announcement}
 use Rattle.heap_rule.specs.declared.rule.Opening.{Opening}
 use Rattle.heap_rule.specs.declared.views.Learnt.{Learnt}
 use Rattle.heap_rule.specs.declared.views.UnitKnown.{UnitKnown}
@@ -149,20 +150,21 @@ pub record IsEpoch (epoch : ℕ) : Type 0 where
 abbrev pub IsAnnouncement : ℕ → Type 0
 IsAnnouncement found = (found ≡ 0) ⊎ IsEpoch (found / 2)
 
--- the list of a unit for the epoch before the clock, by what its part is when the clock shows now
-pub record IsListOf (o : Opening) (now unit : ℕ) (list : List ℕ) : Type 0 where
-  pub durable : ℕ
+-- the list of the unit at hand for the epoch before the clock, by what its part is when this
+-- announcement of it is loaded
+pub record IsListOf (o : Opening) (a : AdvKnown) (word : ℕ) (list : List ℕ) : Type 0 where
   pub shown : UnitKnown
-  pub sound : IsSoundUnit o now durable shown
-  pub of_unit : shown.unit ≡ unit
-  pub is : list ≡ unit_list (now - 1) shown.part
+  pub sound : IsSoundUnit o a.clock a.durable shown
+  pub of_unit : shown.unit ≡ unit_at_hand a.part
+  pub announced : word ≡ announcement shown.part.stage shown.part.frozen
+  pub is : list ≡ unit_list (a.clock - 1) shown.part
 
 abbrev pub checked : Opening → Step Cell → Seated → ℕ → Seated → Type 0
 checked o s m found n =
     let a : AdvKnown = the_advancer m.0 in
     ((list : List ℕ)
     × (n ≡ (advancer_view (advancer_checked a found list), m.1))
-    × IsListOf o a.clock (unit_at_hand a.part) list)
+    × IsListOf o a found list)
     × IsAnnouncement found
 
 abbrev pub loaded_word : Step Cell → Seated → ℕ → Seated → Type 0

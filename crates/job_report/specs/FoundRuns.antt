@@ -1,19 +1,8 @@
 -- The runs of the ranges in histories.
-use Rattle.std.specs.Prelude.{◌≡◌, ℕ, ◌≤◌, List, All, length, slice_get, Some}
-use Rattle.mont_base.specs.declared.constants.TheConstants.{MOST_PAIRS}
+use Rattle.std.specs.Prelude.{◌≡◌, ℕ, List, All, length, slice_get, Some}
 use Rattle.mont_base.specs.declared.operation.Entry.{Entry}
-use Rattle.mont_base.specs.declared.operation.Op.{Op}
-use Rattle.mont_base.specs.declared.operation.Op.TheVariants as ops
-use Rattle.mont_base.specs.History.{runs_of}
+use Rattle.mont_base.specs.History.{runs_of, IsShort}
 use Rattle.mont_base.specs.State.{State, Run}
-
--- a range of no more pairs than a run has room for, as each range of a legal history is
-abbrev pub IsShortOp : Op → Type 0
-IsShortOp (ops.ORange unit from to most) = most ≤ MOST_PAIRS
-IsShortOp _ = Unit {0}
-
-abbrev pub IsShort : Entry → Type 0
-IsShort e = IsShortOp e.op
 
 -- each unit whose ranges are short has the runs of its history
 pub record AreRuns (base : List State) (histories : List (List Entry)) (runs : List (List Run))

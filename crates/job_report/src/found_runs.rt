@@ -1,10 +1,10 @@
 // The runs of the ranges in histories.
 ghost use Rattle.std.specs.Prelude.{◌≡◌, ◌++◌, IfOk, OnOk, All, slice_get, Some};
 ghost use Rattle.std.specs.Option.{option_to_list};
-ghost use Rattle.mont_base.specs.History.{runs_of};
-ghost use Rattle.mont_base.specs.State.{State, run_of};
+ghost use Rattle.mont_base.specs.History.{runs_of, IsShort};
+ghost use Rattle.mont_base.specs.State.{State, IsShortOp, run_of};
 ghost use Rattle.plain.specs.States.{state_of, states_of};
-ghost use Rattle.job_report.specs.FoundRuns.{IsShortOp, IsShort, AreRuns};
+ghost use Rattle.job_report.specs.FoundRuns.{AreRuns};
 
 use job_text::Run;
 use mont_base::{Entry, MOST_PAIRS, Op, PairList, Sequence, Unit};

@@ -1,7 +1,10 @@
 // The advancer beside the callers.
 ghost use Rattle.std.specs.Prelude.{◌≡◌, ℕ, Bool};
+ghost use Rattle.std.specs.declared.result.Result.{Result};
+ghost use Rattle.advance.specs.declared.advance_refusal.AdvanceRefusal.{AdvanceRefusal};
 ghost use Rattle.heap.specs.GateAsked.{IsAskedOften};
 ghost use Rattle.job_worker.specs.Asking.{advance_was_cut};
+ghost use Rattle.job_run.specs.Tries.{HasTried};
 
 use advance::AdvanceRefusal;
 use mont_base::Epoch;
@@ -15,9 +18,15 @@ pub trait Advances<A> {
     /// Whether the gate never cuts.
     ghost gate_endless: { A → Bool };
 
+    /// What is known of a try to move the clock on: by the gate before it and after, and by what it
+    /// answered.
+    ghost tried: { Self → A → A → Result ℕ AdvanceRefusal → Type 0 };
+
     /// Moves the clock on by one, or goes on with that.
     fn attempt<R: Wait>(&self, rt: &R, gate: &mut A) -> Result<Epoch, AdvanceRefusal>
-        ensures { IsAskedOften gate_cuts gate_endless gate.old gate.new (advance_was_cut result) };
+        ensures gate { IsAskedOften gate_cuts gate_endless gate.old gate.new
+            (advance_was_cut result) }
+        ensures tried { tried self.now gate.old gate.new result };
 }
 
 // Tries so many advances, and says whether the gate cut one. None is tried behind it.
@@ -27,9 +36,10 @@ pub(crate) fn make_attempts<R: Wait, A, S: Advances<A>>(
     attempts: u64,
     gate: &mut A,
 ) -> bool
-    ensures { IsAskedOften S.gate_cuts S.gate_endless gate.old gate.new result }
+    ensures gate { IsAskedOften S.gate_cuts S.gate_endless gate.old gate.new result }
+    ensures tries { HasTried (S.tried store.now) attempts gate.old gate.new result }
 {
-    for _ in 0..attempts {
+    for _made in 0..attempts {
         if let Err(AdvanceRefusal::Cut) = store.attempt(rt, gate) {
             return true;
         }

@@ -1,5 +1,5 @@
 // A run of a job.
-ghost use Rattle.std.specs.Prelude.{◌≡◌, Bool, List, Option, Some, All, map, IfOk, OnErr};
+ghost use Rattle.std.specs.Prelude.{◌≡◌, ◌⊎◌, Bool, List, Option, Some, All, map, IfOk, OnErr};
 ghost use Rattle.std.specs.Thread.{IsSync, IsSend};
 ghost use Rattle.heap.specs.GateAsked.{IsAskedOften};
 ghost use Rattle.job_text.specs.declared.job.Line.{Line as LineModel};
@@ -8,6 +8,7 @@ ghost use Rattle.job_text.specs.Report.{lines_of};
 ghost use Rattle.job_worker.specs.Ending.{MayBeAsked};
 ghost use Rattle.job_run.specs.Desks.{AreLeft};
 ghost use Rattle.job_run.specs.Run.{IsFresh, IsWorked, AreWorked};
+ghost use Rattle.job_run.specs.Tries.{HasTried};
 
 use crate::advances::{Advances, make_attempts};
 use crate::desks::{Desk, clear_away, set_out, work_at};
@@ -19,10 +20,18 @@ use std::mem;
 use std::sync::Wait;
 use std::thread::{Threads, for_each_mut, join_mut};
 
-/// What came of the lines of a job, caller by caller.
+/// What came of the lines of a job, caller by caller, and whether the advancer's gate cut.
 #[derive(Debug, Drop)]
 pub struct Ran {
     pub outcomes: Sequence<Sequence<Outcome>>,
+    pub advancer_cut: bool,
+}
+
+// The same, where the lines of a caller may have lacked memory.
+#[derive(Drop)]
+struct Done {
+    outcomes: Vec<Option<Sequence<Outcome>>>,
+    advancer_cut: bool,
 }
 
 /// Carries a job out, with a pass for each caller. Each caller's lines have a thread of their own,
@@ -46,16 +55,22 @@ pub fn run_job<R: Threads + Wait + Sync, P: Send + Drop, A: Send, S: Asks<P> + A
     ensures stands { OnErr result ((done : List (Option (List OutcomeModel)))
         × AreWorked (S.opening store.now) (S.has store.now) S.known S.cuts S.endless job.now
         passes.old.items passes.new.items done) }
-    ensures gate { (cut : Bool)
-        × IsAskedOften S.gate_cuts S.gate_endless gate.old gate.new cut }
+    ensures gate { IfOk result (λ ran. IsAskedOften S.gate_cuts S.gate_endless gate.old gate.new
+        ran.advancer_cut) }
+    ensures tries { IfOk result (λ ran. HasTried (S.tried store.now) job.now.attempts gate.old
+        gate.new ran.advancer_cut) }
+    ensures untried { OnErr result ((gate.new ≡ gate.old) ⊎ ((cut : Bool)
+        × IsAskedOften S.gate_cuts S.gate_endless gate.old gate.new cut
+        × HasTried (S.tried store.now) job.now.attempts gate.old gate.new cut)) }
 {
     let done = done_by(rt, alloc, store, job, passes, gate)?;
     Ok(Ran {
-        outcomes: gathered(alloc, done)?,
+        outcomes: gathered(alloc, done.outcomes)?,
+        advancer_cut: done.advancer_cut,
     })
 }
 
-// What came of the lines of each caller, if they were all carried out.
+// What came of the lines of each caller, if they were all carried out, beside the attempts.
 fn done_by<R: Threads + Wait + Sync, P: Send + Drop, A: Send, S: Asks<P> + Advances<A> + Sync>(
     rt: &R,
     alloc: Global,
@@ -63,27 +78,33 @@ fn done_by<R: Threads + Wait + Sync, P: Send + Drop, A: Send, S: Asks<P> + Advan
     job: &Job,
     passes: &mut Vec<P>,
     gate: &mut A,
-) -> Result<Vec<Option<Sequence<Outcome>>>, AllocError>
+) -> Result<Done, AllocError>
     requires passes { All (IsFresh (S.has store.now) S.known) passes.old.items }
     requires lines { All (λ (l : LineModel). MayBeAsked (S.opening store.now).layout l.deed)
         job.now.lines }
     ensures worked { IfOk result (λ done. AreWorked (S.opening store.now) (S.has store.now) S.known
-        S.cuts S.endless job.now passes.old.items passes.new.items done.items) }
+        S.cuts S.endless job.now passes.old.items passes.new.items done.outcomes.items) }
+    ensures gate { IfOk result (λ done. IsAskedOften S.gate_cuts S.gate_endless gate.old gate.new
+        done.advancer_cut) }
+    ensures tries { IfOk result (λ done. HasTried (S.tried store.now) job.now.attempts gate.old
+        gate.new done.advancer_cut) }
     ensures untouched { OnErr result (passes.new.items ≡ passes.old.items) }
-    ensures gate { (cut : Bool)
-        × IsAskedOften S.gate_cuts S.gate_endless gate.old gate.new cut }
+    ensures untried { OnErr result (gate.new ≡ gate.old) }
 {
     let callers = passes.len();
-    let mut done = Vec::with_capacity(alloc, callers)?;
+    let mut outcomes = Vec::with_capacity(alloc, callers)?;
     let desks = Vec::with_capacity(alloc, callers)?;
     let room = Vec::with_capacity(alloc, callers)?;
     let desks = set_out(mem::replace(passes, room), desks);
-    let desks = run_desks(rt, alloc, store, job, gate, desks);
-    clear_away(desks, passes, &mut done);
-    Ok(done)
+    let (desks, advancer_cut) = run_desks(rt, alloc, store, job, gate, desks);
+    clear_away(desks, passes, &mut outcomes);
+    Ok(Done {
+        outcomes,
+        advancer_cut,
+    })
 }
 
-// What the desks are left with, and the gate.
+// What the desks are left with, and whether the advancer's gate cut.
 fn run_desks<R: Threads + Wait + Sync, P: Send, A: Send, S: Asks<P> + Advances<A> + Sync>(
     rt: &R,
     alloc: Global,
@@ -91,21 +112,20 @@ fn run_desks<R: Threads + Wait + Sync, P: Send, A: Send, S: Asks<P> + Advances<A
     job: &Job,
     gate: &mut A,
     mut desks: Vec<Desk<P>>,
-) -> Vec<Desk<P>>
+) -> (Vec<Desk<P>>, bool)
     requires fresh { All (λ d. IsFresh (S.has store.now) S.known d.pass) desks.items }
     requires lines { All (λ (l : LineModel). MayBeAsked (S.opening store.now).layout l.deed)
         job.now.lines }
     ensures worked { AreLeft (S.opening store.now) (S.has store.now) S.known S.cuts S.endless
-        job.now desks.items result.items }
-    ensures gate { (cut : Bool)
-        × IsAskedOften S.gate_cuts S.gate_endless gate.old gate.new cut }
+        job.now desks.items result.0.items }
+    ensures gate { IsAskedOften S.gate_cuts S.gate_endless gate.old gate.new result.1 }
+    ensures tries { HasTried (S.tried store.now) job.now.attempts gate.old gate.new result.1 }
 {
-    run_beside(rt, alloc, store, job, gate, desks.as_mut_slice());
-    desks
+    let cut = run_beside(rt, alloc, store, job, gate, desks.as_mut_slice());
+    (desks, cut)
 }
 
-// The callers at their desks, beside the advancer's attempts. Answers whether the advancer's gate
-// cut.
+// The callers at their desks, beside the advancer's attempts. Says whether the advancer's gate cut.
 fn run_beside<R: Threads + Wait + Sync, P: Send, A: Send, S: Asks<P> + Advances<A> + Sync>(
     rt: &R,
     alloc: Global,
@@ -120,13 +140,15 @@ fn run_beside<R: Threads + Wait + Sync, P: Send, A: Send, S: Asks<P> + Advances<
     ensures worked { AreLeft (S.opening store.now) (S.has store.now) S.known S.cuts S.endless
         job.now desks.old desks.new }
     ensures gate { IsAskedOften S.gate_cuts S.gate_endless gate.old gate.new result }
+    ensures tries { HasTried (S.tried store.now) job.now.attempts gate.old gate.new result }
 {
-    let attempts = job.attempts;
     let (cut, ()) = join_mut(
         rt,
         &mut || -> bool
-            ensures { IsAskedOften S.gate_cuts S.gate_endless gate.entry.now gate.exit.now result }
-        { make_attempts(rt, store, attempts, gate) },
+            ensures { IsAskedOften S.gate_cuts S.gate_endless gate.entry.now gate.exit.now result
+                × HasTried (S.tried store.entry.now) job.entry.now.attempts gate.entry.now
+                gate.exit.now result }
+        { make_attempts(rt, store, job.attempts, gate) },
         &mut ||
             requires { IsSync R.row × IsSync S.row × IsSend P.row
                 × All (λ d. IsFresh (S.has store.now) S.known d.pass) desks.now

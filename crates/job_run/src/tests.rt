@@ -75,11 +75,16 @@ impl Asks<Guest> for Hall {
 }
 
 impl Advances<Fuel> for Hall {
-    ghost use Rattle.mont_base.specs.Gates.{is_endless};
+    ghost use Rattle.mont_base.specs.Gates.{is_endless, BurnsFuel};
+    ghost use Rattle.mont_base.specs.declared.constants.TheConstants.{FIRST_CLOCK};
+    ghost use Rattle.job_worker.specs.Asking.{advance_was_cut};
 
     ghost gate_cuts = { λ gate. gate.cuts };
 
     ghost gate_endless = { λ gate. is_endless gate };
+
+    ghost tried = { λ _ before after answer. BurnsFuel before after (advance_was_cut answer)
+        × IfOk answer (λ clock. clock ≡ FIRST_CLOCK) };
 
     fn attempt<R: Wait>(&self, rt: &R, gate: &mut Fuel) -> Result<Epoch, AdvanceRefusal> {
         if gate.step().is_err() {

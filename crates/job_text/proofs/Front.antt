@@ -5,19 +5,18 @@ use Rattle.std.specs.List.{take-map}
 use Rattle.std.proofs.lemmas.List.{append_assoc, append-nil, length-append, length-map, get_or-append-add, take_at, take-append-le, map-append}
 use Rattle.std.proofs.lemmas.List.Elements.{All-cons, All-map, All-append, All-weaker}
 use Rattle.std.proofs.lemmas.Bool.{cases_eq, cases_lt}
-use Rattle.job_text.specs.declared.grammar.Grammar.{Grammar}
 use Rattle.job_text.specs.declared.header.Head.{Head}
 use Rattle.job_text.specs.declared.job.Job.{Job}
 use Rattle.job_text.specs.declared.job.Line.{Line}
 use Rattle.job_text.specs.declared.job.Stop.{Stop}
 use Rattle.job_text.specs.declared.limits.TheConstants.{MOST_LINES}
 use Rattle.job_text.specs.Lines.{spaced, line_of, text_of, parts_of, line_at, IsEnded, HasLine}
-use Rattle.job_text.specs.Grammar.{head_of, job_of, IsStop, IsLine, IsJob, Takes}
+use Rattle.job_text.specs.Grammar.{head_of, job_of, IsStop, IsLine, IsJob}
 use Rattle.job_text.specs.JobText.{head_words, stop_words, line_words, job_lines, job_text, MayStand}
 use Rattle.job_text.specs.Parts.{IsSplit}
 use Rattle.job_text.specs.Refused.{BeginsWithHead}
 use Rattle.job_text.proofs.SeenWords.{IsShortLine, head_short, stop_short, line_short}
-use Rattle.job_text.proofs.Grammars.{takes_job, takes_begun, stops_cut, lines_cut}
+use Rattle.job_text.proofs.Grammars.{begun_job, stops_cut, lines_cut}
 use Rattle.job_text.proofs.Parted.{whole_line, parts_front, parts_split, some_part}
 
 -- each line of a job is short and has no line feed
@@ -43,23 +42,23 @@ pub few_job_lines : (j : Job) → IsJob j → length (job_lines j) ≤ MOST_LINE
 few_job_lines j h = omega (arith, job_long j, h.few_lines)
 
 -- a text that begins with the text of a job
-pub record IsFront (g : Grammar) (text : List ℕ) (j : Job) (rest : List ℕ) : Type 0 where
-  pub taken : Takes g j
+pub record IsFront (text : List ℕ) (j : Job) (rest : List ℕ) : Type 0 where
+  pub is_job : IsJob j
   pub joined : text ≡ job_text j ++ rest
 
-pub front_more : (g : Grammar) (text : List ℕ) (j : Job) (rest more : List ℕ) → IsFront g text j rest
-    → IsFront g (text ++ more) j (rest ++ more)
-front_more g text j rest more f = record {
-  taken = f.taken;
+pub front_more : (text : List ℕ) (j : Job) (rest more : List ℕ) → IsFront text j rest
+    → IsFront (text ++ more) j (rest ++ more)
+front_more text j rest more f = record {
+  is_job = f.is_job;
   joined = ap (λ (xs : List ℕ). xs ++ more) f.joined ∙ append_assoc (job_text j) rest more;
 }
 
 spaced_long : (j : Job) → length (map spaced (job_lines j)) ≡ length (job_lines j)
 spaced_long j = length-map (job_lines j) spaced
 
-module _ (g : Grammar) (text : List ℕ) (j : Job) (rest : List ℕ) (f : IsFront g text j rest) where
+module _ (text : List ℕ) (j : Job) (rest : List ℕ) (f : IsFront text j rest) where
   pub front_job : IsJob j
-  front_job = takes_job g j f.taken
+  front_job = f.is_job
 
   pub front_parts : parts_of text ≡ map spaced (job_lines j) ++ parts_of rest
   front_parts = ap parts_of f.joined ∙ parts_front (job_lines j) rest (λ k d within. (job_short j front_job k d within).0)
@@ -103,17 +102,17 @@ module _ (g : Grammar) (text : List ℕ) (j : Job) (rest : List ℕ) (f : IsFron
       (omega (arith, length-append own (line ∷ []), spaced_long j))
 
 -- with nothing behind a job's lines there are no others
-pub no_next : (g : Grammar) (text : List ℕ) (j : Job) → IsFront g text j [] → (i : ℕ) → HasLine text i → i < length (job_lines j)
-no_next g text j f i (inl ended) = omega (arith, front_count g text j [] f)
-no_next g text j f i (inr (last, inl some)) =
-    let at : i ≡ length (job_lines j) = omega (arith, front_count g text j [] f) in
-    let none : length (line_at text i) ≡ 0 = ap (λ (n : ℕ). length (line_at text n)) at ∙ ap length (front_line g text j [] f) in
+pub no_next : (text : List ℕ) (j : Job) → IsFront text j [] → (i : ℕ) → HasLine text i → i < length (job_lines j)
+no_next text j f i (inl ended) = omega (arith, front_count text j [] f)
+no_next text j f i (inr (last, inl some)) =
+    let at : i ≡ length (job_lines j) = omega (arith, front_count text j [] f) in
+    let none : length (line_at text i) ≡ 0 = ap (λ (n : ℕ). length (line_at text n)) at ∙ ap length (front_line text j [] f) in
     absurd (omega arith)
-no_next g text j f i (inr (last, inr first)) = omega (arith, job_long j)
+no_next text j f i (inr (last, inr first)) = omega (arith, job_long j)
 
 -- ---- the first lines of a job are a job's
-abbrev FirstLines : Grammar → Job → ℕ → Type 0
-FirstLines g j i = (k : Job) × Takes g k × (take (i + 1) (map spaced (job_lines j)) ≡ map spaced (job_lines k))
+abbrev FirstLines : Job → ℕ → Type 0
+FirstLines j i = (k : Job) × IsJob k × (take (i + 1) (map spaced (job_lines j)) ≡ map spaced (job_lines k))
 
 first_of : (w : List ℕ) (ws vs : List (List ℕ)) (i : ℕ) → take i ws ≡ vs → take (i + 1) (w ∷ ws) ≡ w ∷ vs
 first_of w ws vs i e = ap (λ (n : ℕ). take n (w ∷ ws)) (add-one i) ∙ ap (λ (us : List (List ℕ)). w ∷ us) e
@@ -144,11 +143,11 @@ take_lines ss ls n =
     (take-map spaced n (map line_words ls) ∙ ap (map spaced) (take-map line_words n ls))
     ∙ sym (tail_apart ss (take n ls))
 
-first_lines : (g : Grammar) (j : Job) (i : ℕ) → Takes g j → i < length (job_lines j) → FirstLines g j i
-first_lines g j i t within = elim (cases_lt i (length j.stops + 1)) [
+first_lines : (j : Job) (i : ℕ) → IsJob j → i < length (job_lines j) → FirstLines j i
+first_lines j i t within = elim (cases_lt i (length j.stops + 1)) [
   | inl early ↦ (
     job_of (head_of j) (take i j.stops) [],
-    stops_cut g (head_of j) j.stops j.lines i (omega arith) t,
+    stops_cut (head_of j) j.stops j.lines i (omega arith) t,
     first_of (spaced (head_words (head_of j))) (map spaced (map stop_words j.stops ++ map line_words j.lines))
         (map spaced (map stop_words (take i j.stops) ++ map line_words [])) i (take_stops j.stops j.lines i (omega arith)),
   )
@@ -156,7 +155,7 @@ first_lines g j i t within = elim (cases_lt i (length j.stops + 1)) [
       let n : ℕ = i - length j.stops in
       let at : length j.stops + n ≡ i = omega arith in (
         job_of (head_of j) j.stops (take n j.lines),
-        lines_cut g (head_of j) j.stops j.lines n (omega (arith, job_long j)) t,
+        lines_cut (head_of j) j.stops j.lines n (omega (arith, job_long j)) t,
         first_of (spaced (head_words (head_of j))) (map spaced (map stop_words j.stops ++ map line_words j.lines))
             (map spaced (map stop_words j.stops ++ map line_words (take n j.lines))) i
             (subst (λ (m : ℕ). take m (map spaced (map stop_words j.stops ++ map line_words j.lines))
@@ -165,15 +164,15 @@ first_lines g j i t within = elim (cases_lt i (length j.stops + 1)) [
 ]
 
 -- so each of these lines may stand in the text
-pub front_stands : (g : Grammar) (text : List ℕ) (j : Job) (rest : List ℕ) → IsFront g text j rest → (i : ℕ) → i < length (job_lines j)
-    → MayStand g text i
-front_stands g text j rest f i within =
-    let first = first_lines g j i f.taken within in
+pub front_stands : (text : List ℕ) (j : Job) (rest : List ℕ) → IsFront text j rest → (i : ℕ) → i < length (job_lines j)
+    → MayStand text i
+front_stands text j rest f i within =
+    let first = first_lines j i f.is_job within in
     record {
       job = first.0;
-      taken = first.1;
+      is_job = first.1;
       lines =
-          ap (take (i + 1)) (front_parts g text j rest f)
+          ap (take (i + 1)) (front_parts text j rest f)
           ∙ take-append-le (i + 1) (map spaced (job_lines j)) (parts_of rest) (omega (arith, spaced_long j))
           ∙ first.2;
     }
@@ -183,10 +182,10 @@ start_text : (h after : List ℕ) → h ++ 10 ∷ after ≡ ((h ++ 10 ∷ []) ++
 start_text h after = simp (append-nil, append_assoc)
 
 -- a text that begins with its header
-pub front_start : (g : Grammar) (text : List ℕ) (h : Head) (after : List ℕ) → BeginsWithHead g text h after
-    → IsFront g text (job_of h [] []) after
-front_start g text h after b = record {
-  taken = takes_begun g h b.is_head b.takes;
+pub front_start : (text : List ℕ) (h : Head) (after : List ℕ) → BeginsWithHead text h after
+    → IsFront text (job_of h [] []) after
+front_start text h after b = record {
+  is_job = begun_job h b.is_head;
   joined = b.begins.ended.joined ∙ ap (λ (xs : List ℕ). xs ++ 10 ∷ after) b.spelled ∙ start_text (spaced (head_words h)) after;
 }
 
@@ -210,10 +209,10 @@ text_more j k line e =
     text_ended (job_lines k) ∙ ap ended_lines e ∙ ended_push (map spaced (job_lines j)) line
     ∙ ap (λ (xs : List ℕ). xs ++ (line ++ 10 ∷ [])) (sym (text_ended (job_lines j)))
 
-pub front_push : (g : Grammar) (text : List ℕ) (j k : Job) (rest line after : List ℕ) → IsFront g text j rest → Takes g k
-    → map spaced (job_lines k) ≡ map spaced (job_lines j) ++ line ∷ [] → IsSplit 10 rest line after → IsFront g text k after
-front_push g text j k rest line after f taken e split = record {
-  taken = taken;
+pub front_push : (text : List ℕ) (j k : Job) (rest line after : List ℕ) → IsFront text j rest → IsJob k
+    → map spaced (job_lines k) ≡ map spaced (job_lines j) ++ line ∷ [] → IsSplit 10 rest line after → IsFront text k after
+front_push text j k rest line after f is_job e split = record {
+  is_job = is_job;
   joined = f.joined ∙ ap (λ (xs : List ℕ). job_text j ++ xs) split.joined
       ∙ ap (λ (xs : List ℕ). job_text j ++ xs) (sym (append_assoc line (10 ∷ []) after))
       ∙ sym (append_assoc (job_text j) (line ++ 10 ∷ []) after)

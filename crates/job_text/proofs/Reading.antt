@@ -3,11 +3,12 @@ use Rattle.std.proofs.Common.{◌≡◌, ℕ, ◌+◌, ◌<◌, ◌≤◌, inl, 
 use Rattle.std.proofs.lemmas.List.{append_assoc, append-nil, take-append-le, nil_from_length, drop_at, length-append, length-take-le}
 use Rattle.std.proofs.lemmas.Bool.{cases_lt}
 use Rattle.std.specs.Io.KnownBytes.{Consumes, Keeps, IsAtEnd}
+use Rattle.mont_base.specs.Losses.{LosesFirst}
 use Rattle.job_text.specs.declared.limits.TheConstants.{READ_BYTES}
 use Rattle.job_text.specs.declared.job_refusal.JobRefusal.{JobRefusal}
 use Rattle.job_text.specs.declared.job_refusal.JobRefusal.TheVariants.{Text, Read, Memory}
 use Rattle.job_text.specs.Refused.{IsReadOf}
-use Rattle.job_text.specs.Taken.{HasLost, HasLostSome, TakesBytes, IsTaken}
+use Rattle.job_text.specs.Taken.{HasLostSome, TakesBytes, IsTaken}
 
 pub consumes_none : (known : Option (List ℕ)) (bytes : List ℕ) → bytes ≡ [] → Consumes known known bytes
 consumes_none None bytes none = tt
@@ -27,16 +28,16 @@ consumes_kept (Some xs) None new bytes h i = absurd h
 consumes_kept (Some xs) (Some ys) None bytes h i = absurd i
 consumes_kept (Some xs) (Some ys) (Some zs) bytes h i = h ∙ ap (λ (ws : List ℕ). bytes ++ ws) (sym i)
 
-lost : (n : ℕ) (old new : Option (List ℕ)) (bytes : List ℕ) → Consumes old new bytes → length bytes ≡ n → HasLost n old new
+lost : (n : ℕ) (old new : Option (List ℕ)) (bytes : List ℕ) → Consumes old new bytes → length bytes ≡ n → LosesFirst n old new
 lost n None new bytes h long = tt
 lost n (Some xs) None bytes h long = absurd h
 lost n (Some xs) (Some ys) bytes h long = sym (ap (λ (zs : List ℕ). drop n zs) h ∙ drop_at bytes ys n long)
 
 pub lost_some : (old new : Option (List ℕ)) (bytes : List ℕ) → Consumes old new bytes → length bytes ≤ READ_BYTES → HasLostSome old new
-lost_some old new bytes h few = (length bytes, few, lost (length bytes) old new bytes h refl)
+lost_some old new bytes h few = (bytes, few, h)
 
 lost_whole : (old new : Option (List ℕ)) (bytes : List ℕ) → Consumes old new bytes → length bytes ≤ READ_BYTES → IsAtEnd new
-    → HasLost READ_BYTES old new
+    → LosesFirst READ_BYTES old new
 lost_whole None new bytes h few end = tt
 lost_whole (Some xs) None bytes h few end = absurd h
 lost_whole (Some xs) (Some ys) bytes h few end =
@@ -44,7 +45,7 @@ lost_whole (Some xs) (Some ys) bytes h few end =
     end ∙ sym (nil_from_length (drop READ_BYTES xs) (omega (arith, length-drop READ_BYTES xs, ap length whole)))
 
 -- as many bytes as are read at most are taken, or all
-pub lost_all : (old new : Option (List ℕ)) (bytes : List ℕ) → TakesBytes old new bytes → HasLost READ_BYTES old new
+pub lost_all : (old new : Option (List ℕ)) (bytes : List ℕ) → TakesBytes old new bytes → LosesFirst READ_BYTES old new
 lost_all old new bytes t = elim (cases_lt (length bytes) READ_BYTES) [
   | inl fewer ↦ lost_whole old new bytes t.taken t.few (t.ended fewer)
   | inr all ↦ lost READ_BYTES old new bytes t.taken (omega (arith, t.few))

@@ -1,24 +1,19 @@
 -- Why a line wasn't answered as it asked. A report doesn't show at which moment a call was made
 -- that left no entry, so its cause is told of some moment that the caller's other entries allow: of
 -- what the unit held when the store was opened, and of its entries until then.
-use Rattle.std.specs.Prelude.{◌≡◌, ℕ, ◌+◌, ◌<◌, ◌≤◌, Bool, true, false, List, [], ◌∷◌, length, take, fold, All, Any, Contains, count_by, slice_get, max, Option, Some, None, IsSomeAnd, if◌then◌else◌}
+use Rattle.std.specs.Prelude.{◌≡◌, ℕ, ◌+◌, ◌<◌, ◌≤◌, true, List, length, take, All, Contains, count_by, slice_get, Option, Some, None}
 use Rattle.mont_base.specs.declared.constants.TheConstants.{LAST}
 use Rattle.mont_base.specs.declared.operation.Entry.{Entry}
 use Rattle.mont_base.specs.declared.operation.Op.{Op}
-use Rattle.mont_base.specs.declared.operation.Op.TheVariants as ops
-use Rattle.mont_base.specs.declared.effect.Effect.{Effect}
-use Rattle.mont_base.specs.declared.effect.Effect.TheVariants.{Inserts, Replaces, Removes}
-use Rattle.mont_base.specs.declared.effect.Thing.{Thing}
-use Rattle.mont_base.specs.declared.effect.Thing.TheVariants.{Pair, Item, Vertex, Edge}
 use Rattle.mont_base.specs.declared.record.Held.{Held}
 use Rattle.mont_base.specs.declared.record.Object.{Object}
 use Rattle.mont_base.specs.declared.refusal.Which.{Which}
 use Rattle.mont_base.specs.declared.refusal.Which.TheVariants as ends
-use Rattle.mont_base.specs.State.{State, step, unit_of_op}
-use Rattle.mont_base.specs.History.{state_after}
+use Rattle.mont_base.specs.State.{State, unit_of_op}
 use Rattle.mont_base.specs.Room.{room_of}
-use Rattle.mont_base.specs.Structure.{item_at, has_key, has_vertex, has_edge}
+use Rattle.mont_base.specs.Structure.{item_at}
 use Rattle.mont_base.specs.Versions.{live_objects}
+use Rattle.mont_base.specs.Counting.{LacksIdentity, LacksVersions, effects_then, greatest_by, is_enq}
 use Rattle.job_text.specs.declared.outcome.Outcome.{Outcome}
 use Rattle.job_text.specs.declared.outcome.Outcome.TheVariants.{CutIn}
 use Rattle.job_text.specs.Report.{Report}
@@ -46,10 +41,6 @@ pub record SomeMoment (r : Report) (before after : List Outcome) (op : Op)
   pub point : ℕ
   pub is_point : IsPoint before after unit history point
   pub held : Held unit base (take point history)
-
--- what the operation would have done then
-abbrev pub effects_then : State → List Entry → Op → List Effect
-effects_then base h op = (step (state_after base h) op).effects
 
 -- ---- want of room
 -- so many slots were needed, and so many were free, which are fewer
@@ -82,41 +73,6 @@ pub record MayBeFull (r : Report) (before after : List Outcome) (op : Op) : Type
       (λ unit base h. room_of r.layout.slots base h clock < length (effects_then base h op))
 
 -- ---- numbers at their end
--- the greatest number of the items, and 0 without one
-abbrev pub greatest_by : {A : Type 0} → (A → ℕ) → List A → ℕ
-greatest_by number items = fold (λ most x. max most (number x)) 0 items
-
--- the sum of what is counted of the effects of each entry
-abbrev pub sum_over : (List Effect → ℕ) → State → List Entry → ℕ
-sum_over count s [] = 0
-sum_over count s (e ∷ es) =
-    count (step s e.op).effects + sum_over count (step s e.op).state es
-
-abbrev pub is_insertion : Effect → Bool
-is_insertion (Inserts thing) = true
-is_insertion _ = false
-
-abbrev pub is_enq : Op → Bool
-is_enq (ops.Enq unit item) = true
-is_enq _ = false
-
-abbrev pub identity_of : Held → ℕ
-identity_of r = r.label.identity
-
--- the object is a version of the thing; of a queue any item will do
-abbrev pub is_of : Thing → Object → Bool
-is_of (Pair key value) o = has_key key o
-is_of (Item item) o = true
-is_of (Vertex vertex attribute) o = has_vertex vertex o
-is_of (Edge from to attribute) o = has_edge (from, to) o
-
--- the version that the thing had among the live objects, and 0 where it had none
-abbrev pub version_if : Thing → Object → ℕ
-version_if thing o = if is_of thing o then o.version else 0
-
-abbrev pub version_in : List Object → Thing → ℕ
-version_in objects thing = greatest_by (version_if thing) objects
-
 abbrev pub serial_or_none : Option (ℕ × ℕ) → ℕ
 serial_or_none None = 0
 serial_or_none (Some p) = p.0
@@ -124,27 +80,13 @@ serial_or_none (Some p) = p.0
 abbrev pub serial_of : Object → ℕ
 serial_of o = serial_or_none (item_at o)
 
--- the thing of which the effect makes a later version
-abbrev pub renewed : Effect → Option Thing
-renewed (Inserts thing) = None
-renewed (Replaces thing) = Some thing
-renewed (Removes thing) = Some thing
-
--- that version would be above the last number
-abbrev pub LacksVersion : List Object → ℕ → Effect → Type 0
-LacksVersion objects changed effect =
-    IsSomeAnd (renewed effect) (λ thing. LAST ≤ version_in objects thing + changed)
-
 -- The number is at its end, by the records that the unit was opened with and by these entries. The
 -- caller had made so many calls.
 abbrev pub IsAtEnd : List Held → ℕ → Which → Op → State → List Entry → Type 0
 IsAtEnd records calls ends.Call op base h = LAST < calls
 IsAtEnd records calls ends.Place op base h = LAST < length h
-IsAtEnd records calls ends.Identity op base h =
-    Any (λ e. is_insertion e ≡ true) (effects_then base h op)
-    × (LAST ≤ greatest_by identity_of records + sum_over (count_by is_insertion) base h)
-IsAtEnd records calls ends.Version op base h =
-    Any (LacksVersion (live_objects records) (sum_over length base h)) (effects_then base h op)
+IsAtEnd records calls ends.Identity op base h = LacksIdentity records base h op
+IsAtEnd records calls ends.Version op base h = LacksVersions records base h op
 IsAtEnd records calls ends.Serial op base h =
     (is_enq op ≡ true)
     × (LAST ≤ greatest_by serial_of (live_objects records)

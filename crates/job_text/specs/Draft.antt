@@ -1,23 +1,18 @@
 -- A job in the making.
-use Rattle.std.specs.Prelude.{◌≡◌, ℕ, ◌+◌, List, [], ◌∷◌, ◌++◌, length, count_by, map, All}
+use Rattle.std.specs.Prelude.{◌≡◌, ℕ, ◌+◌, List, [], ◌∷◌, ◌++◌, length, map, All}
 use Rattle.job_text.specs.declared.draft.Draft.{Draft}
 use Rattle.job_text.specs.declared.job.Job.{Job}
-use Rattle.job_text.specs.declared.job.Line.{Line}
 use Rattle.job_text.specs.declared.job.Stop.{Stop}
 use Rattle.job_text.specs.declared.job.JobFault.{JobFault}
 use Rattle.job_text.specs.declared.job.JobFault.TheVariants as faults
 use Rattle.job_text.specs.declared.job_refusal.JobRefusal.{JobRefusal}
 use Rattle.job_text.specs.declared.job_refusal.JobRefusal.TheVariants.{Text, Read, Memory}
 use Rattle.job_text.specs.Lines.{spaced}
-use Rattle.job_text.specs.Grammar.{job_of, Takes, TakesStops, TakesDeed, HasRoom, Rises, IsStop, IsLine, is_put}
+use Rattle.job_text.specs.Grammar.{job_of, IsJob, Rises, IsStop}
 use Rattle.job_text.specs.JobText.{job_lines, BeginsStop}
 
 abbrev pub so_far : Draft → Job
 so_far d = job_of d.head d.stops d.lines
-
-pub record IsDraft (d : Draft) : Type 0 where
-  pub taken : Takes d.grammar (so_far d)
-  pub counted : d.puts ≡ count_by is_put d.lines
 
 -- how many lines its text has
 abbrev pub lines_so_far : Draft → ℕ
@@ -25,28 +20,20 @@ lines_so_far d = 1 + length d.stops + length d.lines
 
 -- a stop may come next: behind stops of lower callers alone
 pub record MayStop (d : Draft) (s : Stop) : Type 0 where
-  pub takes : TakesStops d.grammar
   pub early : d.lines ≡ []
   pub is_stop : IsStop d.head s
   pub rising : All (λ t. Rises t s) d.stops
 
--- a line may come next
-pub record MayAsk (d : Draft) (l : Line) : Type 0 where
-  pub is_line : IsLine d.head l
-  pub takes : TakesDeed d.grammar l.deed
-  pub room : HasRoom d.grammar d.head.layout.slots d.puts l
-
 -- the same job with one line more
 pub record Adds (old new : Draft) (line : List ℕ) : Type 0 where
-  pub grammar : new.grammar ≡ old.grammar
-  pub draft : IsDraft new
+  pub draft : IsJob (so_far new)
   pub lines : map spaced (job_lines (so_far new)) ≡ map spaced (job_lines (so_far old)) ++ line ∷ []
   pub count : lines_so_far new ≡ lines_so_far old + 1
 
 -- no job goes on with this line
 abbrev pub NoneGoesOn : Draft → List ℕ → Type 0
 NoneGoesOn d line =
-    (k : Job) → Takes d.grammar k
+    (k : Job) → IsJob k
     → map spaced (job_lines k) ≡ map spaced (job_lines (so_far d)) ++ line ∷ [] → ⊥
 
 abbrev pub IsFaultBehind : Draft → List ℕ → JobFault → Type 0

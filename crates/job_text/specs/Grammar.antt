@@ -1,15 +1,8 @@
--- The jobs that there are, and those that a reader takes.
-use Rattle.std.specs.Prelude.{◌≡◌, ◌≢◌, ℕ, ◌+◌, ◌<◌, ◌≤◌, Bool, true, false, List, [], ◌∷◌, length, All, AllPairs, count_by, None}
-use Rattle.mont_base.specs.declared.kinds.UnitKind.{UnitKind}
-use Rattle.mont_base.specs.declared.kinds.UnitKind.TheVariants as kinds
-use Rattle.mont_base.specs.declared.operation.Op.{Op}
-use Rattle.mont_base.specs.declared.operation.Op.TheVariants.{Put, Get}
+-- The jobs that there are.
+use Rattle.std.specs.Prelude.{◌≢◌, ◌+◌, ◌<◌, ◌≤◌, List, length, All, AllPairs, None}
 use Rattle.mont_base.specs.Layout.{Shape, IsLayout}
 use Rattle.mont_base.specs.State.{unit_of_op}
-use Rattle.mont_base.specs.Texts.{IsText}
 use Rattle.job_text.specs.declared.limits.TheConstants.{MOST_LINES, MOST_CALLERS, MOST_ATTEMPTS, MOST_STEPS}
-use Rattle.job_text.specs.declared.grammar.Grammar.{Grammar}
-use Rattle.job_text.specs.declared.grammar.Grammar.TheVariants.{Whole, FirstPath}
 use Rattle.job_text.specs.declared.header.Head.{Head}
 use Rattle.job_text.specs.declared.job.Job.{Job}
 use Rattle.job_text.specs.declared.job.Line.{Line}
@@ -73,84 +66,3 @@ pub record IsJob (j : Job) : Type 0 where
   pub rising : AllPairs Rises j.stops
   pub lines : All (IsLine (head_of j)) j.lines
   pub few_lines : length j.stops + length j.lines + 1 ≤ MOST_LINES
-
--- ---- the first path
--- a map, a queue and a graph
-abbrev pub first_kinds : List UnitKind
-first_kinds = kinds.Map ∷ kinds.Queue ∷ kinds.Graph ∷ []
-
-abbrev pub IsFirstOp : Op → Type 0
-IsFirstOp (Put key value) = IsText key × IsText value
-IsFirstOp (Get key) = IsText key
-IsFirstOp _ = ⊥
-
-abbrev pub IsFirstDeed : Deed → Type 0
-IsFirstDeed (Call op) = IsFirstOp op
-IsFirstDeed Tick = Unit {0}
-IsFirstDeed Sync = ⊥
-
--- a line of the one caller
-abbrev pub IsFirstLine : Line → Type 0
-IsFirstLine l = (l.caller ≡ 0) × IsFirstDeed l.deed
-
-abbrev pub is_put_op : Op → Bool
-is_put_op (Put key value) = true
-is_put_op _ = false
-
-abbrev pub is_put : Line → Bool
-is_put l = is_put_deed l.deed
-  where
-    is_put_deed : Deed → Bool
-    is_put_deed (Call op) = is_put_op op
-    is_put_deed Tick = false
-    is_put_deed Sync = false
-
--- one caller, no attempts, no stops and no word left current, and no more puts than the map unit
--- has slots
-pub record IsFirstJob (j : Job) : Type 0 where
-  pub layout : IsLayout j.layout
-  pub kinds : j.layout.kinds ≡ first_kinds
-  pub one_caller : j.callers ≡ 1
-  pub no_attempts : j.attempts ≡ 0
-  pub no_mask : j.mask ≡ 0
-  pub no_stops : j.stops ≡ []
-  pub lines : All IsFirstLine j.lines
-  pub few_lines : length j.lines < MOST_LINES
-  pub few_puts : count_by is_put j.lines ≤ j.layout.slots
-
--- ---- what a grammar takes
-abbrev pub Takes : Grammar → Job → Type 0
-Takes Whole j = IsJob j
-Takes FirstPath j = IsFirstJob j
-
--- of first lines
-pub record IsFirstHead (h : Head) : Type 0 where
-  pub kinds : h.layout.kinds ≡ first_kinds
-  pub one_caller : h.callers ≡ 1
-  pub no_attempts : h.attempts ≡ 0
-  pub no_mask : h.mask ≡ 0
-
-abbrev pub TakesHead : Grammar → Head → Type 0
-TakesHead Whole h = Unit {0}
-TakesHead FirstPath h = IsFirstHead h
-
-abbrev pub TakesStops : Grammar → Type 0
-TakesStops Whole = Unit {0}
-TakesStops FirstPath = ⊥
-
--- of what is asked
-abbrev pub IsOnPath : Deed → Type 0
-IsOnPath (Call (Put key value)) = Unit {0}
-IsOnPath (Call (Get key)) = Unit {0}
-IsOnPath (Call _) = ⊥
-IsOnPath Tick = Unit {0}
-IsOnPath Sync = ⊥
-
-abbrev pub TakesDeed : Grammar → Deed → Type 0
-TakesDeed Whole d = Unit {0}
-TakesDeed FirstPath d = IsOnPath d
-
--- a line behind so many puts
-abbrev pub HasRoom : Grammar → ℕ → ℕ → Line → Type 0
-HasRoom Whole slots puts l = Unit {0}
-HasRoom FirstPath slots puts l = is_put l ≡ true → puts < slots

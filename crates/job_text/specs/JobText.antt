@@ -3,7 +3,6 @@ use Rattle.std.specs.Prelude.{◌≡◌, ℕ, ◌+◌, ◌<◌, List, [], ◌∷
 use Rattle.std.specs.List.{before_first}
 use Rattle.mont_base.specs.Layout.{Shape, letters_of}
 use Rattle.job_text.specs.declared.limits.TheConstants.{MOST_LINES, LINE_BYTES}
-use Rattle.job_text.specs.declared.grammar.Grammar.{Grammar}
 use Rattle.job_text.specs.declared.header.Head.{Head}
 use Rattle.job_text.specs.declared.job.Job.{Job}
 use Rattle.job_text.specs.declared.job.Line.{Line}
@@ -14,7 +13,7 @@ use Rattle.job_text.specs.declared.job.JobFault.{JobFault}
 use Rattle.job_text.specs.declared.job.JobFault.TheVariants as faults
 use Rattle.job_text.specs.Lines.{spaced, text_of, parts_of, line_at, IsEnded, HasLine}
 use Rattle.job_text.specs.Spelling.{hex_digits, op_words}
-use Rattle.job_text.specs.Grammar.{Takes, head_of}
+use Rattle.job_text.specs.Grammar.{IsJob, head_of}
 
 -- the version, the kinds and the slots of the units, and the callers: so begin jobs and reports
 abbrev pub store_words : Shape → ℕ → List (List ℕ)
@@ -64,22 +63,22 @@ first_word line = before_first (λ b. b == 32) line
 abbrev pub BeginsStop : List ℕ → Type 0
 BeginsStop line = first_word line ≡ codes "stop"
 
--- a line, counted from 0, may stand where the lines up to it are those of some job of the grammar
-pub record MayStand (g : Grammar) (text : List ℕ) (i : ℕ) : Type 0 where
+-- a line, counted from 0, may stand where the lines up to it are those of some job
+pub record MayStand (text : List ℕ) (i : ℕ) : Type 0 where
   pub job : Job
-  pub taken : Takes g job
+  pub is_job : IsJob job
   pub lines : take (i + 1) (parts_of text) ≡ map spaced (job_lines job)
 
 -- what each fault says of a line
-abbrev pub IsFaultOf : Grammar → List ℕ → ℕ → JobFault → Type 0
-IsFaultOf g text i faults.Many = i ≡ MOST_LINES
-IsFaultOf g text i faults.Long = LINE_BYTES < length (line_at text i)
-IsFaultOf g text i faults.Unended = ¬ IsEnded text i
-IsFaultOf g text i faults.Header = (i ≡ 0) × ¬ MayStand g text i
-IsFaultOf g text i faults.Stop =
-    (0 < i) × BeginsStop (line_at text i) × ¬ MayStand g text i
-IsFaultOf g text i faults.Operation =
-    (0 < i) × ¬ BeginsStop (line_at text i) × ¬ MayStand g text i
+abbrev pub IsFaultOf : List ℕ → ℕ → JobFault → Type 0
+IsFaultOf text i faults.Many = i ≡ MOST_LINES
+IsFaultOf text i faults.Long = LINE_BYTES < length (line_at text i)
+IsFaultOf text i faults.Unended = ¬ IsEnded text i
+IsFaultOf text i faults.Header = (i ≡ 0) × ¬ MayStand text i
+IsFaultOf text i faults.Stop =
+    (0 < i) × BeginsStop (line_at text i) × ¬ MayStand text i
+IsFaultOf text i faults.Operation =
+    (0 < i) × ¬ BeginsStop (line_at text i) × ¬ MayStand text i
 
 -- the order in which faults are tried
 abbrev pub rank : JobFault → ℕ
@@ -91,12 +90,11 @@ rank faults.Stop = 4
 rank faults.Operation = 5
 
 -- The first line that has a fault, counted from 1, and the first fault that it has.
-pub record IsFirstRefused (g : Grammar) (text : List ℕ) (line : ℕ) (fault : JobFault)
-    : Type 0 where
+pub record IsFirstRefused (text : List ℕ) (line : ℕ) (fault : JobFault) : Type 0 where
   pub place : ℕ
   pub counted : line ≡ place + 1
   pub there : HasLine text place
-  pub has_fault : IsFaultOf g text place fault
+  pub has_fault : IsFaultOf text place fault
   pub first_fault :
-      (other : JobFault) → rank other < rank fault → ¬ IsFaultOf g text place other
-  pub first_line : (i : ℕ) → i < place → (other : JobFault) → ¬ IsFaultOf g text i other
+      (other : JobFault) → rank other < rank fault → ¬ IsFaultOf text place other
+  pub first_line : (i : ℕ) → i < place → (other : JobFault) → ¬ IsFaultOf text i other

@@ -1,14 +1,13 @@
 -- What is found where a job's text is read line by line.
 use Rattle.std.specs.Prelude.{◌≡◌, ℕ, ◌<◌, ◌≤◌, ◌⊎◌, List, [], ◌++◌, length}
 use Rattle.job_text.specs.declared.limits.TheConstants.{MOST_LINES, LINE_BYTES, READ_BYTES}
-use Rattle.job_text.specs.declared.grammar.Grammar.{Grammar}
 use Rattle.job_text.specs.declared.header.Head.{Head}
 use Rattle.job_text.specs.declared.job.JobFault.{JobFault}
 use Rattle.job_text.specs.declared.job.JobFault.TheVariants as faults
 use Rattle.job_text.specs.declared.job_refusal.JobRefusal.{JobRefusal}
 use Rattle.job_text.specs.declared.job_refusal.JobRefusal.TheVariants.{Text, Read, Memory}
 use Rattle.job_text.specs.Lines.{spaced, line_at}
-use Rattle.job_text.specs.Grammar.{IsHead, TakesHead}
+use Rattle.job_text.specs.Grammar.{IsHead}
 use Rattle.job_text.specs.JobText.{head_words, IsFirstRefused}
 use Rattle.job_text.specs.Parts.{Lacks, IsSplit}
 
@@ -27,11 +26,11 @@ IsOutside Read = Unit {0}
 IsOutside Memory = Unit {0}
 
 -- why these bytes of a text give no job
-abbrev pub IsRefusal : Grammar → List ℕ → JobRefusal → Type 0
-IsRefusal g text (Text line fault) =
-    (more : List ℕ) → MayExtend text more → IsFirstRefused g (text ++ more) line fault
-IsRefusal g text Read = ⊥
-IsRefusal g text Memory = Unit {0}
+abbrev pub IsRefusal : List ℕ → JobRefusal → Type 0
+IsRefusal text (Text line fault) =
+    (more : List ℕ) → MayExtend text more → IsFirstRefused (text ++ more) line fault
+IsRefusal text Read = ⊥
+IsRefusal text Memory = Unit {0}
 
 -- the text begins with a line that is ended, short and not one too many
 pub record BeginsWith (text : List ℕ) (place : ℕ) (line after : List ℕ) : Type 0 where
@@ -53,26 +52,24 @@ IsNoLine text place faults.Header = ⊥
 IsNoLine text place faults.Stop = ⊥
 IsNoLine text place faults.Operation = ⊥
 
--- the text begins with a header that the grammar takes
-pub record BeginsWithHead (g : Grammar) (text : List ℕ) (h : Head) (after : List ℕ)
-    : Type 0 where
+-- the text begins with a header
+pub record BeginsWithHead (text : List ℕ) (h : Head) (after : List ℕ) : Type 0 where
   pub line : List ℕ
   pub begins : BeginsWith text 0 line after
   pub is_head : IsHead h
-  pub takes : TakesHead g h
   pub spelled : line ≡ spaced (head_words h)
 
--- it begins with a line that is no such header
-pub record HasNoHead (g : Grammar) (text : List ℕ) : Type 0 where
+-- it begins with a line that is no header
+pub record HasNoHead (text : List ℕ) : Type 0 where
   pub line : List ℕ
   pub after : List ℕ
   pub begins : BeginsWith text 0 line after
-  pub none : (h : Head) → IsHead h → TakesHead g h → line ≡ spaced (head_words h) → ⊥
+  pub none : (h : Head) → IsHead h → line ≡ spaced (head_words h) → ⊥
 
-abbrev pub IsNoHead : Grammar → List ℕ → JobFault → Type 0
-IsNoHead g text faults.Many = IsNoLine text 0 faults.Many
-IsNoHead g text faults.Long = IsNoLine text 0 faults.Long
-IsNoHead g text faults.Unended = IsNoLine text 0 faults.Unended
-IsNoHead g text faults.Header = HasNoHead g text
-IsNoHead g text faults.Stop = ⊥
-IsNoHead g text faults.Operation = ⊥
+abbrev pub IsNoHead : List ℕ → JobFault → Type 0
+IsNoHead text faults.Many = IsNoLine text 0 faults.Many
+IsNoHead text faults.Long = IsNoLine text 0 faults.Long
+IsNoHead text faults.Unended = IsNoLine text 0 faults.Unended
+IsNoHead text faults.Header = HasNoHead text
+IsNoHead text faults.Stop = ⊥
+IsNoHead text faults.Operation = ⊥

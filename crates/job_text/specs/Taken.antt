@@ -1,20 +1,15 @@
 -- What is left of a source, and of its count of faults, where a job was read of it.
-use Rattle.std.specs.Prelude.{◌≡◌, ℕ, ◌<◌, ◌≤◌, List, length, drop, Option, Some, None, Result, Ok, Err}
+use Rattle.std.specs.Prelude.{◌≡◌, ℕ, ◌<◌, ◌≤◌, List, length, Option, Result, Ok, Err}
 use Rattle.std.specs.Io.KnownBytes.{Consumes, IsAtEnd}
 use Rattle.mont_base.specs.Faults.{Rose}
+use Rattle.mont_base.specs.Losses.{LosesAtMost, LosesFirst}
 use Rattle.job_text.specs.declared.limits.TheConstants.{READ_BYTES}
 use Rattle.job_text.specs.declared.job_refusal.JobRefusal.{JobRefusal}
 use Rattle.job_text.specs.declared.job_refusal.JobRefusal.TheVariants.{Text, Read, Memory}
 
--- what is known to be left has lost its first bytes, so many or all
-abbrev pub HasLost : ℕ → Option (List ℕ) → Option (List ℕ) → Type 0
-HasLost n None new = Unit {0}
-HasLost n (Some bytes) None = ⊥
-HasLost n (Some bytes) (Some rest) = rest ≡ drop n bytes
-
 -- no more than are read at most
 abbrev pub HasLostSome : Option (List ℕ) → Option (List ℕ) → Type 0
-HasLostSome old new = (n : ℕ) × (n ≤ READ_BYTES) × HasLost n old new
+HasLostSome = LosesAtMost READ_BYTES
 
 -- these bytes were taken of a source, to its end or as many as are read at most
 pub record TakesBytes (old new : Option (List ℕ)) (bytes : List ℕ) : Type 0 where
@@ -25,8 +20,8 @@ pub record TakesBytes (old new : Option (List ℕ)) (bytes : List ℕ) : Type 0 
 -- A job was read to the end. For a fault of a text it was read to the end, or as many bytes as
 -- are read at most. Where the source failed or memory ran out it may be fewer.
 abbrev pub IsTaken : {J : Type 0} (old new : Option (List ℕ)) → Result J JobRefusal → Type 0
-IsTaken old new (Ok job) = HasLost READ_BYTES old new × IsAtEnd new
-IsTaken old new (Err (Text line fault)) = HasLost READ_BYTES old new
+IsTaken old new (Ok job) = LosesFirst READ_BYTES old new × IsAtEnd new
+IsTaken old new (Err (Text line fault)) = LosesFirst READ_BYTES old new
 IsTaken old new (Err Read) = HasLostSome old new
 IsTaken old new (Err Memory) = HasLostSome old new
 

@@ -4,53 +4,45 @@ ghost use Rattle.job_text.specs.declared.limits.TheConstants.{MOST_LINES};
 ghost use Rattle.job_text.specs.declared.job.Stop.{Stop};
 ghost use Rattle.job_text.specs.declared.job.Line.{Line};
 ghost use Rattle.job_text.specs.Lines.{spaced};
-ghost use Rattle.job_text.specs.Grammar.{IsHead, TakesHead, HasUnit, IsAsked, job_of};
+ghost use Rattle.job_text.specs.Grammar.{HasUnit, IsAsked, IsHead, IsJob, IsLine, job_of};
 ghost use Rattle.job_text.specs.JobText.{stop_words, line_words};
 
 use crate::deeds::read_line;
-use crate::grammar::Grammar;
 use crate::header::Head;
 use crate::job::{Deed, Job, JobFault, Line, Stop};
 use crate::job_refusal::JobRefusal;
 use crate::limits::MOST_STEPS;
 use crate::stops::{begins_stop, read_stop};
-use mont_base::{Layout, Op, Sequence};
+use mont_base::{Layout, Sequence};
 use std::alloc::{AllocError, Global};
 
 /// What the lines so far spell.
 #[derive(Drop)]
 pub struct Draft {
-    pub grammar: Grammar,
     pub head: Head,
     pub stops: Sequence<Stop>,
     pub lines: Sequence<Line>,
-    /// How many of the lines ask for a put.
-    pub puts: u64,
 }
 
 impl Draft {
-    ghost use Rattle.job_text.specs.Draft.{IsDraft, so_far, lines_so_far, MayStop, MayAsk, Adds, IsNotAdded};
+    ghost use Rattle.job_text.specs.Draft.{so_far, lines_so_far, MayStop, Adds, IsNotAdded};
 
     /// The job that a first line alone makes.
-    pub fn new(alloc: Global, grammar: Grammar, head: Head) -> Draft
-        requires head { IsHead head }
-        requires taken { TakesHead grammar head }
-        ensures draft { IsDraft result }
-        ensures grammar { result.grammar ≡ grammar }
+    pub fn new(alloc: Global, head: Head) -> Draft
+        requires { IsHead head }
+        ensures draft { IsJob (so_far result) }
         ensures job { so_far result ≡ job_of head [] [] }
     {
         Draft {
-            grammar,
             head,
             stops: Sequence::new(alloc),
             lines: Sequence::new(alloc),
-            puts: 0,
         }
     }
 
     /// How many lines there are.
     pub fn count(&self) -> u64
-        requires { IsDraft self.now }
+        requires { IsJob (so_far self.now) }
         ensures { result ≡ lines_so_far self.now }
     {
         1 + self.stops.len() + self.lines.len()
@@ -58,7 +50,7 @@ impl Draft {
 
     /// The draft with the next line. It is refused where no job goes on with it.
     pub fn with(self, bytes: &[u8]) -> Result<Draft, JobRefusal>
-        requires draft { IsDraft self }
+        requires draft { IsJob (so_far self) }
         requires early { lines_so_far self < MOST_LINES }
         ensures added { IfOk result (λ new. Adds self new bytes.now) }
         ensures refused { IfErr result (IsNotAdded self bytes.now) }
@@ -74,7 +66,7 @@ impl Draft {
             }
         } else {
             match self.next_line(bytes) {
-                Some(asked) => Ok(self.with_line(asked)?),
+                Some(Line { caller, deed }) => Ok(self.with_line(caller, deed)?),
                 None => Err(JobRefusal::Text {
                     line,
                     fault: JobFault::Operation,
@@ -87,13 +79,7 @@ impl Draft {
     pub fn into_job(self) -> Job
         ensures { result ≡ so_far self }
     {
-        let Draft {
-            grammar: _,
-            head,
-            stops,
-            lines,
-            puts: _,
-        } = self;
+        let Draft { head, stops, lines } = self;
         Job {
             layout: head.layout,
             callers: head.callers,
@@ -106,7 +92,7 @@ impl Draft {
 
     // The stop that a line spells and that may come next.
     fn next_stop(&self, bytes: &[u8]) -> Option<Stop>
-        requires { IsDraft self.now }
+        requires { IsJob (so_far self.now) }
         ensures { MatchOption result
             ((s : Stop) → MayStop self.now s → bytes.now ≢ spaced (stop_words s))
             (λ s. MayStop self.now s × (bytes.now ≡ spaced (stop_words s))) }
@@ -123,8 +109,7 @@ impl Draft {
     fn takes_stop(&self, stop: &Stop) -> bool
         ensures { IsTrue result ↔ MayStop self.now stop.now }
     {
-        self.grammar.takes_stops()
-            && self.lines.is_empty()
+        self.lines.is_empty()
             && stop.who <= self.head.callers
             && stop.steps <= MOST_STEPS
             && self
@@ -136,10 +121,10 @@ impl Draft {
 
     // The line that bytes spell and that may come next.
     fn next_line(&self, bytes: &[u8]) -> Option<Line>
-        requires { IsDraft self.now }
+        requires { IsJob (so_far self.now) }
         ensures { MatchOption result
-            ((l : Line) → MayAsk self.now l → bytes.now ≢ spaced (line_words l))
-            (λ l. MayAsk self.now l × (bytes.now ≡ spaced (line_words l))) }
+            ((l : Line) → IsLine self.now.head l → bytes.now ≢ spaced (line_words l))
+            (λ l. IsLine self.now.head l × (bytes.now ≡ spaced (line_words l))) }
     {
         let line = read_line(bytes)?;
         if self.takes_line(&line) {
@@ -152,66 +137,32 @@ impl Draft {
     // Whether a line whose words can ask for what it asks may come next.
     fn takes_line(&self, line: &Line) -> bool
         requires { IsAsked line.now.deed }
-        ensures { IsTrue result ↔ MayAsk self.now line.now }
+        ensures { IsTrue result ↔ IsLine self.now.head line.now }
     {
-        line.caller < self.head.callers
-            && has_unit(self.head.layout, &line.deed)
-            && self.grammar.takes_deed(&line.deed)
-            && self
-                .grammar
-                .has_room(self.head.layout.slots(), self.puts, line)
+        line.caller < self.head.callers && has_unit(self.head.layout, &line.deed)
     }
 
     // The draft with a stop that may come next.
-    fn with_stop(self, stop: Stop) -> Result<Draft, AllocError>
-        requires draft { IsDraft self }
+    fn with_stop(mut self, stop: Stop) -> Result<Draft, AllocError>
+        requires draft { IsJob (so_far self) }
         requires early { lines_so_far self < MOST_LINES }
         requires may { MayStop self stop }
         ensures { IfOk result (λ new. Adds self new (spaced (stop_words stop))) }
     {
-        let Draft {
-            grammar,
-            head,
-            mut stops,
-            lines,
-            puts,
-        } = self;
-        stops.push(stop)?;
-        Ok(Draft {
-            grammar,
-            head,
-            stops,
-            lines,
-            puts,
-        })
+        self.stops.push(stop)?;
+        Ok(self)
     }
 
-    // The draft with a line that may come next.
-    fn with_line(self, line: Line) -> Result<Draft, AllocError>
-        requires draft { IsDraft self }
+    // The draft with a line that may come next: what a caller asks.
+    fn with_line(mut self, caller: u64, deed: Deed) -> Result<Draft, AllocError>
+        requires draft { IsJob (so_far self) }
         requires early { lines_so_far self < MOST_LINES }
-        requires may { MayAsk self line }
-        ensures { IfOk result (λ new. Adds self new (spaced (line_words line))) }
+        requires may { IsLine self.head (record { caller = caller; deed = deed }) }
+        ensures { let line : Line = record { caller = caller; deed = deed } in
+            IfOk result (λ new. Adds self new (spaced (line_words line))) }
     {
-        let Draft {
-            grammar,
-            head,
-            stops,
-            mut lines,
-            puts,
-        } = self;
-        let puts = match line.deed {
-            Deed::Call { op: Op::Put { .. } } => puts + 1,
-            _ => puts,
-        };
-        lines.push(line)?;
-        Ok(Draft {
-            grammar,
-            head,
-            stops,
-            lines,
-            puts,
-        })
+        self.lines.push(Line { caller, deed })?;
+        Ok(self)
     }
 }
 

@@ -23,3 +23,9 @@ const _: () = prove!(MOST_LINES == 200_000);
 const _: () = prove!(LINE_BYTES == 160);
 
 const _: () = prove!(READ_BYTES == 32_200_001);
+
+const _: () = prove!(MOST_CALLERS == 8);
+
+const _: () = prove!(MOST_ATTEMPTS == 1_000_000);
+
+const _: () = prove!(MOST_STEPS == 1_000_000);

@@ -2,7 +2,6 @@
 ghost use Rattle.std.specs.Prelude.{MatchResult};
 ghost use Rattle.job_text.specs.Refused.{BeginsWith, IsNoLine, BeginsWithHead, IsNoHead};
 
-use crate::grammar::Grammar;
 use crate::header::{Head, read_head};
 use crate::job::JobFault;
 use crate::limits::{LINE_BYTES, MOST_LINES};
@@ -29,13 +28,13 @@ pub fn next_line(text: &[u8], place: u64) -> Result<(&[u8], &[u8]), JobFault>
 }
 
 /// What the first line of a text names, and what follows that line.
-pub fn next_head(grammar: Grammar, text: &[u8]) -> Result<(Head, &[u8]), JobFault>
-    ensures { MatchResult result (λ p. BeginsWithHead grammar text.now p.0 p.1.now)
-        (λ fault. IsNoHead grammar text.now fault) }
+pub fn next_head(text: &[u8]) -> Result<(Head, &[u8]), JobFault>
+    ensures { MatchResult result (λ p. BeginsWithHead text.now p.0 p.1.now)
+        (λ fault. IsNoHead text.now fault) }
 {
     let (line, after) = next_line(text, 0)?;
     match read_head(line) {
-        Some(head) if grammar.takes_head(&head) => Ok((head, after)),
-        _ => Err(JobFault::Header),
+        Some(head) => Ok((head, after)),
+        None => Err(JobFault::Header),
     }
 }

@@ -2,13 +2,11 @@
 ghost use Rattle.std.specs.Prelude.{◌≡◌, ℕ, Some, Err, IfOk, IfErr, IfSome, MatchResult};
 ghost use Rattle.job_text.specs.declared.job.Job.{Job};
 ghost use Rattle.job_text.specs.declared.job.JobFault.{JobFault};
-ghost use Rattle.job_text.specs.declared.grammar.Grammar.TheVariants.{Whole};
-ghost use Rattle.job_text.specs.Grammar.{IsJob, Takes};
+ghost use Rattle.job_text.specs.Grammar.{IsJob};
 ghost use Rattle.job_text.specs.JobText.{IsFirstRefused, job_text};
 ghost use Rattle.job_text.specs.Refused.{IsOutside};
 ghost use Rattle.job_text.specs.Taken.{HasLostSome, TakesBytes, IsTaken, TellsFaults};
 
-use crate::grammar::Grammar;
 use crate::job::Job;
 use crate::job_refusal::JobRefusal;
 use crate::limits::READ_BYTES;
@@ -46,7 +44,7 @@ pub fn read_job<S: Source>(alloc: Global, source: &mut S) -> Result<Job, JobRefu
     ensures spelled { IfOk result
         (λ j. IsJob j × IfSome (S.left source.old) (λ text. text ≡ job_text j)) }
     ensures refused { (line : ℕ) (fault : JobFault) → result ≡ Err (JobRefusal.Text line fault)
-        → IfSome (S.left source.old) (λ text. IsFirstRefused Whole text line fault) }
+        → IfSome (S.left source.old) (λ text. IsFirstRefused text line fault) }
 
     // A job's text gives the job, unless the source fails or memory runs out.
     ensures accepted { (j : Job) → IsJob j → S.left source.old ≡ Some (job_text j)
@@ -56,24 +54,6 @@ pub fn read_job<S: Source>(alloc: Global, source: &mut S) -> Result<Job, JobRefu
     ensures taken { IsTaken (S.left source.old) (S.left source.new) result }
     ensures cause { TellsFaults (S.faults source.old) (S.faults source.new) result }
 {
-    read_job_of(alloc, Grammar::Whole, source)
-}
-
-/// Reads a job of a grammar, as [`read_job`] does, and refuses every other.
-pub fn read_job_of<S: Source>(
-    alloc: Global,
-    grammar: Grammar,
-    source: &mut S,
-) -> Result<Job, JobRefusal>
-    ensures spelled { IfOk result
-        (λ j. Takes grammar j × IfSome (S.left source.old) (λ text. text ≡ job_text j)) }
-    ensures refused { (line : ℕ) (fault : JobFault) → result ≡ Err (JobRefusal.Text line fault)
-        → IfSome (S.left source.old) (λ text. IsFirstRefused grammar text line fault) }
-    ensures accepted { (j : Job) → Takes grammar j → S.left source.old ≡ Some (job_text j)
-        → MatchResult result (λ r. r ≡ j) IsOutside }
-    ensures taken { IsTaken (S.left source.old) (S.left source.new) result }
-    ensures cause { TellsFaults (S.faults source.old) (S.faults source.new) result }
-{
     let text = read_text(alloc, source)?;
-    parse_job(alloc, grammar, text.as_slice())
+    parse_job(alloc, text.as_slice())
 }

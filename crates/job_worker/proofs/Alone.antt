@@ -22,7 +22,7 @@ use Rattle.mont_base.specs.State.{State, unit_of_op}
 use Rattle.mont_base.specs.State.State.{QueueOf}
 use Rattle.mont_base.specs.Structure.{structure_of, IsStructure}
 use Rattle.mont_base.specs.Versions.{live_objects}
-use Rattle.job_text.specs.Causes.{effects_then}
+use Rattle.mont_base.specs.Counting.{effects_then}
 use Rattle.heap_rule.specs.SeenEntries.{AreFronts}
 use Rattle.heap_rule.proofs.SeenFronts.{fronts_same}
 use Rattle.job_worker.specs.Asking.{KeepsAnswers, HasContinued, FoundFrom, HasNoRoom, WasHalted, IsCutIn}

@@ -7,6 +7,7 @@ use Rattle.mont_base.specs.declared.operation.Entry.{Entry}
 use Rattle.mont_base.specs.declared.operation.Op.{Op}
 use Rattle.mont_base.specs.declared.operation.Receipt.{Receipt}
 use Rattle.mont_base.specs.declared.refusal.Which.{Which}
+use Rattle.mont_base.specs.Counting.{effects_then}
 use Rattle.mont_base.specs.Layout.{Shape}
 use Rattle.mont_base.specs.Room.{room_of}
 use Rattle.mont_base.specs.Seen.{IsEntryAt}
@@ -18,7 +19,7 @@ use Rattle.job_text.specs.declared.job.Deed.TheVariants.{Call}
 use Rattle.job_text.specs.declared.outcome.Outcome.{Outcome}
 use Rattle.job_text.specs.declared.outcome.Outcome.TheVariants as outcomes
 use Rattle.job_text.specs.AnsweredLines.{records_in}
-use Rattle.job_text.specs.Causes.{SomeMoment, IsReached, MayBeFull, LacksRoom, IsAtEnd, WasCutIn, effects_then}
+use Rattle.job_text.specs.Causes.{SomeMoment, IsReached, MayBeFull, LacksRoom, IsAtEnd, WasCutIn}
 use Rattle.job_text.specs.Outcomes.{place_of, HasEpoch, clock_of, tick_of, settled_of, is_at}
 use Rattle.job_text.specs.Report.{Report}
 use Rattle.job_worker.specs.Continuing.{Continues}

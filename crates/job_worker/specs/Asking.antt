@@ -10,6 +10,7 @@ use Rattle.mont_base.specs.declared.record.Held.{Held}
 use Rattle.mont_base.specs.declared.refusal.CallRefusal.{CallRefusal}
 use Rattle.mont_base.specs.declared.refusal.Which.{Which}
 use Rattle.mont_base.specs.declared.refusal.CallRefusal.TheVariants as calls
+use Rattle.mont_base.specs.Counting.{effects_then}
 use Rattle.mont_base.specs.Image.{clock_of, records_of, IsRecovered}
 use Rattle.mont_base.specs.Layout.{Shape, units_of}
 use Rattle.mont_base.specs.Room.{room_of}
@@ -22,7 +23,7 @@ use Rattle.caller.specs.declared.sync_refusal.SyncRefusal.{SyncRefusal}
 use Rattle.caller.specs.declared.sync_refusal.SyncRefusal.TheVariants as syncs
 use Rattle.caller.specs.Telling.{has_mark}
 use Rattle.job_text.specs.AnsweredLines.{records_in}
-use Rattle.job_text.specs.Causes.{effects_then, IsAtEnd}
+use Rattle.job_text.specs.Causes.{IsAtEnd}
 use Rattle.job_worker.specs.Continuing.{GoesOn}
 
 -- ---- what may be asked
@@ -88,17 +89,17 @@ pub record WasFound (o : Opening) (r : CallerKnown) (op : Op)
 
 -- The unit had less room than the operation needs, at a durable clock that isn't below the one that
 -- the caller knew, and that it knows now.
-pub record HasNoRoom (o : Opening) (q r : CallerKnown) (op : Op) (need free clock : ℕ) : Type 0
-  where
-    pub keeps : KeepsAnswers q r
-    pub few : free < need
-    pub begun : clock_of o.words ≤ clock
-    pub known : q.part.durable ≤ clock
-    pub learnt : clock ≤ r.part.durable
-    pub found :
-        WasFound o r op
-        (λ unit base h. (length (effects_then base h op) ≡ need)
-        × (room_of o.layout.slots base h clock ≡ free))
+pub record HasNoRoom
+    (o : Opening) (q r : CallerKnown) (op : Op) (need free clock : ℕ) : Type 0 where
+  pub keeps : KeepsAnswers q r
+  pub few : free < need
+  pub begun : clock_of o.words ≤ clock
+  pub known : q.part.durable ≤ clock
+  pub learnt : clock ≤ r.part.durable
+  pub found :
+      WasFound o r op
+      (λ unit base h. (length (effects_then base h op) ≡ need)
+      × (room_of o.layout.slots base h clock ≡ free))
 
 pub record HasEnd (o : Opening) (q r : CallerKnown) (op : Op) (which : Which) : Type 0 where
   pub keeps : KeepsAnswers q r

@@ -33,27 +33,27 @@ pub trait Asks<P> {
         requires op { HasUnit (opening self.now).layout op.now }
         ensures pass { has self.now pass.new }
         ensures gate { IsAskedOften cuts endless pass.old pass.new (call_was_cut result) }
-        ensures answered { IfOk result (λ receipt. HasContinued (opening self.now) (held pass.old)
-            (held pass.new) op.now receipt) }
-        ensures refused { IfErr result (λ why. HasLearntWhy (opening self.now) (held pass.old)
-            (held pass.new) op.now why) };
+        ensures answered { IfOk result (λ receipt. HasContinued (opening self.now) (known pass.old)
+            (known pass.new) op.now receipt) }
+        ensures refused { IfErr result (λ why. HasLearntWhy (opening self.now) (known pass.old)
+            (known pass.new) op.now why) };
 
     /// Moves the clock on by one, or goes on with that.
     fn tick<R: Wait>(&self, rt: &R, pass: &mut P) -> Result<Epoch, AdvanceRefusal>
         requires pass { has self.now pass.old }
         ensures pass { has self.now pass.new }
         ensures gate { IsAskedOften cuts endless pass.old pass.new (advance_was_cut result) }
-        ensures keeps { KeepsAnswers (held pass.old) (held pass.new) }
-        ensures moved { IfOk result (λ clock. HasMoved (opening self.now) (held pass.old)
-            (held pass.new) clock) }
-        ensures refused { IfErr result (HasHeard (held pass.new)) };
+        ensures keeps { KeepsAnswers (known pass.old) (known pass.new) }
+        ensures moved { IfOk result (λ clock. HasMoved (opening self.now) (known pass.old)
+            (known pass.new) clock) }
+        ensures refused { IfErr result (HasHeard (known pass.new)) };
 
     /// Waits until all that the caller has seen is durable.
     fn sync<R: Wait>(&self, rt: &R, pass: &mut P) -> Result<Epoch, SyncRefusal>
         requires pass { has self.now pass.old }
         ensures pass { has self.now pass.new }
         ensures gate { IsAskedOften cuts endless pass.old pass.new (sync_was_cut result) }
-        ensures keeps { KeepsAnswers (held pass.old) (held pass.new) }
-        ensures synced { IfOk result (λ clock. HasSynced (held pass.old) (held pass.new) clock) }
-        ensures refused { IfErr result (LeavesUnsynced (held pass.new)) };
+        ensures keeps { KeepsAnswers (known pass.old) (known pass.new) }
+        ensures synced { IfOk result (λ clock. HasSynced (known pass.old) (known pass.new) clock) }
+        ensures refused { IfErr result (LeavesUnsynced (known pass.new)) };
 }

@@ -6,7 +6,7 @@ ghost use Rattle.mont_base.specs.State.{unit_of_op};
 ghost use Rattle.mont_base.specs.State.State.{QueueOf};
 ghost use Rattle.mont_base.specs.Room.{room_of};
 ghost use Rattle.job_text.specs.declared.job.Line.{Line as LineModel};
-ghost use Rattle.job_text.specs.Causes.{effects_then};
+ghost use Rattle.mont_base.specs.Counting.{effects_then};
 ghost use Rattle.job_worker.specs.Asking.{HasContinued};
 ghost use Rattle.job_worker.specs.Alone.{alone_opening, held_alone, IsAlone};
 ghost use Rattle.job_worker.specs.Ending.{MayBeAsked};

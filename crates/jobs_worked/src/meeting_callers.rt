@@ -72,13 +72,13 @@ impl Signals {
 
     // Waits until the others were asked.
     fn hold_put(&self) {
-        self.known.store(1, Ordering::SeqCst);
+        self.held.store(1, Ordering::SeqCst);
         self.wait_for(OTHERS, &self.asked);
     }
 
     // Waits until the put is held.
     fn hold_other(&self) {
-        self.wait_for(1, &self.known);
+        self.wait_for(1, &self.held);
         self.asked.fetch_add(1, Ordering::SeqCst);
     }
 

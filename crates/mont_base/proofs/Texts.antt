@@ -1,11 +1,11 @@
 -- Texts and the words that hold them.
-use Rattle.std.proofs.Common.{◌≡◌, ℕ, zero, suc, ◌+◌, ◌-◌, ◌<◌, ◌≤◌, ◌==◌, true, List, [], ◌∷◌, ◌++◌, length, take, drop, get_or, replicate, refl, sym, ap, subst, ◌∙◌, arith, ⊎_elim, length-take, length-drop, length-append}
+use Rattle.std.proofs.Common.{◌≡◌, ℕ, zero, suc, ◌+◌, ◌-◌, ◌^◌, ◌<◌, ◌≤◌, ◌==◌, true, List, [], ◌∷◌, ◌++◌, length, take, drop, get_or, replicate, refl, sym, ap, subst, ◌∙◌, arith, ⊎_elim, length-take, length-drop, length-append}
 use Rattle.std.specs.Prelude.{Option, Some, nat_eq, slice_index}
 use Rattle.std.specs.Cmp.{first_so, second_so}
 use Rattle.std.specs.Cmp.Lexicographic.{pointwise, bytes_decides}
 use Rattle.std.specs.Int.{w64, to_le_bytes, from_le_bytes, sum_through, byte_worth}
 use Rattle.std.specs.Ordering.{nat_cmp, ordering_then}
-use Rattle.std.proofs.lemmas.Nat.{le_bytes_8}
+use Rattle.std.proofs.lemmas.Nat.{le_bytes_8, from_le_bytes-to_le_bytes_8}
 use Rattle.std.proofs.Math.Seq.{drop-append_seam, take-append_seam}
 use Rattle.std.proofs.lemmas.Bool.{cases_lt, le-leb}
 use Rattle.std.proofs.lemmas.Bool.Decides.{Decides-eqb, same_from_decides}
@@ -290,6 +290,28 @@ module _
         third = from_le_bytes w64 (drop 16 held);
       })
   held_is_text short = record { short = short; words = words_of_front held len clean ∙ ap byte_words (sym view_of_held) }
+
+-- words of which the bytes behind the end are 0 are those of a text
+words_back :
+    (a b c : ℕ) → a < 2 ^ 64 → b < 2 ^ 64 → c < 2 ^ 64 → a ∷ b ∷ c ∷ [] ≡ from_le_bytes w64 (drop 0 (bytes_of_words a b c))
+    ∷ from_le_bytes w64 (drop 8 (bytes_of_words a b c)) ∷ from_le_bytes w64 (drop 16 (bytes_of_words a b c)) ∷ []
+unfolding bytes_of_words
+words_back a b c first second third = λ i.
+    sym (from_le_bytes-to_le_bytes_8 a first) i ∷ sym (from_le_bytes-to_le_bytes_8 b second) i
+    ∷ sym (from_le_bytes-to_le_bytes_8 c third) i ∷ []
+
+module _ (len a b c : ℕ) (short : len ≤ TEXT_BYTES) (clean : are_zero (drop len (bytes_of_words a b c)) ≡ true) where
+  pub words_are_text :
+      a < 2 ^ 64 → b < 2 ^ 64 → c < 2 ^ 64 → IsTextInside (record { len = len; first = a; second = b; third = c })
+  unfolding bytes_of_text
+  words_are_text first second third = record {
+    short = short;
+    words = words_back a b c first second third ∙ words_of_front (bytes_of_words a b c) len clean;
+  }
+
+  pub text_of_clean : text_of_words len a b c ≡ Some (bytes_of_text (record { len = len; first = a; second = b; third = c }))
+  unfolding bytes_of_text
+  text_of_clean = accepted len (bytes_of_words a b c) short clean
 
 -- texts are the same exactly where their words are
 pub same_texts : (s t : List ℕ) → IsText s → IsText t → pointwise nat_eq (text_words s) (text_words t) ≡ pointwise nat_eq s t

@@ -16,7 +16,8 @@ is_clean used body = are_zero (drop used body)
 abbrev pub no_body : List ℕ
 no_body = spare 0
 
--- a pair of a map or of an ordered unit: both lengths, and then the words of the key and of the value
+-- a pair of a map or of an ordered unit: both lengths, and then the words of the key and of the
+-- value
 abbrev pub pair_body : Key → Value → List ℕ
 pair_body key value = length key ∷ length value ∷ (byte_words key ++ byte_words value)
 

@@ -4,7 +4,7 @@ use Rattle.std.specs.List.{cons_option}
 use Rattle.mont_base.specs.declared.constants.TheConstants.{LAST}
 use Rattle.mont_base.specs.declared.operation.Entry.{Entry}
 use Rattle.mont_base.specs.Layout.{Shape}
-use Rattle.mont_base.specs.State.{State, Run, step, run_of, unit_of_op}
+use Rattle.mont_base.specs.State.{State, Run, IsShortOp, step, run_of, unit_of_op}
 
 -- the state that the operations of these entries lead to
 abbrev pub state_after : State → List Entry → State
@@ -20,6 +20,10 @@ RepliesFollow s (e ∷ es) = (e.reply ≡ (step s e.op).reply) × RepliesFollow 
 abbrev pub runs_of : State → List Entry → List Run
 runs_of s [] = []
 runs_of s (e ∷ es) = cons_option (run_of s e.op) (runs_of (step s e.op).state es)
+
+-- an entry whose run has room in memory, as each of a legal history has
+abbrev pub IsShort : Entry → Type 0
+IsShort e = IsShortOp e.op
 
 -- A legal history of a unit, from a state at a clock (a sequential history of the structure whose
 -- epochs never fall).

@@ -1,5 +1,7 @@
 pub mod Faults
 pub mod Devices
+pub mod Delivery
+pub mod Losses
 pub mod Gates
 pub mod Layout
 pub mod Kinds
@@ -17,4 +19,5 @@ pub mod Room
 pub mod Seen
 pub mod Versions
 pub mod Structure
+pub mod Counting
 pub mod Image

@@ -17,5 +17,6 @@ pub inverse_of_view :
     (p : Inside) → PairsStand p.len p.pairs → record
     { pairs = padded_pairs (take p.len p.pairs); len = length (take p.len p.pairs) } ≡ p
 inverse_of_view p h =
-    let count : length (take p.len p.pairs) ≡ p.len = omega (arith, length-take p.len p.pairs, h.few, h.long) in
+    let count : length (take p.len p.pairs) ≡ p.len =
+    omega (arith, length-take p.len p.pairs, h.few, h.long) in
     λ i. record { pairs = sym h.behind i; len = count i }

@@ -1,6 +1,6 @@
 -- The structures as plain values, and what an operation does to them (their sequential
 -- specification).
-use Rattle.std.specs.Prelude.{ℕ, ◌+◌, ◌-◌, Bool, true, false, ◌==◌, ◌&&◌, ◌||◌, not, nat_le, List, [], ◌∷◌, ◌++◌, length, map, take, slice_get, Option, Some, None}
+use Rattle.std.specs.Prelude.{ℕ, ◌+◌, ◌-◌, ◌≤◌, Bool, true, false, ◌==◌, ◌&&◌, ◌||◌, not, nat_le, List, [], ◌∷◌, ◌++◌, length, map, take, slice_get, Option, Some, None}
 use Rattle.std.specs.declared.cmp.Ordering.{Ordering}
 use Rattle.std.specs.Ordering.{nat_cmp, ordering_then, is_lt, is_le}
 use Rattle.std.specs.List.{filter}
@@ -265,6 +265,11 @@ step (GraphOf g) op = graph_step g op
 abbrev pub run_of : State → Op → Option Run
 run_of (MapOf m) (ops.ORange unit from to most) = Some (range_of m from to most)
 run_of _ _ = None
+
+-- a range of no more pairs than a run has room for
+abbrev pub IsShortOp : Op → Type 0
+IsShortOp (ops.ORange unit from to most) = most ≤ MOST_PAIRS
+IsShortOp _ = Unit {0}
 
 -- ---- the unit of an operation
 -- how many pairs a range may be asked for

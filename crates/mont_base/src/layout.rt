@@ -1,5 +1,5 @@
 // How the words of a store are divided among its units.
-ghost use Rattle.std.specs.Prelude.{◌≡◌, ◌+◌, ◌*◌, ◌<◌, ◌≤◌, length, slice_get, Some};
+ghost use Rattle.std.specs.Prelude.{◌≡◌, ◌+◌, ◌*◌, ◌%◌, ◌^◌, ◌<◌, ◌≤◌, length, slice_get, Some};
 ghost use Rattle.std.specs.Result.{OkIff};
 ghost use Rattle.mont_base.specs.Layout.{IsLayout, IsKinds, units_of, total_of, words_of, map_units, unit_of_key, key_number, next_digit, unit_of_slot, kind_of, unit_named, shape, units_from};
 
@@ -135,6 +135,17 @@ impl Layout {
         self.map_unit(number)
     }
 
+    // The map unit that keeps a key, if there is a map unit.
+    pub(crate) fn keeper(&self, key: &Text) -> Option<Unit>
+        ensures { result ≡ unit_of_key self.now key.now }
+    {
+        let maps = self.maps();
+        if maps == 0 {
+            return None;
+        }
+        Some(self.map_unit(key_number(maps, key)))
+    }
+
     /// The map unit of a number among the map units, counted from 0.
     pub fn map_unit(&self, number: u64) -> Unit
         requires { number < length (map_units self.now) }
@@ -171,9 +182,34 @@ fn key_number(maps: u64, key: &Text) -> u64
     ensures number { result ≡ key_number maps key.now }
     ensures below { result < maps }
 {
-    let mut number = 0;
-    for at in 0..key.len() {
-        number = (number * 10 + (u64::from(key.byte(at)) + 208) % 256) % maps;
+    if maps == 1 {
+        return 0;
     }
-    number
+    let held = key.held();
+    let mut number = 0;
+    for byte in &held[..key.len() as usize] {
+        number = shortened(maps, number) * 10 + digit_of(*byte);
+    }
+    number % maps
+}
+
+// A number that stands for the same map unit, and has room for one more digit.
+fn shortened(maps: u64, number: u64) -> u64
+    requires some { 0 < maps }
+    requires few { maps ≤ 16 }
+    ensures same { result % maps ≡ number % maps }
+    ensures room { result < 2 ^ 60 }
+{
+    if number < 1 << 60 {
+        number
+    } else {
+        number % maps
+    }
+}
+
+// A byte as a digit, where `0` to `9` count as 0 to 9.
+fn digit_of(byte: u8) -> u64
+    ensures { result ≡ (byte + 208) % 256 }
+{
+    u64::from(byte.wrapping_sub(b'0'))
 }

@@ -6,6 +6,7 @@
 #![tactic(auto)]
 
 mod constants;
+mod delivery;
 mod effect;
 mod gate;
 mod kinds;
@@ -19,14 +20,13 @@ mod sequence;
 mod sink;
 mod slot_list;
 mod source;
-#[cfg(test)]
-mod tests;
 mod text;
 
 pub use constants::{
     BODY, EDGE_TAG, FIELDS, FIRST_CLOCK, LABEL, LAST, LEAST_SLOTS, MOST_PAIRS, MOST_SLOTS,
     MOST_UNITS, TEXT_BYTES, VERTEX_TAG,
 };
+pub use delivery::deliver;
 pub use effect::{Effect, Thing};
 pub use gate::{Cut, Fuel, Gate, Steady};
 pub use kinds::{BadKinds, Kinds, Signs, UnitKind};

@@ -1,6 +1,5 @@
 // What callers ask of units, and what they are answered.
 ghost use Rattle.std.specs.Prelude.{◌≡◌};
-ghost use Rattle.mont_base.specs.Layout.{unit_of_key};
 ghost use Rattle.mont_base.specs.State.{can_range};
 
 use crate::constants::MOST_PAIRS;
@@ -196,7 +195,7 @@ impl Op {
         ensures { result ≡ unit_of_op layout self.now }
     {
         match self.aim() {
-            Aim::Key { key } => unit_of_key(&layout, &key),
+            Aim::Key { key } => layout.keeper(&key),
             Aim::Unit { kind, unit } => layout.named(kind, unit),
             Aim::Nowhere => None,
         }
@@ -208,15 +207,4 @@ fn can_range(most: u64) -> bool
     ensures { result ≡ can_range most }
 {
     (1..=MOST_PAIRS as u64).contains(&most)
-}
-
-// The map unit that keeps a key, if there is a map unit.
-fn unit_of_key(layout: &Layout, key: &Text) -> Option<Unit>
-    ensures { result ≡ unit_of_key layout.now key.now }
-{
-    if layout.maps() == 0 {
-        None
-    } else {
-        Some(layout.unit_of_key(key))
-    }
 }

@@ -91,11 +91,15 @@ impl Text {
             (slice_index words 2) (slice_index words 3) }
     {
         let [len, first, second, third] = words;
-        let held = bytes_in(first, second, third);
-        if len > TEXT_BYTES as u64 || !are_zero(&held[len as usize..]) {
+        if len > TEXT_BYTES as u64 || !are_zero_from(len, first, second, third) {
             return None;
         }
-        Some(of_held(&held, len))
+        Some(Text {
+            len,
+            first,
+            second,
+            third,
+        })
     }
 
     /// Its four words: its length and its bytes.
@@ -126,7 +130,14 @@ impl Text {
         requires { at < length self.now }
         ensures { result ≡ slice_index self.now at }
     {
-        bytes_in(self.first, self.second, self.third)[at as usize]
+        self.held()[at as usize]
+    }
+
+    // Its bytes, and zeros behind its end.
+    pub(crate) fn held(&self) -> [u8; TEXT_BYTES]
+        ensures { take (length self.now) result ≡ self.now }
+    {
+        bytes_in(self.first, self.second, self.third)
     }
 }
 
@@ -235,10 +246,20 @@ fn bytes_in(first: u64, second: u64, third: u64) -> [u8; TEXT_BYTES]
     held
 }
 
-fn are_zero(bytes: &[u8]) -> bool
-    ensures { result ≡ are_zero bytes.now }
+// Whether the bytes of three words are 0 from a place on, the lowest byte of each first.
+fn are_zero_from(place: u64, first: u64, second: u64, third: u64) -> bool
+    ensures { result ≡ are_zero (drop place (bytes_of_words first second third)) }
 {
-    bytes.iter().all(|byte| *byte == 0)
+    is_zero_from(place, first)
+        & is_zero_from(place.saturating_sub(8), second)
+        & is_zero_from(place.saturating_sub(16), third)
+}
+
+// Whether the bytes of a word are 0 from a place on, the lowest first.
+fn is_zero_from(place: u64, word: u64) -> bool
+    ensures { result ≡ are_zero (drop place (to_le_bytes w64 word)) }
+{
+    place >= 8 || word >> (8 * place) == 0
 }
 
 // The order of the bytes of two words, the lowest byte of each first.

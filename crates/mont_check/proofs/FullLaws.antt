@@ -4,10 +4,11 @@ use Rattle.std.specs.Prelude.{◌↔◌, All}
 use Rattle.mont_base.specs.declared.operation.Entry.{Entry}
 use Rattle.mont_base.specs.declared.operation.Op.{Op}
 use Rattle.mont_base.specs.declared.record.Held.{Held}
+use Rattle.mont_base.specs.Counting.{effects_then}
 use Rattle.mont_base.specs.Room.{room_of}
 use Rattle.mont_base.specs.State.{State}
 use Rattle.job_text.specs.declared.outcome.Outcome.{Outcome}
-use Rattle.job_text.specs.Causes.{MayBeFull, SomeMoment, effects_then}
+use Rattle.job_text.specs.Causes.{MayBeFull, SomeMoment}
 use Rattle.job_text.specs.Outcomes.{clock_of}
 use Rattle.job_text.specs.Report.{Report}
 use Rattle.mont_check.specs.declared.cause.Cause.TheVariants.{NeedsMore}

@@ -9,10 +9,9 @@ use Rattle.mont_base.specs.declared.constants.TheConstants.{MOST_PAIRS}
 use Rattle.mont_base.specs.declared.operation.Entry.{Entry}
 use Rattle.mont_base.specs.declared.operation.Op.{Op}
 use Rattle.mont_base.specs.declared.operation.Op.TheVariants as ops
-use Rattle.mont_base.specs.History.{runs_of}
+use Rattle.mont_base.specs.History.{runs_of, IsShort}
 use Rattle.mont_base.specs.Layout.{Shape}
-use Rattle.mont_base.specs.State.{State, Run, step, run_of, unit_of_op, unit_aimed, range_aim, can_range}
-use Rattle.mont_check.specs.JudgedRuns.{IsShortOp, IsShort}
+use Rattle.mont_base.specs.State.{State, Run, IsShortOp, step, run_of, unit_of_op, unit_aimed, range_aim, can_range}
 
 -- ---- ranges of a legal history have room
 short_range : (s : Shape) (unit own most : ℕ) (b : Bool) → can_range most ≡ b → unit_aimed s (range_aim b own) ≡ Some unit

@@ -7,23 +7,15 @@ use Rattle.std.proofs.lemmas.List.Sums.{sum_by-cons, sum_by_push}
 use Rattle.mont_base.specs.declared.operation.Entry.{Entry}
 use Rattle.mont_base.specs.declared.effect.Effect.{Effect}
 use Rattle.mont_base.specs.declared.effect.Effect.TheVariants.{Inserts, Replaces, Removes}
+use Rattle.mont_base.specs.Counting.{is_enq, is_insertion}
 use Rattle.mont_base.specs.State.{State, step}
 use Rattle.mont_base.specs.History.{state_after}
 use Rattle.mont_base.specs.Room.{retires, retired_late, room_of}
-use Rattle.job_text.specs.Causes.{is_enq, is_insertion, sum_over}
+use Rattle.mont_laws.proofs.Counting.{sum_more}
+use Rattle.mont_laws.proofs.Histories.{after_push}
 use Rattle.mont_check.specs.Walk.{Facts, facts_after, is_removal, is_replacement, more_facts}
 
 -- ---- one entry more
-state_more : (base : State) (h : List Entry) (e : Entry) → state_after base (h ++ e ∷ []) ≡ (step (state_after base h) e.op).state
-state_more base [] e = refl
-state_more base (g ∷ h) e = state_more (step base g.op).state h e
-
-sum_more :
-    (count : List Effect → ℕ) (base : State) (h : List Entry) (e : Entry)
-    → sum_over count base (h ++ e ∷ []) ≡ sum_over count base h + count (step (state_after base h) e.op).effects
-sum_more count base [] e = omega arith
-sum_more count base (g ∷ h) e = let rest = sum_more count (step base g.op).state h e in omega arith
-
 late_more :
     (clock : ℕ) (base : State) (h : List Entry) (e : Entry)
     → retired_late clock base (h ++ e ∷ [])
@@ -35,7 +27,7 @@ facts_push :
     (clock : ℕ) (base : State) (h : List Entry) (e : Entry)
     → more_facts clock (facts_after clock base h) e ≡ facts_after clock base (h ++ e ∷ [])
 facts_push clock base h e =
-    let state = state_more base h e in
+    let state = after_push base h e in
     let entries : length h + 1 ≡ length (h ++ e ∷ []) = simp length-append (omega arith) in
     let waiting = late_more clock base h e in
     let inserted = sum_more (count_by is_insertion) base h e in

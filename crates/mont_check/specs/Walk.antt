@@ -6,8 +6,8 @@ use Rattle.mont_base.specs.declared.effect.Effect.TheVariants.{Replaces, Removes
 use Rattle.mont_base.specs.State.{State, step}
 use Rattle.mont_base.specs.History.{state_after}
 use Rattle.mont_base.specs.Room.{retires, retired_late}
+use Rattle.mont_base.specs.Counting.{changes_made, insertions, is_enq, is_insertion}
 use Rattle.plain.specs.States.{state_of}
-use Rattle.job_text.specs.Causes.{is_enq, is_insertion, sum_over}
 use Rattle.mont_check.specs.declared.walk.Walk.{Walk}
 
 pub record Facts : Type 0 where
@@ -24,8 +24,8 @@ facts_after clock base h = record {
   state = state_after base h;
   entries = length h;
   waiting = retired_late clock base h;
-  inserted = sum_over (count_by is_insertion) base h;
-  changed = sum_over length base h;
+  inserted = insertions base h;
+  changed = changes_made base h;
   enqueued = count_by (λ (e : Entry). is_enq e.op) h;
 }
 

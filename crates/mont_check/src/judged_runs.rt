@@ -1,12 +1,12 @@
 // Whether the runs of a report are those of the states behind the entries before them.
 ghost use Rattle.std.specs.Prelude.{◌≡◌, ◌↔◌, ◌≤◌, ℕ, List, IsTrue, IfOk, All, slice_get, Some};
 ghost use Rattle.mont_base.specs.declared.operation.Entry.{Entry};
-ghost use Rattle.mont_base.specs.History.{runs_of};
-ghost use Rattle.mont_base.specs.State.{State, run_of};
+ghost use Rattle.mont_base.specs.History.{runs_of, IsShort};
+ghost use Rattle.mont_base.specs.State.{State, IsShortOp, run_of};
 ghost use Rattle.job_text.specs.Faithful.{RunsAt};
 ghost use Rattle.job_text.specs.PlainReport.{report_of};
 ghost use Rattle.plain.specs.States.{state_of, states_of};
-ghost use Rattle.mont_check.specs.JudgedRuns.{IsShortOp, IsShort, AreShort};
+ghost use Rattle.mont_check.specs.JudgedRuns.{AreShort};
 
 use crate::walk::copied;
 use job_text::{Report, Run};

@@ -2,9 +2,10 @@
 ghost use Rattle.std.specs.Prelude.{◌≡◌, ◌↔◌, ◌+◌, ◌≤◌, IsTrue, Any};
 ghost use Rattle.std.specs.Ordering.{eq_by_cmp};
 ghost use Rattle.mont_base.specs.declared.constants.TheConstants.{LAST};
+ghost use Rattle.mont_base.specs.Counting.{LacksVersion, greatest_by, identity_of, is_insertion, is_version_of, renewed, version_among, version_if};
 ghost use Rattle.mont_base.specs.State.{key_cmp};
 ghost use Rattle.mont_base.specs.Structure.{has_edge, has_key, has_vertex};
-ghost use Rattle.job_text.specs.Causes.{LacksVersion, greatest_by, identity_of, is_insertion, is_of, renewed, serial_of, version_if, version_in};
+ghost use Rattle.job_text.specs.Causes.{serial_of};
 
 use mont_base::{Effect, Held, LAST, Object, Text, Thing};
 use payload::{edge_in, item_in, pair_in, vertex_in};
@@ -40,7 +41,7 @@ fn effect_lacks_version(objects: &[Object], changed: u64, effect: &Effect) -> bo
     ensures { IsTrue result ↔ LacksVersion objects.now changed effect.now }
 {
     match renewed(effect) {
-        Some(thing) => reaches_last(version_in(objects, &thing), changed),
+        Some(thing) => reaches_last(version_among(objects, &thing), changed),
         None => false,
     }
 }
@@ -56,8 +57,8 @@ fn renewed(effect: &Effect) -> Option<Thing>
 }
 
 // The version that a thing has among the live objects, and 0 where it has none.
-fn version_in(objects: &[Object], thing: &Thing) -> u64
-    ensures { result ≡ version_in objects.now thing.now }
+fn version_among(objects: &[Object], thing: &Thing) -> u64
+    ensures { result ≡ version_among objects.now thing.now }
 {
     let mut greatest = 0;
     for object in objects {
@@ -69,16 +70,16 @@ fn version_in(objects: &[Object], thing: &Thing) -> u64
 fn version_if(thing: &Thing, object: &Object) -> u64
     ensures { result ≡ version_if thing.now object.now }
 {
-    if is_of(thing, object) {
+    if is_version_of(thing, object) {
         object.version
     } else {
         0
     }
 }
 
-// Whether an object is a version of the thing. Of a queue any item will do.
-fn is_of(thing: &Thing, object: &Object) -> bool
-    ensures { result ≡ is_of thing.now object.now }
+// Whether an object is a version of the thing. In a queue any item will do.
+fn is_version_of(thing: &Thing, object: &Object) -> bool
+    ensures { result ≡ is_version_of thing.now object.now }
 {
     match thing {
         Thing::Pair { key, .. } => has_key(object, key),

@@ -1,8 +1,8 @@
 // A walk along a unit's history: what its first entries lead to and did.
 ghost use Rattle.std.specs.Prelude.{◌≡◌, ◌+◌, IfOk, OnOk, count_by, sum_by};
+ghost use Rattle.mont_base.specs.Counting.{is_enq, is_insertion};
 ghost use Rattle.mont_base.specs.Room.{retires};
 ghost use Rattle.plain.specs.States.{state_of};
-ghost use Rattle.job_text.specs.Causes.{is_enq, is_insertion};
 ghost use Rattle.mont_check.specs.Walk.{facts_of, is_removal, is_replacement, more_facts, no_facts};
 
 use crate::last_numbers::is_insertion;

@@ -5,7 +5,7 @@ use Rattle.std.proofs.Math.Seq.{take-append-add}
 use Rattle.std.proofs.KnownBytes.{Consumes-trans, Consumes-whole}
 use Rattle.std.specs.Io.KnownBytes.{Consumes, IsAtEnd}
 use borrow.Rule.Slice.PartMut.{put_mid, post_of}
-use Rattle.mont_image.specs.ByteFilling.{LosesAtMost, LosesFirst}
+use Rattle.mont_base.specs.Losses.{LosesAtMost, LosesFirst}
 use Rattle.mont_image.specs.declared.image_refusal.ImageRefusal.{ImageRefusal}
 use Rattle.mont_image.specs.declared.image_refusal.ImageRefusal.TheVariants.{Magic, Version, Layout, Clock, Short, Long, Read, Memory}
 use Rattle.mont_image.specs.ImageRefusal.{Refuses}

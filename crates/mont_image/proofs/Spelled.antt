@@ -9,7 +9,7 @@ use Rattle.std.proofs.lemmas.Slice.{take-put_mid}
 use borrow.Rule.Slice.PartMut.{put_mid}
 use Rattle.mont_base.specs.Layout.{Shape, code_of}
 use Rattle.mont_image.specs.declared.image_text.TheConstants.{WORD}
-use Rattle.mont_image.specs.ByteDelivery.{AppendsFront}
+use Rattle.mont_base.specs.Delivery.{AppendsFront}
 use Rattle.mont_image.specs.declared.image_text.Version.TheVariants.{Third}
 use Rattle.mont_image.specs.ImageText.{bytes_of, header_words, header_of, image_text, text_words_of}
 use Rattle.mont_image.proofs.WordBytes.{bytes_of-append}

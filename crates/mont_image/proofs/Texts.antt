@@ -15,7 +15,7 @@ use Rattle.mont_image.specs.declared.image_text.Header.{Header}
 use Rattle.mont_image.specs.declared.image_text.Version.{Version as VersionType}
 use Rattle.mont_image.specs.declared.image_text.Version.TheVariants as versions
 use Rattle.mont_image.specs.declared.stored_image.Image.{Image}
-use Rattle.mont_image.specs.ByteFilling.{LosesAtMost, LosesFirst}
+use Rattle.mont_base.specs.Losses.{LosesAtMost, LosesFirst}
 use Rattle.mont_image.specs.ImageHeader.{IsHeader}
 use Rattle.mont_image.specs.ImageLayout.{IsLayoutOf}
 use Rattle.mont_image.specs.ImageReader.{Reads, RefusesText, IsAnswerTo, IsTaken, Gives, parts_of}

@@ -8,7 +8,7 @@ use Rattle.mont_image.specs.declared.image_refusal.ImageRefusal.TheVariants.{Mag
 use Rattle.mont_image.specs.declared.image_text.TheConstants.{WORD}
 use Rattle.mont_image.specs.declared.image_text.Header.{Header}
 use Rattle.mont_image.specs.declared.stored_image.Image.{Image}
-use Rattle.mont_image.specs.ByteFilling.{LosesAtMost, LosesFirst}
+use Rattle.mont_base.specs.Losses.{LosesAtMost, LosesFirst}
 use Rattle.mont_image.specs.ImageRefusal.{OnBytes}
 use Rattle.mont_image.specs.ImageText.{ImageParts, IsTextOf, image_in, asked_of, front_count, is_old}
 use Rattle.mont_image.specs.StoredImage.{slot_words}

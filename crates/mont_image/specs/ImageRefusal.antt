@@ -3,7 +3,7 @@ use Rattle.std.specs.Prelude.{◌≡◌, ℕ, ◌≤◌, List, Option, Result, O
 use Rattle.mont_base.specs.Faults.{Rose}
 use Rattle.mont_image.specs.declared.image_refusal.ImageRefusal.{ImageRefusal}
 use Rattle.mont_image.specs.declared.image_refusal.ImageRefusal.TheVariants.{Magic, Version, Layout, Clock, Short, Long, Read, Memory}
-use Rattle.mont_image.specs.ByteFilling.{LosesAtMost, LosesFirst}
+use Rattle.mont_base.specs.Losses.{LosesAtMost, LosesFirst}
 
 -- a refusal for what the bytes are, and not for what the source or memory did
 abbrev pub OnBytes : ImageRefusal → Type 0 → Type 0

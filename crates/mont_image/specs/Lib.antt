@@ -1,9 +1,7 @@
 pub mod StoredImage
 pub mod ImageText
-pub mod ByteFilling
 pub mod ImageRefusal
 pub mod ImageHeader
 pub mod ImageLayout
 pub mod ImageReader
-pub mod ByteDelivery
 pub mod Picking

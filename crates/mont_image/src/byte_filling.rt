@@ -2,7 +2,7 @@
 ghost use Rattle.std.specs.Prelude.{◌≡◌, ◌<◌, ◌≤◌, length, take, IfOk, OnErr};
 ghost use Rattle.std.specs.Io.KnownBytes.{Consumes, IsAtEnd};
 ghost use Rattle.mont_base.specs.Faults.{HasCause};
-ghost use Rattle.mont_image.specs.ByteFilling.{LosesAtMost};
+ghost use Rattle.mont_base.specs.Losses.{LosesAtMost};
 
 use mont_base::{Failed, Source};
 

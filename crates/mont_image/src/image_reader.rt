@@ -1,7 +1,7 @@
 // Images from sources.
 ghost use Rattle.std.specs.Prelude.{◌≡◌, ℕ, ◌+◌, ◌*◌, ◌<◌, ◌≤◌, ◌^◌, ◌++◌, [], List, All, length, drop, IfOk, IfErr, IfSome, OnOk, Err};
 ghost use Rattle.std.specs.Io.KnownBytes.{Consumes, IsAtEnd};
-ghost use Rattle.mont_image.specs.ByteFilling.{LosesAtMost};
+ghost use Rattle.mont_base.specs.Losses.{LosesAtMost};
 ghost use Rattle.mont_image.specs.ImageHeader.{IsHeader};
 ghost use Rattle.mont_image.specs.ImageLayout.{IsLayoutOf};
 ghost use Rattle.mont_image.specs.ImageReader.{IsAnswerTo, IsTaken, Gives, Reads, RefusesText, HasSlots, RefusesSlots, RefusesMore, parts_of};

@@ -27,6 +27,16 @@ pub const MOST_OLD_MAPS: u64 = 8;
 /// No text of an image has more bytes: the text of sixteen units of 4096 slots has so many.
 pub const IMAGE_BYTES: usize = 6_291_624;
 
+const _: () = prove!(WORD == 8);
+
+const _: () = prove!(MAGIC == 740_076_059_685_179_213);
+
+const _: () = prove!(HEADER == 5);
+
+const _: () = prove!(OLD_FIELDS == 8);
+
+const _: () = prove!(MOST_OLD_MAPS == 8);
+
 const _: () = prove!(IMAGE_BYTES == 6_291_624);
 
 /// The versions of an image's text.

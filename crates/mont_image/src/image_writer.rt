@@ -3,13 +3,12 @@ ghost use Rattle.std.specs.Prelude.{◌≡◌, ◌*◌, ◌≤◌, false, length
 ghost use Rattle.std.specs.Io.KnownBytes.{Appends};
 ghost use Rattle.mont_base.specs.Faults.{HasCause};
 ghost use Rattle.mont_base.specs.Layout.{code_of};
-ghost use Rattle.mont_image.specs.ByteDelivery.{AppendsFront};
+ghost use Rattle.mont_base.specs.Delivery.{AppendsFront};
 ghost use Rattle.mont_image.specs.ImageText.{bytes_of, header_of, header_words, image_text};
 
-use crate::byte_delivery::deliver;
 use crate::image_text::{MAGIC, Version, WORD};
 use crate::stored_image::Image;
-use mont_base::{Failed, Kinds, MOST_UNITS, Sink};
+use mont_base::{Failed, Kinds, MOST_UNITS, Sink, deliver};
 
 // How many words are handed to the sink at once.
 const PIECE: usize = 512;
@@ -77,7 +76,7 @@ fn write_words<K: Sink>(words: &[u64], sink: &mut K) -> Result<(), Failed>
     while !rest.is_empty() {
         let (piece, behind) = rest.split_at(rest.len().min(PIECE));
         spell(piece, &mut buffer);
-        deliver(&buffer[..WORD * piece.len()], sink)?;
+        deliver(sink, &buffer[..WORD * piece.len()])?;
         rest = behind;
     }
     Ok(())

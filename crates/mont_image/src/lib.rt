@@ -2,7 +2,6 @@
 //! words of a store.
 #![tactic(auto)]
 
-mod byte_delivery;
 mod byte_filling;
 mod image_header;
 mod image_layout;

@@ -48,7 +48,8 @@ any_key s unit key e = rw e (by (is_unit (unit_of_key s key) unit))
     by false = refl
 
 -- a unit that is named is of the kind
-pub named_kind : (s : Shape) (kind : UnitKind) (named unit : ℕ) → unit_named s kind named ≡ Some unit → is_of_kind (kind_of s unit) kind ≡ true
+pub named_kind : (s : Shape) (kind : UnitKind) (named unit : ℕ) → unit_named s kind named ≡ Some unit
+    → is_of_kind (kind_of s unit) kind ≡ true
 named_kind s kind named unit e = by (is_of_kind (kind_of s named) kind) refl e
   where
     by : (t : Bool) → is_of_kind (kind_of s named) kind ≡ t → named_if t named ≡ Some unit → is_of_kind (kind_of s unit) kind ≡ true

@@ -45,7 +45,7 @@ record_epoch r = r.label.epoch
 abbrev entry_epoch : Entry → ℕ
 entry_epoch d = d.epoch
 
-after_push : (base : State) (h : List Entry) (e : Entry) → state_after base (h ++ e ∷ []) ≡ (step (state_after base h) e.op).state
+pub after_push : (base : State) (h : List Entry) (e : Entry) → state_after base (h ++ e ∷ []) ≡ (step (state_after base h) e.op).state
 after_push base [] e = refl
 after_push base (d ∷ h) e = after_push (step base d.op).state h e
 

@@ -41,3 +41,4 @@ pub mod SlotImages
 pub mod UnitRecords
 pub mod SettledWords
 pub mod Histories
+pub mod Counting

@@ -81,7 +81,8 @@ module _ (s : Shape) (unit : ℕ) (rs : List Held) where
 
     pub map_leads : (op : Op) (ws : List Held) → IsOpOf s unit op → AreEffects unit rs (map_step m op).effects ws
         → HasThings s unit (rs ++ ws) (map_step m op).state
-    map_leads (ops.Put k v) ws op are = put_lead k v ws (kept_pair s unit k v (own_key s unit k op.of_unit) op.texts) (finite.contains_key m k) refl are
+    map_leads (ops.Put k v) ws op are =
+        put_lead k v ws (kept_pair s unit k v (own_key s unit k op.of_unit) op.texts) (finite.contains_key m k) refl are
     map_leads (ops.Del k) ws op are = del_lead k ws (own_key s unit k op.of_unit) (finite.get m k) are
     map_leads (ops.OPut u k v) ws op are =
         put_lead k v ws (kept_pair s unit k v (ordered_key s u unit k op.of_unit) op.texts) (finite.contains_key m k) refl are

@@ -35,7 +35,8 @@ module _ (kind : UnitKind) where
   del_vertex_kind g vertex None = refl
   del_vertex_kind g vertex (Some attribute) = refl
 
-  add_edge_kind : (g : Graph) (e : Ends) (attribute : ℕ) (t : Bool) → is_state_of kind (add_edge g e attribute t).state ≡ is_state_of kind (GraphOf g)
+  add_edge_kind : (g : Graph) (e : Ends) (attribute : ℕ) (t : Bool)
+      → is_state_of kind (add_edge g e attribute t).state ≡ is_state_of kind (GraphOf g)
   add_edge_kind g e attribute true = refl
   add_edge_kind g e attribute false = refl
 

@@ -91,9 +91,15 @@ module _ (s : Shape) (unit : ℕ) where
 
   pub empty_structure : (kind : UnitKind) → kind_of s unit ≡ Some kind → HasStructure s unit [] (empty_state kind)
   empty_structure kinds.Map e =
-      record { of_unit = has_kind (kind_of s unit) kinds.Map (MapOf finite.empty) e refl; things = shows_none (pair_for s unit) (finite.get finite.empty) (finite.get-empty key_cmp) }
+      record {
+        of_unit = has_kind (kind_of s unit) kinds.Map (MapOf finite.empty) e refl;
+        things = shows_none (pair_for s unit) (finite.get finite.empty) (finite.get-empty key_cmp);
+      }
   empty_structure kinds.Queue e =
-      record { of_unit = has_kind (kind_of s unit) kinds.Queue (QueueOf []) e refl; things = items_from [] [] (record { sorted = tt; shown = shows_none item_for (λ q. None) (λ t. refl) }) }
+      record {
+        of_unit = has_kind (kind_of s unit) kinds.Queue (QueueOf []) e refl;
+        things = items_from [] [] (record { sorted = tt; shown = shows_none item_for (λ q. None) (λ t. refl) });
+      }
   empty_structure kinds.Graph e = record {
     of_unit = has_kind (kind_of s unit) kinds.Graph (GraphOf no_graph) e refl;
     things = record {

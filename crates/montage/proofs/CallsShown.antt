@@ -12,6 +12,7 @@ use Rattle.mont_base.specs.declared.record.Change.{Change}
 use Rattle.mont_base.specs.declared.refusal.CallRefusal.{CallRefusal}
 use Rattle.mont_base.specs.declared.refusal.CallRefusal.TheVariants.{Halted, CountEnd, Memory, Full, Cut}
 use Rattle.mont_base.specs.declared.refusal.Which.{Which}
+use Rattle.mont_base.specs.Counting.{effects_then}
 use Rattle.mont_base.specs.Image.{clock_of, IsRecovered}
 use Rattle.mont_base.specs.Layout.{Shape}
 use Rattle.mont_base.specs.Room.{room_of}
@@ -21,7 +22,6 @@ use Rattle.mont_base.specs.History.{state_after}
 use Rattle.mont_laws.specs.Effects.{IsOpOf}
 use Rattle.mont_laws.specs.Structures.{HasStructure}
 use Rattle.mont_laws.proofs.Shown.{one_state}
-use Rattle.job_text.specs.Causes.{effects_then}
 use Rattle.core_steps.specs.declared.parts.Mark.{Mark}
 use Rattle.core_steps.specs.CallerClauses.{view_of}
 use Rattle.core_steps.specs.Notes.{greater_fronts, mark_of}
@@ -42,6 +42,7 @@ use Rattle.structure_call.proofs.Counted.{numbers_end}
 use Rattle.structure_call.proofs.SoundHistories.{sound_shows, shows_before}
 use Rattle.caller.specs.Telling.{has_mark}
 use Rattle.caller.proofs.TakenNotes.{joined_has, or_left, or_right}
+use Rattle.montage.proofs.CallsContinued.{has_continued}
 use Rattle.montage.specs.StoreCalls.{RepliesBehind, ContinuesCaller, IsAnswered, KeepsCaller, NeedsRoom, NeedsNumber, TellsWhy, IsRefused}
 use Rattle.montage.specs.UnitAt.{IsSeated}
 use Rattle.montage.proofs.NumbersAtEnd.{number_at_end}
@@ -80,9 +81,6 @@ module _ (heap : HeapShown) (before behind : RegionShown) (q r : CallerShown) (o
     newest = ap (λ (x : CallerShown). x.known.part.newest) a.caller;
   }
 
-  receipt_again : (record { unit = before.seat.known.unit; place = length before.seat.known.part.history; entry = receipt.entry }) ≡ receipt
-  receipt_again = λ i. record { unit = sym held_is i; place = sym place_is i; entry = receipt.entry }
-
   replies : RepliesBehind heap receipt.unit before.seat.known.part.history op receipt.entry.reply
   replies states recovered =
       let led = λ (u : ℕ). state_after (base_state (opened_at (clock_of heap.opening.words) states) u) before.seat.known.part.history in
@@ -93,17 +91,10 @@ module _ (heap : HeapShown) (before behind : RegionShown) (q r : CallerShown) (o
   pub continues_caller : ContinuesCaller heap q r op receipt
   continues_caller = record {
     table = ap (λ (x : CallerShown). x.table) a.caller;
-    caller = ap (λ (x : CallerShown). x.known.caller) a.caller;
-    of_unit = named;
-    entry = ap (λ (x : Receipt). x.entry) a.receipt_is;
+    continued = has_continued heap before behind q r op receipt a named;
     continues = continues;
-    durable = a.reached.not_behind;
-    receipts = ap (λ (x : CallerShown). x.known.part.receipts) a.caller
-        ∙ ap (λ (x : Receipt). q.known.part.receipts ++ x ∷ []) receipt_again;
-    history = before.seat.known.part.history;
-    place = place_is;
     replies = replies;
-    seen = ap (λ (x : CallerShown). x.known.entries) a.caller
+    entries = ap (λ (x : CallerShown). x.known.entries) a.caller
         ∙ ap (λ (u : ℕ). slice_set q.known.entries u (before.seat.known.part.history ++ receipt.entry ∷ [])) (sym held_is);
   }
 

@@ -1,6 +1,7 @@
 mod FirstSeats
 mod BoxesGiven
 mod NumbersAtEnd
+mod CallsContinued
 mod CallsShown
 mod UnitStands
 mod Ticks

@@ -1,16 +1,14 @@
 -- A number that a unit lacks is at its end by what the unit was opened with and by its entries.
-use Rattle.std.proofs.Common.{◌≡◌, ℕ, suc, ◌+◌, ◌<◌, ◌≤◌, Bool, true, false, cond, List, [], ◌∷◌, ◌++◌, length, map, refl, sym, ap, ◌∙◌, subst, arith}
-use Rattle.std.specs.Prelude.{count_by, fold, max, Any, slice_get, slice_index, unwrap_or, option_map, Option, Some, None}
+use Rattle.std.proofs.Common.{◌≡◌, ℕ, ◌+◌, ◌<◌, ◌≤◌, Bool, true, false, cond, List, [], ◌∷◌, ◌++◌, map, refl, sym, ap, ◌∙◌, subst, arith}
+use Rattle.std.specs.Prelude.{count_by, fold, max, slice_get, slice_index, unwrap_or, option_map, Option, Some, None}
 use Rattle.std.specs.List.{range_with_len}
 use Rattle.std.proofs.lemmas.List.Folds.{fold-map}
 use Rattle.std.proofs.lemmas.List.FromFn.{length-range_with_len, get_or-range_with_len}
 use Rattle.std.proofs.lemmas.List.Sums.{sum_by-cons}
 use Rattle.std.proofs.lemmas.Option.{same_Some, slice_get-get_or, slice_get-map}
-use Rattle.mont_base.specs.declared.constants.TheConstants.{LAST}
 use Rattle.mont_base.specs.declared.effect.Effect.{Effect}
-use Rattle.mont_base.specs.declared.effect.Effect.TheVariants.{Inserts, Replaces, Removes}
-use Rattle.mont_base.specs.declared.effect.Thing.{Thing}
-use Rattle.mont_base.specs.declared.effect.Thing.TheVariants.{Pair, Item, Vertex, Edge}
+use Rattle.mont_base.specs.declared.effect.Effect.TheVariants.{Inserts, Removes}
+use Rattle.mont_base.specs.declared.effect.Thing.TheVariants.{Item}
 use Rattle.mont_base.specs.declared.kinds.UnitKind.{UnitKind}
 use Rattle.mont_base.specs.declared.kinds.UnitKind.TheVariants as kinds
 use Rattle.mont_base.specs.declared.operation.Entry.{Entry}
@@ -22,6 +20,7 @@ use Rattle.mont_base.specs.declared.record.ObjectFault.{ObjectFault}
 use Rattle.mont_base.specs.declared.refusal.Which.{Which}
 use Rattle.mont_base.specs.declared.refusal.Which.TheVariants as ends
 use Rattle.mont_base.specs.Bodies.{is_clean}
+use Rattle.mont_base.specs.Counting.{effects_then, enqueued, greatest_by, is_enq, is_enqueuing}
 use Rattle.mont_base.specs.History.{state_after}
 use Rattle.mont_base.specs.Image.{records_of, IsRecovered}
 use Rattle.mont_base.specs.Layout.{Shape, kind_of, units_of}
@@ -29,73 +28,19 @@ use Rattle.mont_base.specs.State.{State, QueueOf, step, queue_step}
 use Rattle.mont_base.specs.Structure.{IsStructure, first_fault, queue_fault, item_fault, object_fault, or_else, at_slot, structure_of, items_of}
 use Rattle.job_text.specs.AnsweredLines.{records_in}
 use Rattle.job_text.specs.Causes as causes
-use Rattle.job_text.specs.Causes.{IsAtEnd, greatest_by, identity_of, is_enq, is_of, version_in, effects_then}
+use Rattle.job_text.specs.Causes.{IsAtEnd, serial_or_none}
 use Rattle.core_steps.specs.declared.parts.CallerPart.{CallerPart}
 use Rattle.heap.specs.HeapShown.{HeapShown}
 use Rattle.slots.specs.RegionBeginning.{greatest, serial_of}
 use Rattle.slots.specs.Books.{RegionShown}
-use Rattle.structure_call.specs.Calling.{is_insertion, is_enqueuing}
-use Rattle.structure_call.specs.Counting.{LacksVersion, LacksSerial, LacksNumber, sum_over, insertions, enqueued, changes_made, is_version_of, version_if, version_among, records_opened, objects_opened, opened_with}
+use Rattle.structure_call.specs.Counting.{LacksSerial, LacksNumber, records_opened, objects_opened, opened_with}
 use Rattle.job_worker.specs.Asking.{opened_records}
 use Rattle.montage.specs.UnitAt.{IsSeated}
-
--- ---- sums over a history
-sums_are : (count other : List Effect → ℕ) → ((es : List Effect) → count es ≡ other es) → (s : State) (h : List Entry)
-    → sum_over count s h ≡ causes.sum_over other s h
-sums_are count other same s [] = refl
-sums_are count other same s (e ∷ es) =
-    λ i. same (step s e.op).effects i + sums_are count other same (step s e.op).state es i
-
-same_insertion : (e : Effect) → is_insertion e ≡ causes.is_insertion e
-same_insertion (Inserts thing) = refl
-same_insertion (Replaces thing) = refl
-same_insertion (Removes thing) = refl
-
-insertions_are : (s : State) (h : List Entry) → insertions s h ≡ causes.sum_over (count_by causes.is_insertion) s h
-insertions_are = sums_are (count_by is_insertion) (count_by causes.is_insertion) (λ es i. count_by (λ (e : Effect). same_insertion e i) es)
-
--- an element that is counted is there
-some_counted : (p : Effect → Bool) (es : List Effect) → 1 ≤ count_by p es → Any (λ (e : Effect). p e ≡ true) es
-some_counted p [] some = absurd (omega arith)
-some_counted p (e ∷ es) some =
-    by (p e) refl (sum_by-cons (λ (x : Effect). cond (p x) 1 0) e es) (some_counted p es)
-  where
-    by : (t : Bool) → p e ≡ t → count_by p (e ∷ es) ≡ cond t 1 0 + count_by p es
-        → (1 ≤ count_by p es → Any (λ (x : Effect). p x ≡ true) es) → Any (λ (x : Effect). p x ≡ true) (e ∷ es)
-    by true is many more = (0, e, omega arith, refl, is)
-    by false is many more =
-        let m = more (omega (arith, many, some)) in (suc m.0, m.1, omega (arith, m.2), m.3, m.4)
-
--- what holds of one of them
-any_so : {A : Type 0} (P Q : A → Type 0) (xs : List A) → ((a : A) → P a → Q a) → Any P xs → Any Q xs
-any_so P Q xs so m = (m.0, m.1, m.2, m.3, so m.1 m.4)
-
--- ---- versions
-same_of : (thing : Thing) (o : Object) → is_version_of thing o ≡ is_of thing o
-same_of (Pair key value) o = refl
-same_of (Item item) o = refl
-same_of (Vertex vertex attribute) o = refl
-same_of (Edge from to attribute) o = refl
-
-versions_are : (objects : List Object) (thing : Thing) → version_among objects thing ≡ version_in objects thing
-versions_are objects thing =
-    fold-map max (version_if thing) 0 objects
-    ∙ (λ i. greatest_by (λ (o : Object). cond (same_of thing o i) o.version 0) objects)
-
-at_last : (objects : List Object) (changes changed : ℕ) (thing : Thing) → changes ≡ changed
-    → LAST ≤ version_among objects thing + changes → LAST ≤ version_in objects thing + changed
-at_last objects changes changed thing same k = let versions = versions_are objects thing in omega (arith, k, versions, same)
-
-lacks_version : (objects : List Object) (changes changed : ℕ) → changes ≡ changed → (e : Effect) → LacksVersion objects changes e
-    → causes.LacksVersion objects changed e
-lacks_version objects changes changed same (Inserts thing) k = absurd k
-lacks_version objects changes changed same (Replaces thing) k = at_last objects changes changed thing same k
-lacks_version objects changes changed same (Removes thing) k = at_last objects changes changed thing same k
 
 -- ---- serials
 -- an item that is read without a fault has its serial in its first word
 read_serial : (lower : List Object) (serial item : ℕ) (t : Bool) → item_fault lower (cond t (Some (serial, item)) None) ≡ None
-    → serial ≡ causes.serial_or_none (cond t (Some (serial, item)) None)
+    → serial ≡ serial_or_none (cond t (Some (serial, item)) None)
 read_serial lower serial item true e = refl
 read_serial lower serial item false e = absurd (cc)
 
@@ -222,19 +167,8 @@ module _ (heap : HeapShown) (r : RegionShown) (q : CallerPart) (op : Op) (seated
       → IsAtEnd (records_opened heap r.books.unit) q.calls which op opened history
   opened_at_end ends.Call k = k
   opened_at_end ends.Place k = let many = seated.places in omega (arith, k, many)
-  opened_at_end ends.Identity k =
-      let none_left = k.none_left in
-      let most = fold-map max identity_of 0 (records_opened heap r.books.unit) in
-      let inserted = insertions_are opened history in (
-        any_so (λ (e : Effect). is_insertion e ≡ true) (λ (e : Effect). causes.is_insertion e ≡ true) (effects_then opened history op)
-            (λ e is. sym (same_insertion e) ∙ is) (some_counted is_insertion (effects_then opened history op) k.inserts),
-        omega (arith, none_left, most, inserted),
-      )
-  opened_at_end ends.Version k =
-      any_so (LacksVersion (objects_opened heap r.books.unit) (changes_made opened history))
-      (causes.LacksVersion (objects_opened heap r.books.unit) (causes.sum_over length opened history)) (effects_then opened history op)
-      (lacks_version (objects_opened heap r.books.unit) (changes_made opened history) (causes.sum_over length opened history)
-      (sums_are length length (λ es. refl) opened history)) k
+  opened_at_end ends.Identity k = k
+  opened_at_end ends.Version k = k
   opened_at_end ends.Serial k = serial_at_end k
 
   pub number_at_end : (which : Which) → LacksNumber heap r q op opened which

@@ -1,5 +1,5 @@
 -- What a caller has of a tick.
-use Rattle.std.proofs.Common.{◌≡◌, ℕ, ◌<◌, List, length, true, false, refl, sym, ap, ◌∙◌, subst, arith, Bool}
+use Rattle.std.proofs.Common.{◌≡◌, ℕ, ◌<◌, List, length, true, sym, ap, ◌∙◌, subst, arith, Bool}
 use Rattle.std.specs.Prelude.{map, Ok, Err, None, IsTrue, IfOk, IfErr, OnErr}
 use Rattle.std.specs.declared.result.Result.{Result}
 use Rattle.mont_base.specs.Image.{clock_of}
@@ -17,6 +17,7 @@ use Rattle.advance.specs.Advance.{IsAdvanced, IsSameSeat, IsUnderWay, HasReason,
 use Rattle.advance.proofs.Ways.{same_layout}
 use Rattle.caller.specs.Telling.{has_mark}
 use Rattle.caller.proofs.TakenNotes.{joined_has, odd_has, or_right}
+use Rattle.montage.specs.Attempting.{HasAdvanced}
 use Rattle.montage.specs.Ticking.{Advances, HasLearntClock, HasTicked, seat_shown}
 
 module _ (heap : HeapShown) (found behind : AdvShown) (q r : CallerShown)
@@ -112,3 +113,19 @@ ticked_by heap found shown behind q told r answer of_heap shows seat same noted 
     answer of_heap (subst (λ (a : AdvShown). IsSameSeat a behind) shows seat) begun
     (subst (λ (a : AdvKnown). Advances a behind.known answer) held (advances_by shown.known behind.known answer done left why))
     (subst (λ (a : AdvKnown). IsAtEnd a → answer ≡ Err ClockEnd) held at_end)
+
+-- and what was done alone is an advance
+pub attempted : (named heap : HeapShown) (found behind : AdvShown) (answer : Result ℕ AdvanceRefusal) → heap ≡ named
+    → IsAdvancerOf named found → IsSameSeat found behind → IfOk answer (λ clock. IsAdvanced found.known clock behind.known)
+    → OnErr answer (IsUnderWay found.known behind.known) → IfErr answer (λ why. HasReason why found.known behind.known)
+    → IfOk answer (λ clock. clock_of heap.opening.words < clock) → (IsAtEnd found.known → answer ≡ Err ClockEnd)
+    → HasAdvanced named answer
+attempted named heap found behind answer same fits seat done left why begun at_end = record {
+  found = found;
+  behind = behind;
+  of_heap = fits;
+  same = seat;
+  advances = advances_by found.known behind.known answer done left why;
+  begun = subst (λ (h : HeapShown). IfOk answer (λ clock. clock_of h.opening.words < clock)) same begun;
+  at_end = at_end;
+}

@@ -4,4 +4,5 @@ pub mod Store
 pub mod MapBoxes
 pub mod FreshStore
 pub mod Ticking
+pub mod Attempting
 pub mod SeatsBack

@@ -8,15 +8,15 @@ use Rattle.mont_base.specs.declared.operation.Reply.{Reply}
 use Rattle.mont_base.specs.declared.refusal.CallRefusal.{CallRefusal}
 use Rattle.mont_base.specs.declared.refusal.CallRefusal.TheVariants.{Halted, CountEnd, Memory, Full, Cut}
 use Rattle.mont_base.specs.declared.refusal.Which.{Which}
+use Rattle.mont_base.specs.Counting.{effects_then}
 use Rattle.mont_base.specs.History.{state_after}
 use Rattle.mont_base.specs.Image.{clock_of, IsRecovered}
 use Rattle.mont_base.specs.Room.{room_of}
 use Rattle.mont_base.specs.Seen.{ContinuesView}
 use Rattle.mont_base.specs.State.{State, step, unit_of_op}
 use Rattle.job_text.specs.AnsweredLines.{records_in}
-use Rattle.job_text.specs.Causes.{effects_then, IsAtEnd, LacksRoom}
+use Rattle.job_text.specs.Causes.{IsAtEnd, LacksRoom}
 use Rattle.core_steps.specs.declared.parts.Mark.{Mark}
-use Rattle.core_steps.specs.CallAnswers.{entry_of}
 use Rattle.core_steps.specs.CallerClauses.{view_of}
 use Rattle.core_steps.specs.Opened.{opened_at}
 use Rattle.core_steps.specs.Sound.{base_state}
@@ -29,7 +29,7 @@ use Rattle.structure_call.specs.Calling.{HasAnsweredCall, LeavesCall, was_checke
 use Rattle.structure_call.specs.Checking.{MayBeCalled}
 use Rattle.structure_call.specs.Standing.{IsStanding}
 use Rattle.caller.specs.Telling.{has_mark}
-use Rattle.job_worker.specs.Asking.{opened_records}
+use Rattle.job_worker.specs.Asking.{HasContinued, opened_records}
 use Rattle.montage.specs.UnitAt.{IsSeated}
 
 -- This holds of what the unit held when the store was opened, by whatever states recovery gives.
@@ -45,23 +45,17 @@ abbrev pub RepliesBehind : HeapShown → ℕ → List Entry → Op → Reply →
 RepliesBehind heap unit history op reply =
     HoldsOfBase heap unit (λ base. reply ≡ (step (state_after base history) op).reply)
 
--- The call is one entry of the unit's history. The entry stands behind all that the caller had
--- seen, at no earlier epoch; from then on the caller has seen it, and all entries before it.
+-- The call is one entry of its unit, behind all that the caller had seen. Its reply is that of the
+-- plain structure behind the entries before it, and of that unit the caller has then seen it and
+-- all of these.
 pub record ContinuesCaller
     (heap : HeapShown) (q r : CallerShown) (op : Op) (receipt : Receipt) : Type 0 where
   pub table : r.table ≡ q.table
-  pub caller : r.known.caller ≡ q.known.caller
-  pub of_unit : unit_of_op heap.opening.layout op ≡ Some receipt.unit
-  pub entry : receipt.entry
-      ≡ entry_of q.known.caller q.known.part op receipt.entry.reply receipt.entry.epoch
+  pub continued : HasContinued heap.opening q.known r.known op receipt
   pub continues : ContinuesView (view_of q.known.part) (view_of r.known.part) receipt
-  pub durable : q.known.part.durable ≤ receipt.entry.epoch
-  pub receipts : r.known.part.receipts ≡ q.known.part.receipts ++ receipt ∷ []
-  pub history : List Entry
-  pub place : receipt.place ≡ length history
-  pub replies : RepliesBehind heap receipt.unit history op receipt.entry.reply
-  pub seen : r.known.entries
-      ≡ slice_set q.known.entries receipt.unit (history ++ receipt.entry ∷ [])
+  pub replies : RepliesBehind heap receipt.unit continued.history op receipt.entry.reply
+  pub entries : r.known.entries
+      ≡ slice_set q.known.entries receipt.unit (continued.history ++ receipt.entry ∷ [])
 
 -- and what the unit was before and behind it
 pub record IsAnswered

@@ -12,6 +12,11 @@ impl<N: HeapName, I: Index, A: Gate> Advances<A> for Store<N, I> {
 
     ghost gate_endless = { A.endless };
 
+    ghost use Rattle.montage.specs.Attempting.{HasAdvanced};
+
+    ghost tried = { λ _ _ _ answer. HasAdvanced N.heap answer };
+
+    #[tactic(auto, using(crate::proofs::Ticks::attempted))]
     fn attempt<R: Wait>(&self, rt: &R, gate: &mut A) -> Result<Epoch, AdvanceRefusal> {
         let mut guard = self.advancer.lock(rt);
         let named = &mut *guard;

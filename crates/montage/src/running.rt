@@ -1,11 +1,13 @@
 // A job is run on a store.
-ghost use Rattle.std.specs.Prelude.{◌≡◌, Bool, List, Option, Some, All, map, IfOk, OnErr};
+ghost use Rattle.std.specs.Prelude.{◌≡◌, ◌⊎◌, Bool, List, Option, Some, All, map, IfOk, OnErr};
 ghost use Rattle.heap.specs.GateAsked.{IsAskedOften};
 ghost use Rattle.heap_pass.specs.Kept.{IsWhole};
 ghost use Rattle.job_text.specs.declared.job.Line.{Line as LineModel};
 ghost use Rattle.job_text.specs.declared.outcome.Outcome.{Outcome as OutcomeModel};
 ghost use Rattle.job_worker.specs.Ending.{MayBeAsked};
 ghost use Rattle.job_run.specs.Run.{IsFresh, AreWorked};
+ghost use Rattle.job_run.specs.Tries.{HasTried};
+ghost use Rattle.montage.specs.Attempting.{HasAdvanced};
 ghost use Rattle.montage.specs.Store.{AreAllCallers, IsWholePass};
 
 use crate::store::Store;
@@ -46,7 +48,14 @@ pub fn run<R: Threads + Wait + Sync, N: HeapName + Send, I: Index + Send, G: Gat
         × AreWorked N.heap.opening (λ p. IsWholePass N.heap p.ticket p.receipts.items)
         (λ p. p.ticket.known) (λ p. G.cuts p.gate) (λ p. G.endless p.gate) job.now
         passes.old.items passes.new.items done) }
-    ensures gate { (cut : Bool) × IsAskedOften G.cuts G.endless gate.old gate.new cut }
+    ensures gate { IfOk result (λ ran. IsAskedOften G.cuts G.endless gate.old gate.new
+        ran.advancer_cut) }
+    ensures tries { IfOk result (λ ran. HasTried (λ _ _ answer. HasAdvanced N.heap answer)
+        job.now.attempts gate.old gate.new ran.advancer_cut) }
+    ensures untried { OnErr result ((gate.new ≡ gate.old) ⊎ ((cut : Bool)
+        × IsAskedOften G.cuts G.endless gate.old gate.new cut
+        × HasTried (λ _ _ answer. HasAdvanced N.heap answer) job.now.attempts gate.old gate.new
+        cut)) }
 {
     let _heap = store.heap();
     run_job(rt, alloc, store, job, passes, gate)

@@ -31,8 +31,8 @@ use std::vec::IntoIter;
 impl<N: HeapName, I: Index> Store<N, I> {
     /// Opens a store that was never used, with its heap and all seats of it, and gives the pass of
     /// each caller. Each map unit is given the next of the boxes, in their order, which is to be
-    /// empty; boxes behind the last map unit are dropped. After a refusal the heap is gone. A layout
-    /// with an ordered unit is none that a store serves yet (`serves_all`).
+    /// empty; boxes behind the last map unit are dropped. After a refusal the heap is gone. A
+    /// layout with an ordered unit is none that a store serves yet (`serves_all`).
     pub fn fresh<G: Gate + Drop>(
         alloc: Global,
         heap: Heap,

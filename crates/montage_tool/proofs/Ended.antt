@@ -1,5 +1,5 @@
 -- A job that was run on a store that was then stopped, and the report of it.
-use Rattle.std.proofs.Common.{◌≡◌, ◌≢◌, ℕ, List, [], length, map, replicate, refl, sym, ap, ◌∙◌, subst, arith}
+use Rattle.std.proofs.Common.{◌≡◌, ◌≢◌, ℕ, Bool, List, [], length, map, replicate, refl, sym, ap, ◌∙◌, subst, arith}
 use Rattle.std.specs.Prelude.{All, Option, Some, None, IsSome, Ok, Err, IfOk, OnErr}
 use Rattle.std.specs.declared.result.Result.{Result}
 use Rattle.std.proofs.lemmas.List.{length-map}
@@ -190,12 +190,13 @@ module _ {P : Type 0} (j : Job) (heap : HeapShown) (units : List UnitShown) (adv
           → IfOk stopped (λ (t : Stopped). IsBaseOf heap.opening t.base_clock (states_of t.base))
           → IfOk stopped (λ (t : Stopped). IsStopped heap.opening.layout t.base_clock t.base (map ticket news) t)
           → (result : Result X E)
-          → IfOk result (λ (x : X). (ran ≡ Ok (record { outcomes = outcomes x })) × (stopped ≡ Ok (store x)))
+          → IfOk result (λ (x : X). ((cut : Bool) × (ran ≡ Ok (record { outcomes = outcomes x; advancer_cut = cut })))
+          × (stopped ≡ Ok (store x)))
           → IfOk result (λ (x : X). HasEnded j (outcomes x) (store x))
       ended_of gates lent are outcomes store stopped base stops (Ok x) is =
           has_ended j heap opens.opening has ticket gate olds news dealt_first (subst (AreGates j.stops j.callers) (sym lent) are)
           (outcomes x) (store x)
-          (subst (λ (r : Result Ran F). IfOk r (λ (y : Ran). Leaves (map Some y.outcomes))) is.0 worked)
+          (subst (λ (r : Result Ran F). IfOk r (λ (y : Ran). Leaves (map Some y.outcomes))) is.0.1 worked)
           (subst (λ (r : Result Stopped F). IfOk r (λ (t : Stopped). IsBaseOf heap.opening t.base_clock (states_of t.base))) is.1 base)
           (subst (λ (r : Result Stopped F).
           IfOk r (λ (t : Stopped). IsStopped heap.opening.layout t.base_clock t.base (map ticket news) t)) is.1 stops)

@@ -1,12 +1,12 @@
 -- A job that was read, and a report that was sent, make a run of the job.
-use Rattle.std.proofs.Common.{◌≡◌, ◌⊎◌, ℕ, ◌<◌, Bool, true, false, List, length, inl, inr, refl, sym, ap, ◌∙◌, subst, arith}
+use Rattle.std.proofs.Common.{◌≡◌, ◌⊎◌, ℕ, ◌<◌, Bool, true, false, List, [], ◌++◌, length, take, take-append-drop, length-take, inl, inr, refl, sym, ap, ◌∙◌, subst, arith}
 use Rattle.std.specs.Prelude.{Option, Some, None, IfSome, Result, Ok, Err, OnOk, OnErr}
 use Rattle.std.specs.Io.KnownBytes.{Appends, IsAtEnd}
 use Rattle.std.proofs.lemmas.List.{take_all}
 use Rattle.mont_base.specs.Faults.{HasCause}
 use Rattle.mont_base.specs.Layout.{Shape}
+use Rattle.mont_base.specs.Losses.{LosesAtMost, LosesFirst}
 use Rattle.job_text.specs.declared.job.Job.{Job}
-use Rattle.job_text.specs.declared.grammar.Grammar.TheVariants.{Whole}
 use Rattle.job_text.specs.declared.job.JobFault.{JobFault}
 use Rattle.job_text.specs.declared.job.JobFault.TheVariants as faults
 use Rattle.job_text.specs.Grammar.{IsJob}
@@ -20,7 +20,7 @@ use Rattle.job_text.specs.Refused.{IsOutside}
 use Rattle.job_text.specs.Taken.{HasLostSome, IsTaken, TellsFaults}
 use Rattle.montage.specs.FreshStore.{serves_all}
 use Rattle.montage.specs.MapBoxes.{keys_for, HaveEmptyBoxes, IsFirstLack}
-use Rattle.montage_tool.specs.Delivery.{AppendsPrefix}
+use Rattle.mont_base.specs.Delivery.{AppendsFront}
 use Rattle.montage_tool.specs.declared.status.Status.{Status}
 use Rattle.montage_tool.specs.declared.status.Status.TheVariants.{Done, BadWords, BadJob, ReadFault, WriteFault, Memory, BadIndex}
 use Rattle.montage_tool.specs.declared.status.SourceName.{SourceName}
@@ -30,6 +30,13 @@ use Rattle.montage_tool.specs.declared.status.SinkName.TheVariants as sinks
 use Rattle.montage_tool.specs.ReportedRun.{IsRun}
 use Rattle.montage_tool.specs.Program.{IsSaid}
 use Rattle.montage_tool.specs.Montage.{IsJobOf, IsUnserved, Reports, IsSent, RefusesBoxes, IsReported, RunsJob, status_of_refusal}
+
+-- what has lost its first bytes has lost some of them
+pub lost_some : (most : ℕ) (old new : Option (List ℕ)) → LosesFirst most old new → LosesAtMost most old new
+lost_some most None new lost = ([], omega arith, tt)
+lost_some most (Some bytes) None lost = absurd lost
+lost_some most (Some bytes) (Some rest) lost =
+    (take most bytes, omega (arith, length-take most bytes), sym (take-append-drop most bytes) ∙ ap (λ l. take most bytes ++ l) (sym lost))
 
 -- what is known of the source once a job was read
 pub record HasJob {J : Type 0} (left : J → Option (List ℕ)) (faults : J → ℕ) (job read : J) (j : Job) : Type 0 where
@@ -216,7 +223,7 @@ module _
 
       told : (line : ℕ) (fault : JobFault) → BadJob 1 faults.Header ≡ BadJob line fault → (o : Option (List ℕ))
           → IfSome o (λ text. text ≡ job_text j)
-          → IfSome o (λ text. IsFirstRefused Whole text line fault ⊎ IsUnserved text line fault)
+          → IfSome o (λ text. IsFirstRefused text line fault ⊎ IsUnserved text line fault)
       told line fault e None h = h
       told line fault e (Some text) h = inr (record {
         job = j;
@@ -262,7 +269,7 @@ module _
 
   pub run_unread : (refusal : JobRefusal)
       → ((line : ℕ) (fault : JobFault) → refusal ≡ refusals.Text line fault
-      → IfSome (left job) (λ text. IsFirstRefused Whole text line fault))
+      → IfSome (left job) (λ text. IsFirstRefused text line fault))
       → ((i : Job) → IsJob i → left job ≡ Some (job_text i) → IsOutside refusal)
       → IsTaken {J = Job} (left job) (left read) (Err refusal)
       → TellsFaults {J = Job} (read_faults job) (read_faults read) (Err refusal)
@@ -271,7 +278,7 @@ module _
   run_unread (refusals.Text line fault) refused outside took cause = record {
     done = λ e. absurd (cc);
     whole = λ e. absurd (cc);
-    few = (READ_BYTES, omega arith, took);
+    few = lost_some READ_BYTES (left job) (left read) took;
     words = λ e. absurd (cc);
     bad_job = λ l f e. weaker _ _ (left job) (refused l f (λ i. refusals.Text (ap line_in e i) (ap fault_in e i)));
     accepted = λ i l f is text kinds e. absurd (outside i is text);
@@ -320,7 +327,7 @@ module _
 -- ---- a line that is told
 module _ {O : Type 0} (taken : O → Option (List ℕ)) (faults : O → ℕ) (out told : O) (line : List ℕ) where
   pub told_line : {E : Type 0} (result : Result (Unit {0}) E) → OnOk result (Appends (taken out) (taken told) line)
-      → OnErr result (AppendsPrefix (taken out) (taken told) line) → HasCause (faults out) (faults told) result
+      → OnErr result (AppendsFront (taken out) (taken told) line) → HasCause (faults out) (faults told) result
       → IsSaid taken faults out told line
   told_line (Ok done) all part cause = record {
     front = (length line, omega arith, subst (Appends (taken out) (taken told)) (sym (take_all (length line) line (omega arith))) all);

@@ -1,6 +1,5 @@
 pub mod RunGates
 pub mod ReportedRun
-pub mod Delivery
 pub mod Status
 pub mod Forms
 pub mod Montage

@@ -7,7 +7,6 @@ use Rattle.job_text.specs.declared.job.JobFault.{JobFault}
 use Rattle.job_text.specs.declared.job.JobFault.TheVariants as faults
 use Rattle.job_text.specs.declared.job_refusal.JobRefusal.{JobRefusal}
 use Rattle.job_text.specs.declared.job_refusal.JobRefusal.TheVariants as refusals
-use Rattle.job_text.specs.declared.grammar.Grammar.TheVariants.{Whole}
 use Rattle.job_text.specs.Grammar.{IsJob}
 use Rattle.job_text.specs.JobText.{IsFirstRefused, job_text}
 use Rattle.job_text.specs.Report.{Report}
@@ -17,7 +16,7 @@ use Rattle.montage.specs.declared.open_refusal.OpenRefusal.{OpenRefusal}
 use Rattle.montage.specs.declared.open_refusal.OpenRefusal.TheVariants as openings
 use Rattle.montage.specs.FreshStore.{serves_all}
 use Rattle.montage.specs.MapBoxes.{HaveEmptyBoxes, IsFirstLack}
-use Rattle.montage_tool.specs.Delivery.{AppendsPrefix}
+use Rattle.mont_base.specs.Delivery.{AppendsFront}
 use Rattle.montage_tool.specs.declared.status.Status.{Status}
 use Rattle.montage_tool.specs.declared.status.Status.TheVariants.{Done, BadWords, BadJob, ReadFault, WriteFault, Memory, BadIndex}
 use Rattle.montage_tool.specs.declared.status.SourceName.{SourceName}
@@ -57,7 +56,7 @@ IsSent taken faults old new bytes Done =
     Appends (taken old) (taken new) bytes × (faults new ≡ faults old)
 IsSent taken faults old new bytes (WriteFault which) =
     (which ≡ sinks.Report) × Rose (faults old) (faults new)
-    × AppendsPrefix (taken old) (taken new) bytes
+    × AppendsFront (taken old) (taken new) bytes
 IsSent taken faults old new bytes BadWords = ⊥
 IsSent taken faults old new bytes (BadJob line fault) = ⊥
 IsSent taken faults old new bytes (ReadFault which) = ⊥
@@ -114,7 +113,7 @@ pub record RunsJob {J O : Type 0} (left : J → Option (List ℕ)) (read_faults 
   pub bad_job :
       (line : ℕ) (fault : JobFault) → status ≡ BadJob line fault
       → IfSome (left job) (λ text.
-      IsFirstRefused Whole text line fault ⊎ IsUnserved text line fault)
+      IsFirstRefused text line fault ⊎ IsUnserved text line fault)
   pub accepted :
       (j : Job) (line : ℕ) (fault : JobFault) → IsJob j → left job ≡ Some (job_text j)
       → serves_all j.layout ≡ true → status ≢ BadJob line fault
@@ -140,7 +139,7 @@ pub record RunsJob {J O : Type 0} (left : J → Option (List ℕ)) (read_faults 
       (which : SinkName) → status ≡ WriteFault which
       → (which ≡ sinks.Report) × Rose (write_faults out) (write_faults written)
       × ((bytes : List ℕ) × Reports (left job) boxes bytes
-      × AppendsPrefix (taken out) (taken written) bytes)
+      × AppendsFront (taken out) (taken written) bytes)
   pub write_kept :
       ((which : SinkName) → status ≢ WriteFault which) → write_faults written ≡ write_faults out
   -- with every other status nothing was written

@@ -2,7 +2,7 @@
 use Rattle.std.specs.Prelude.{◌≡◌, ℕ, ◌≤◌, List, Option}
 use Rattle.std.specs.Io.KnownBytes.{Appends}
 use Rattle.mont_base.specs.Faults.{Rose}
-use Rattle.montage_tool.specs.Delivery.{AppendsPrefix}
+use Rattle.mont_base.specs.Delivery.{AppendsFront}
 use Rattle.montage_tool.specs.Forms.{AreRun, AreHelp, AreVersion}
 use Rattle.montage_tool.specs.Montage.{IsSent, RunsJob}
 use Rattle.montage_tool.specs.declared.about.TheConstants.{HELP, VERSION}
@@ -28,6 +28,6 @@ pub record Answers {J O : Type 0} (left : J → Option (List ℕ)) (read_faults 
 -- A line is told once: a front of it, and the whole where the sink doesn't fail.
 pub record IsSaid {O : Type 0} (taken : O → Option (List ℕ)) (faults : O → ℕ) (out told : O)
     (line : List ℕ) : Type 0 where
-  pub front : AppendsPrefix (taken out) (taken told) line
+  pub front : AppendsFront (taken out) (taken told) line
   pub later : faults out ≤ faults told
   pub whole : ¬ Rose (faults out) (faults told) → Appends (taken out) (taken told) line

@@ -7,7 +7,6 @@ ghost use Rattle.montage_tool.specs.Program.{Answers};
 mod about;
 mod adapters;
 mod command_line;
-mod delivery;
 mod forms;
 mod gates;
 #[cfg(test)]

@@ -73,9 +73,9 @@ struct Meeting {
 impl Drop for Meeting {
     fn drop(self) {
         self.signals.dropped.fetch_add(1, Ordering::SeqCst);
-        self.known.pairs.store(self.index.len(), Ordering::SeqCst);
+        self.held.pairs.store(self.index.len(), Ordering::SeqCst);
         let place = self.index.find(self.key).unwrap_or(u64::MAX);
-        self.known.place.store(place, Ordering::SeqCst);
+        self.held.place.store(place, Ordering::SeqCst);
         let Meeting {
             index: _,
             key: _,

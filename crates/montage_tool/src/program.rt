@@ -7,11 +7,10 @@ ghost use Rattle.montage_tool.specs.Program.{Answers, IsSaid};
 ghost use Rattle.montage_tool.specs.Status.{exit_code_of, status_line};
 
 use crate::about::question_of;
-use crate::delivery::deliver;
 use crate::status::{Status, exit_code, status_text};
 use crate::top_call::{montage, send};
 use index_kit::Index;
-use mont_base::{Sink, Source};
+use mont_base::{Sink, Source, deliver};
 use std::alloc::{AllocError, Global};
 use std::process::ExitCode;
 use std::sync::Wait;
@@ -40,13 +39,13 @@ pub(crate) fn answer<
     ensures image_out { image_out.new ≡ image_out.old }
 {
     match question_of(words) {
-        Some(question) => say(out, question.text()),
+        Some(question) => send_text(out, question.text()),
         None => montage(rt, words, job, image, indexes, out, image_out),
     }
 }
 
-// Says a text.
-fn say<O: Sink>(out: &mut O, text: &str) -> Status
+// Sends a text.
+fn send_text<O: Sink>(out: &mut O, text: &str) -> Status
     ensures { IsSent O.taken O.faults out.old out.new text.now result }
 {
     send(out, text.as_bytes())
@@ -59,7 +58,7 @@ pub(crate) fn exit_of(status: &Status) -> ExitCode
     ExitCode::from(exit_code(status))
 }
 
-// Tells a status other than `Done` by its line. Without memory for the line nothing is written.
+// Says a status other than `Done` by its line. Without memory for the line nothing is written.
 pub(crate) fn say<O: Sink>(alloc: Global, out: &mut O, status: &Status) -> Result<(), AllocError>
     ensures told { OnOk result
         (IsSaid O.taken O.faults out.old out.new (status_line status.now)) }

@@ -1,5 +1,5 @@
 // A run of a job: from its lines to its report.
-ghost use Rattle.std.specs.Prelude.{◌≡◌, true, map, Ok, IfOk, IfErr, OnOk};
+ghost use Rattle.std.specs.Prelude.{◌≡◌, Bool, true, map, Ok, IfOk, IfErr, OnOk};
 ghost use Rattle.std.specs.FinMap as finite;
 ghost use Rattle.heap.specs.Opens.{Opens};
 ghost use Rattle.job_text.specs.Grammar.{IsJob};
@@ -89,7 +89,8 @@ fn ended_with(
     ran: Result<Ran, AllocError>,
     stopped: Result<Stopped, AllocError>,
 ) -> Result<Ended, OpenRefusal>
-    ensures ended { IfOk result (λ e. (ran ≡ Ok (record { outcomes = e.outcomes }))
+    ensures ended { IfOk result (λ e. ((cut : Bool)
+        × (ran ≡ Ok (record { outcomes = e.outcomes; advancer_cut = cut })))
         × (stopped ≡ Ok e.stopped)) }
     ensures memory { IfErr result (λ why. why ≡ OpenRefusal.Memory) }
 {

@@ -10,13 +10,12 @@ ghost use Rattle.montage_tool.specs.Montage.{IsSent, IsReported, RunsJob, status
 ghost use Rattle.montage_tool.specs.ReportedRun.{IsRun};
 ghost use Rattle.montage_tool.specs.Forms.{AreRun};
 
-use crate::delivery::deliver;
 use crate::forms::{Form, form_of};
 use crate::reported_run::run_for_report;
 use crate::status::{SinkName, SourceName, Status};
 use index_kit::Index;
 use job_text::{Job, JobFault, JobRefusal, read_job, write_report};
-use mont_base::{Sink, Source};
+use mont_base::{Sink, Source, deliver};
 use montage::{OpenRefusal, serves_all};
 use std::alloc::Global;
 use std::sync::Wait;

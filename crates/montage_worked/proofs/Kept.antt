@@ -34,7 +34,7 @@ of_why heap unit q r op (Cut cut) k = record {
 pub same_caller : (heap : HeapShown) (q r : CallerShown) (op : Op) (x : Result Receipt CallRefusal)
     → IfOk x (λ (receipt : Receipt). IsAnswered heap q r op receipt) → IfErr x (λ (why : CallRefusal). IsRefused heap q r op why)
     → IsSameCaller q r
-same_caller heap q r op (Ok receipt) a k = record { table = a.caller.table; caller = a.caller.caller }
+same_caller heap q r op (Ok receipt) a k = record { table = a.caller.table; caller = a.caller.continued.goes_on.caller }
 same_caller heap q r op (Err why) a k = of_why heap k.unit q r op why k.learnt
 
 pub same_seat : (heap : HeapShown) (k : ℕ) (q r : CallerShown) → IsSeatOfCaller heap k q → IsSameCaller q r → IsSeatOfCaller heap k r

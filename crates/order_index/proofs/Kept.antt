@@ -4,10 +4,10 @@ use Rattle.std.proofs.lemmas.List.{length-drop}
 use Rattle.std.specs.FinMap as finite
 use Rattle.mont_base.specs.State.{Key}
 use Rattle.index_kit.specs.Index.{Places, Entries, IndexView, CanPut}
-use Rattle.order_index.specs.OrderIndex.{IsKept, IsHeldAt, IsMissingAt}
+use Rattle.order_index.specs.OrderIndex.{IsKeptInOrder, IsHeldAt, IsMissingAt}
 use Rattle.order_index.proofs.Listed.{listed, rises, got_none, set_held, put_in, taken_out}
 
-module _ (es waiting : Entries) (v : IndexView) (kept : IsKept es waiting)
+module _ (es waiting : Entries) (v : IndexView) (kept : IsKeptInOrder es waiting)
     (is : record { places = finite.from_sorted es; spare = length waiting } ≡ v) where
   pub entries_of : finite.entries v.places ≡ es
   entries_of = listed v.places es kept.sorted (ap (λ (w : IndexView). w.places) is)
@@ -19,15 +19,15 @@ module _ (es waiting : Entries) (v : IndexView) (kept : IsKept es waiting)
       let room : 1 ≤ v.spare = can (got_none v.places es entries_of key at missing) in
       omega (arith, spare, room)
 
-module _ (es waiting : Entries) (kept : IsKept es waiting) (m : Places) (is : finite.entries m ≡ es) (key : Key) (at : ℕ) where
-  pub set_kept : IsHeldAt es key at → (place : ℕ) → IsKept (set es at (key, place)) waiting
+module _ (es waiting : Entries) (kept : IsKeptInOrder es waiting) (m : Places) (is : finite.entries m ≡ es) (key : Key) (at : ℕ) where
+  pub set_kept : IsHeldAt es key at → (place : ℕ) → IsKeptInOrder (set es at (key, place)) waiting
   set_kept held place = record {
     sorted = rises _ _ (set_held m es is key at held place);
     one = kept.one;
     few = let n = length-set es at (key, place) in omega (arith, n, kept.few);
   }
 
-  pub put_kept : IsMissingAt es key at → 1 ≤ length waiting → (place : ℕ) → IsKept (take at es ++ (key, place) ∷ drop at es) []
+  pub put_kept : IsMissingAt es key at → 1 ≤ length waiting → (place : ℕ) → IsKeptInOrder (take at es ++ (key, place) ∷ drop at es) []
   put_kept missing room place = record {
     sorted = rises _ _ (put_in m es is key at missing place);
     one = omega arith;
@@ -37,7 +37,7 @@ module _ (es waiting : Entries) (kept : IsKept es waiting) (m : Places) (is : fi
         omega (arith, n, t, d, kept.few, room, missing.within);
   }
 
-  pub taken_kept : IsHeldAt es key at → IsKept (take at es ++ drop (at + 1) es) waiting
+  pub taken_kept : IsHeldAt es key at → IsKeptInOrder (take at es ++ drop (at + 1) es) waiting
   taken_kept held = record {
     sorted = rises _ _ (taken_out m es is key at held);
     one = kept.one;
@@ -53,7 +53,8 @@ one_set [] x e = absurd (omega arith)
 one_set (y ∷ []) x e = refl
 one_set (y ∷ z ∷ w) x e = absurd (omega arith)
 
-pub put_new : (es waiting node new : Entries) (at : ℕ) (x : Key × ℕ) → IsKept es waiting → 1 ≤ length waiting → node ≡ set waiting 0 x
+pub put_new : (es waiting node new : Entries) (at : ℕ) (x : Key × ℕ) → IsKeptInOrder es waiting → 1 ≤ length waiting
+    → node ≡ set waiting 0 x
     → new ≡ take at es ++ node ++ drop at es → new ≡ take at es ++ x ∷ drop at es
 put_new es waiting node new at x kept room is made =
     let alone : node ≡ x ∷ [] = is ∙ one_set waiting x (omega (arith, kept.one, room)) in

@@ -1,5 +1,5 @@
 mod Kept
 mod Listed
 mod Placed
-mod Prefixes
+pub mod Prefixes
 mod Ranged

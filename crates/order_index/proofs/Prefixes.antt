@@ -1,13 +1,16 @@
 -- Of entries by rising key, those up to a key are the first ones, and those between two keys stand together.
-use Rattle.std.proofs.Common.{◌⊎◌, inl, inr, ◌≡◌, ℕ, zero, suc, ◌+◌, ◌-◌, ◌<◌, ◌≤◌, Bool, true, false, List, [], ◌∷◌, length, take, drop, Option, Some, refl, sym, ap, ◌∙◌, arith, length-take, length-drop}
+use Rattle.std.proofs.Common.{◌⊎◌, inl, inr, ◌≡◌, ℕ, zero, suc, ◌+◌, ◌-◌, ◌<◌, ◌≤◌, Bool, true, false, List, [], ◌∷◌, length, take, drop, refl, sym, ap, ◌∙◌, arith, length-take, length-drop}
 use Rattle.std.specs.Prelude.{◌&&◌, not, slice_get}
 use Rattle.std.specs.declared.cmp.Ordering.{Ordering}
 use Rattle.std.specs.declared.cmp.Ordering.TheVariants.{Less, Equal, Greater}
 use Rattle.std.specs.Ordering.{is_lt, is_le, ordering_reverse}
-use Rattle.std.specs.List.{filter, last_or}
+use Rattle.std.specs.List.{filter}
 use Rattle.std.specs.Cmp.{IsTotalOrder, second_so}
 use Rattle.std.specs.FinMap.Entries.{is_sorted, below_all}
 use Rattle.std.proofs.Math.Seq.{drop-nil}
+use Rattle.std.proofs.lemmas.Bool.{cases_lt}
+use Rattle.std.proofs.lemmas.List.Filters.{length-filter_both}
+use Rattle.mont_base.specs.State.{last_of}
 use Rattle.counted_tree.specs.Order.{stands_before, count_to, count_below, count_up_to}
 use Rattle.counted_tree.proofs.Counts.{none_from}
 
@@ -20,6 +23,35 @@ turned Less = refl
 turned Equal = refl
 turned Greater = refl
 
+-- ---- what is at a place of the first ones
+module _ {A : Type 0} where
+  of_take : (n : ℕ) (xs : List A) (i : ℕ) → i < n → slice_get (take n xs) i ≡ slice_get xs i
+  of_take zero xs i l = absurd (omega arith)
+  of_take (suc n) [] i l = refl
+  of_take (suc n) (x ∷ xs) zero l = refl
+  of_take (suc n) (x ∷ xs) (suc i) l = of_take n xs i (omega arith)
+
+  pub last_first : (n : ℕ) (xs : List A) → 1 ≤ n → n ≤ length xs → last_of (take n xs) ≡ slice_get xs (n - 1)
+  last_first n xs some within =
+      let t : length (take n xs) ≡ n = omega (arith, length-take n xs, within) in
+      ap (λ k. slice_get (take n xs) (k - 1)) t ∙ of_take n xs (n - 1) (omega (arith, some))
+
+  -- of those behind a place, up to another
+  pub middle_length : (a b : ℕ) (xs : List A) → b ≤ length xs → length (drop a (take b xs)) ≡ b - a
+  middle_length a b xs within = let d = length-drop a (take b xs) in let t = length-take b xs in omega (arith, d, t, within)
+
+  -- where the other is before the place there are none
+  pub none_middle : (a b : ℕ) (xs : List A) → b ≤ a → drop a (take b xs) ≡ drop a (take a xs)
+  none_middle a b xs less =
+      none a (take b xs) (omega (arith, length-take b xs, less)) ∙ sym (none a (take a xs) (omega (arith, length-take a xs)))
+    where
+      none : (n : ℕ) (ys : List A) → length ys ≤ n → drop n ys ≡ []
+      none zero [] h = refl
+      none zero (y ∷ ys) h = absurd (omega arith)
+      none (suc n) [] h = refl
+      none (suc n) (y ∷ ys) h = none n ys (omega arith)
+
+-- ---- entries in order
 module _ {K X : Type 0} {R : K → K → Ordering} (o : IsTotalOrder R) where
   tail : (e : K × X) (es : List (K × X)) → is_sorted R (e ∷ es) ≡ true → is_sorted R es ≡ true
   tail e es s = second_so (below_all R e.0 es) (is_sorted R es) s
@@ -66,26 +98,19 @@ module _ {K X : Type 0} {R : K → K → Ordering} (o : IsTotalOrder R) where
               ]
         ]
 
--- ---- what is at a place of the first ones
-module _ {A : Type 0} where
-  pub last_first : (o : Option A) (n : ℕ) (xs : List A) → n < length xs → last_or o (take (suc n) xs) ≡ slice_get xs n
-  last_first o n [] h = absurd (omega arith)
-  last_first o zero (x ∷ xs) h = refl
-  last_first o (suc n) (x ∷ xs) h = last_first (Some x) n xs (omega arith)
-
-  of_take : (n : ℕ) (xs : List A) (i : ℕ) → i < n → slice_get (take n xs) i ≡ slice_get xs i
-  of_take zero xs i l = absurd (omega arith)
-  of_take (suc n) [] i l = refl
-  of_take (suc n) (x ∷ xs) zero l = refl
-  of_take (suc n) (x ∷ xs) (suc i) l = of_take n xs i (omega arith)
-
-  of_drop : (a : ℕ) (xs : List A) (i : ℕ) → slice_get (drop a xs) i ≡ slice_get xs (a + i)
-  of_drop zero xs i = let e : 0 + i ≡ i = omega arith in ap (slice_get xs) (sym e)
-  of_drop (suc a) [] i = let e : suc a + i ≡ suc (a + i) = omega arith in ap (slice_get []) (sym e)
-  of_drop (suc a) (x ∷ xs) i = let e : suc a + i ≡ suc (a + i) = omega arith in of_drop a xs i ∙ ap (slice_get (x ∷ xs)) (sym e)
-
-  pub middle_length : (a b : ℕ) (xs : List A) → b ≤ length xs → length (drop a (take b xs)) ≡ b - a
-  middle_length a b xs within = let d = length-drop a (take b xs) in let t = length-take b xs in omega (arith, d, t, within)
-
-  pub middle_at : (a b : ℕ) (xs : List A) (i : ℕ) → i < b - a → slice_get (drop a (take b xs)) i ≡ slice_get xs (a + i)
-  middle_at a b xs i l = of_drop a (take b xs) i ∙ of_take b xs (a + i) (omega (arith, l))
+    -- they stand behind the entries of the lower keys
+    pub between_there : (es : List (K × X)) → is_sorted R es ≡ true
+        → filter is_between es ≡ drop (count_below R from es) (take (count_below R from es + length (filter is_between es)) es)
+    between_there es s =
+        let a = count_below R from es in
+        let b = count_up_to R to es in
+        let middle : filter is_between es ≡ drop a (take b es) = between_middle es s in
+        let both = length-filter_both (λ (e : K × X). is_le (R e.0 to)) (λ (e : K × X). not (is_le (R e.0 to))) (λ e. refl) es in
+        let within : b ≤ length es = omega (arith, both) in
+        let number : length (filter is_between es) ≡ b - a = ap length middle ∙ middle_length a b es within in
+        elim (cases_lt b a) [
+          | inl h ↦ let same : a ≡ a + length (filter is_between es) = omega (arith, number, h) in
+              middle ∙ none_middle a b es (omega (arith, h)) ∙ ap (λ n. drop a (take n es)) same
+          | inr h ↦ let same : b ≡ a + length (filter is_between es) = omega (arith, number, h) in
+              middle ∙ ap (λ n. drop a (take n es)) same
+        ]

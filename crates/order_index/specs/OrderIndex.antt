@@ -6,7 +6,7 @@ use Rattle.index_kit.specs.Index.{Entries}
 use Rattle.counted_tree.specs.Order.{count_below}
 
 -- entries by rising key, and at most one node that waits for a further one
-pub record IsKept (entries waiting : Entries) : Type 0 where
+pub record IsKeptInOrder (entries waiting : Entries) : Type 0 where
   pub sorted : finite.is_sorted key_cmp entries ≡ true
   pub one : length waiting ≤ 1
   pub few : length entries + length waiting ≤ 2 ^ 60

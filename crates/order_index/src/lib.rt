@@ -3,8 +3,10 @@
 #![tactic(auto)]
 
 mod order_index;
+mod stretch;
 
 pub use order_index::OrderIndex;
+pub use stretch::Stretch;
 
 #[cfg(test)]
 mod tests;

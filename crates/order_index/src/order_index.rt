@@ -1,12 +1,12 @@
 // An index in a counted tree by rising key.
-ghost use Rattle.std.specs.Prelude.{◌≡◌, IsTrue, None, MatchResult, length, slice_get};
-ghost use Rattle.std.specs.List.{last_or};
+ghost use Rattle.std.specs.Prelude.{◌≡◌, IsTrue, MatchResult, slice_get};
 ghost use Rattle.std.specs.FinMap as finite;
-ghost use Rattle.mont_base.specs.State.{key_cmp};
+ghost use Rattle.mont_base.specs.State.{key_cmp, last_of};
 ghost use Rattle.counted_tree.specs.Order.{count_below};
 ghost use Rattle.order_index.specs.OrderIndex.{IsHeldAt, IsMissingAt};
-ghost use Rattle.order_index.specs.KeyRanges.{up_to, between};
+ghost use Rattle.order_index.specs.KeyRanges.{up_to, IsStretch};
 
+use crate::stretch::Stretch;
 use counted_tree::Tree;
 use index_kit::Index;
 use mont_base::Text;
@@ -33,7 +33,7 @@ impl Model for OrderIndex {
     ghost use Rattle.std.specs.Prelude.{length};
     ghost use Rattle.std.specs.FinMap as finite;
     ghost use Rattle.index_kit.specs.Index.{IndexView, index_view_code};
-    ghost use Rattle.order_index.specs.OrderIndex.{IsKept};
+    ghost use Rattle.order_index.specs.OrderIndex.{IsKeptInOrder};
 
     ghost Value = { IndexView };
 
@@ -44,7 +44,7 @@ impl Model for OrderIndex {
       spare = length i.waiting;
     } };
 
-    ghost invariant = { λ i. IsKept i.entries i.waiting };
+    ghost invariant = { λ i. IsKeptInOrder i.entries i.waiting };
 }
 
 impl OrderIndex {
@@ -68,7 +68,7 @@ impl OrderIndex {
 
     /// The entry of the greatest key that is at most this one.
     pub fn floor(&self, key: Text) -> Option<(Text, u64)>
-        ensures { result ≡ last_or None (up_to key (finite.entries self.now.places)) }
+        ensures { result ≡ last_of (up_to key (finite.entries self.now.places)) }
     {
         let behind = self.entries.count_up_to(&key);
         if behind == 0 {
@@ -77,25 +77,23 @@ impl OrderIndex {
         self.entries.get(behind - 1).copied()
     }
 
-    /// How many keys there are from one key to another, with both.
-    pub fn count_between(&self, from: Text, to: Text) -> u64
-        ensures { result ≡ length (between from to (finite.entries self.now.places)) }
+    /// Where the entries from one key to another stand, with both.
+    pub fn stretch(&self, from: Text, to: Text) -> Stretch
+        ensures { IsStretch from to (finite.entries self.now.places) result }
     {
         let first = self.entries.count_below(&from);
         let behind = self.entries.count_up_to(&to);
-        behind.saturating_sub(first)
+        Stretch {
+            first,
+            behind: behind.max(first),
+        }
     }
 
-    /// The entry at a place among those from one key to another, with both.
-    pub fn entry_between(&self, from: Text, to: Text, place: u64) -> Option<(Text, u64)>
-        ensures { result ≡ slice_get (between from to (finite.entries self.now.places)) place }
+    /// The entry at a place.
+    pub fn entry_at(&self, place: u64) -> Option<(Text, u64)>
+        ensures { result ≡ slice_get (finite.entries self.now.places) place }
     {
-        let first = self.entries.count_below(&from);
-        let behind = self.entries.count_up_to(&to);
-        if place >= behind.saturating_sub(first) {
-            return None;
-        }
-        self.entries.get(first + place).copied()
+        self.entries.get(place).copied()
     }
 }
 

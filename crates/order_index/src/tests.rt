@@ -52,6 +52,17 @@ fn between_in(entries: &Entries, from: Text, to: Text, place: u64) -> (u64, Opti
     (number as u64, between.nth(place as usize).copied())
 }
 
+// The same by the places that the index tells.
+fn stretch_of(index: &OrderIndex, from: Text, to: Text, place: u64) -> (u64, Option<(Text, u64)>) {
+    let stretch = index.stretch(from, to);
+    let entry = if place < stretch.len() {
+        index.entry_at(stretch.first.saturating_add(place))
+    } else {
+        None
+    };
+    (stretch.len(), entry)
+}
+
 // One look at both.
 fn look(rt: &impl Abort, index: &OrderIndex, entries: &Entries, seed: u64) -> Result<(), Fail> {
     let from = Text::of_number((seed >> 8) % KEYS);
@@ -61,11 +72,8 @@ fn look(rt: &impl Abort, index: &OrderIndex, entries: &Entries, seed: u64) -> Re
     assert_eq!(rt; index.find(from), find_in(entries, from));
     assert_eq!(rt; index.rank(from), rank_in(entries, from));
     assert_eq!(rt; index.floor(from), floor_in(entries, from));
-    let between = (
-        index.count_between(from, to),
-        index.entry_between(from, to, place),
-    );
-    assert_eq!(rt; between, between_in(entries, from, to, place));
+    let between = between_in(entries, from, to, place);
+    assert_eq!(rt; stretch_of(index, from, to, place), between);
     Ok(())
 }
 

@@ -12,9 +12,9 @@ mod tests;
 mod write;
 
 pub use graph_body::{edge_body, edge_in, is_edge_body, is_vertex_body, vertex_body, vertex_in};
-pub use map_body::{pair_body, pair_in};
+pub use map_body::{pair_body, pair_in, value_in};
 pub use mont_base::SlotFault;
 pub use queue_body::{item_body, item_in};
 pub use read::read_words;
 pub use spare::no_body;
-pub use write::write_words;
+pub use write::{kind_word, write_words};

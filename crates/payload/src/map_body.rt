@@ -1,6 +1,6 @@
 // The body of a map's payload: a key with its value.
 ghost use Rattle.std.specs.Prelude.{◌≡◌, Some, IfSome};
-ghost use Rattle.mont_base.specs.Bodies.{pair_body, pair_in};
+ghost use Rattle.mont_base.specs.Bodies.{pair_body, pair_in, value_in};
 
 use mont_base::{BODY, Text};
 
@@ -28,9 +28,16 @@ pub fn pair_in(body: &[u64; BODY]) -> Option<(Text, Text)>
     ensures exact { result ≡ pair_in body.now }
     ensures only { IfSome result (λ p. body.now ≡ pair_body p.0 p.1) }
 {
-    let [key_len, value_len, key_first, key_second, key_third, ..] = *body;
-    let [.., value_first, value_second, value_third] = *body;
-    let key = Text::of_words([key_len, key_first, key_second, key_third])?;
-    let value = Text::of_words([value_len, value_first, value_second, value_third])?;
+    let [len, _, first, second, third, ..] = *body;
+    let key = Text::of_words([len, first, second, third])?;
+    let value = value_in(body)?;
     Some((key, value))
+}
+
+/// The value alone of the pair that a body holds; none where its words are no text.
+pub fn value_in(body: &[u64; BODY]) -> Option<Text>
+    ensures { result ≡ value_in body.now }
+{
+    let [_, len, _, _, _, first, second, third] = *body;
+    Text::of_words([len, first, second, third])
 }

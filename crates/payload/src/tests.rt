@@ -25,6 +25,7 @@ fn a_worked_slot_is_written_and_read(rt: HostRuntime) -> Result<(), Fail> {
     let value = Text::of_bytes(b"10")?;
     let body = pair_body(&key, &value);
     assert_eq!(rt; write_words(&label, body), words);
+    assert_eq!(rt; kind_word(&label), words[1]);
     assert_eq!(rt; read_words(0, &words), Ok(Some((label, body))));
     assert_eq!(rt; pair_in(&body), Some((key, value)));
     Ok(())
@@ -121,6 +122,7 @@ fn pairs_stand_in_their_words(rt: HostRuntime) -> Result<(), Fail> {
         let value = Text::of_bytes(value_bytes)?;
         assert_eq!(rt; pair_body(&key, &value), body, "at {key_bytes:?}");
         assert_eq!(rt; pair_in(&body), Some((key, value)), "at {key_bytes:?}");
+        assert_eq!(rt; value_in(&body), Some(value), "at {key_bytes:?}");
     }
     Ok(())
 }

@@ -1,5 +1,6 @@
 // A call of a graph unit.
 ghost use Rattle.std.specs.Prelude.{◌≡◌, ◌≤◌, true, [], ◌∷◌, ◌++◌, None, Some, All, IfOk, OnOk, IfErr, OnErr};
+ghost use Rattle.std.specs.Option.{option_copied};
 ghost use Rattle.mont_base.specs.declared.kinds.UnitKind.TheVariants as kinds;
 ghost use Rattle.mont_base.specs.declared.refusal.CallRefusal.TheVariants.{Memory};
 ghost use Rattle.mont_base.specs.Layout.{kind_of};
@@ -186,7 +187,7 @@ fn follow(region: &Region, index: &mut GraphIndex, edit: &GraphEdit, slot: Optio
             ..
         } => {
             if let Some(held) = written(region, slot) {
-                index.set(name, node_by(attribute, &held));
+                index.set(name, node_by(attribute, held));
             }
         }
         GraphEdit::Remove { name, .. } => index.remove(name),
@@ -194,9 +195,9 @@ fn follow(region: &Region, index: &mut GraphIndex, edit: &GraphEdit, slot: Optio
 }
 
 // The record in a slot, if there is a slot and a record.
-fn written(region: &Region, slot: Option<Slot>) -> Option<Held>
+fn written(region: &Region, slot: Option<Slot>) -> Option<&Held>
     requires { Agrees region.now }
-    ensures { result ≡ record_at region.now slot }
+    ensures { option_copied result ≡ record_at region.now slot }
 {
     region.find_record(slot?)
 }

@@ -158,6 +158,7 @@ fn close(alloc: Global, store: Store, unit: Unit) -> Result<Words, Fail>
         ticket,
         gate: _,
         receipts: _,
+        apart: _,
     } = pass;
     units.push(graph.into_region().into_seat())?;
     let mut callers = Vec::new(alloc);

@@ -11,3 +11,4 @@ pub mod Ranges
 pub mod Recovered
 pub mod SameEntries
 pub mod Single
+pub mod Changes

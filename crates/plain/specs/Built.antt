@@ -49,7 +49,8 @@ MakesStructure s unit os = (state : State) × IsStructure s unit os state
 
 -- The objects of a map or of an ordered unit have no fault and are built, or the first fault is
 -- answered.
-pub record BuildsPairs (s : Shape) (unit : ℕ) (os : List Object) (result : Result Pairs BuildRefusal)
+pub record BuildsPairs
+    (s : Shape) (unit : ℕ) (os : List Object) (result : Result Pairs BuildRefusal)
     : Type 0 where
   pub sound : IfOk result (λ m. first_fault (map_fault s unit) [] os ≡ None)
   pub made : IfOk result (λ m. m ≡ pairs_of os)

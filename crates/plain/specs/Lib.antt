@@ -6,3 +6,4 @@ pub mod GraphCode
 pub mod NewestVersions
 pub mod Ranges
 pub mod States
+pub mod Changes

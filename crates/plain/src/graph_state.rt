@@ -1,5 +1,5 @@
 // A graph unit in memory.
-ghost use Rattle.std.specs.Prelude.{◌≡◌, ◌↔◌, ◌<◌, ◌^◌, ℕ, not, count_by, filter, IsTrue, IfOk, OnOk, OnErr};
+ghost use Rattle.std.specs.Prelude.{◌≡◌, ◌≢◌, ◌↔◌, ◌<◌, ◌^◌, ℕ, not, count_by, filter, IsTrue, IfOk, OnOk, OnErr, []};
 ghost use Rattle.std.specs.BTreeMap.{IsOrdered};
 ghost use Rattle.std.specs.FinMap as map;
 ghost use Rattle.mont_base.specs.State.{GraphOf, graph_step, can_join, degree, add_edge, del_vertex, touches, Ends, edge_cmp};
@@ -63,6 +63,7 @@ impl GraphState {
         ensures reply { IfOk result (λ r. r ≡ (graph_step self.old op.now).reply) }
         ensures state { OnOk result (GraphOf self.new ≡ (graph_step self.old op.now).state) }
         ensures err { OnErr result (self.new ≡ self.old) }
+        ensures memory { OnErr result ((graph_step self.old op.now).effects ≢ []) }
     {
         match *op {
             Op::AddV { vertex, attr, .. } => Ok(earlier(self.insert_vertex(vertex, attr)?)),
@@ -194,6 +195,8 @@ impl GraphState {
         ensures state { OnOk result (GraphOf self.new
             ≡ (add_edge self.old ends attribute (can_join self.old.vertices ends)).state) }
         ensures err { OnErr result (self.new ≡ self.old) }
+        ensures memory { OnErr result
+            ((add_edge self.old ends attribute (can_join self.old.vertices ends)).effects ≢ []) }
     {
         if self.can_join(ends) {
             Ok(earlier(self.insert_edge(ends, attribute)?))

@@ -4,40 +4,26 @@
 #![tactic(auto)]
 
 mod acceptance;
-#[cfg(test)]
-mod caller_tests;
 mod callers;
 mod contents;
 mod gather;
 mod graph_parts;
 mod graph_state;
 mod history;
-#[cfg(test)]
-mod history_tests;
 mod image;
-#[cfg(test)]
-mod image_tests;
 mod item_row;
 mod map_state;
 mod objects;
-#[cfg(test)]
-mod ordered_tests;
 mod pair_table;
 mod queue_state;
 mod recovery;
 mod replies;
 mod room;
 mod same;
-#[cfg(test)]
-mod state_tests;
 mod structure;
-#[cfg(test)]
-mod structure_tests;
 mod unit_effects;
 mod unit_state;
 mod view;
-#[cfg(test)]
-mod worked;
 
 pub use acceptance::is_well_formed;
 pub use callers::{continues_view, fits_histories, is_callers_order};

@@ -1,5 +1,5 @@
 // A map unit or an ordered unit in memory.
-ghost use Rattle.std.specs.Prelude.{◌≡◌, ◌↔◌, ◌≤◌, IsTrue, IfOk, OnOk, OnErr, length};
+ghost use Rattle.std.specs.Prelude.{◌≡◌, ◌≢◌, ◌↔◌, ◌≤◌, IsTrue, IfOk, OnOk, OnErr, [], length};
 ghost use Rattle.std.specs.Ordering.{is_lt, is_le};
 ghost use Rattle.std.specs.FinMap as map;
 ghost use Rattle.mont_base.specs.declared.constants.TheConstants.{MOST_PAIRS};
@@ -58,6 +58,7 @@ impl MapState {
         ensures reply { IfOk result (λ r. r ≡ (map_step self.old op.now).reply) }
         ensures state { OnOk result (MapOf self.new ≡ (map_step self.old op.now).state) }
         ensures err { OnErr result (self.new ≡ self.old) }
+        ensures memory { OnErr result ((map_step self.old op.now).effects ≢ []) }
     {
         match *op {
             Op::Put { key, value } | Op::OPut { key, value, .. } => {

@@ -1,5 +1,5 @@
 // A queue unit in memory.
-ghost use Rattle.std.specs.Prelude.{◌≡◌, ◌↔◌, IsTrue, IfOk, OnOk, OnErr, [], ◌∷◌, ◌++◌, length, slice_get, drop};
+ghost use Rattle.std.specs.Prelude.{◌≡◌, ◌≢◌, ◌↔◌, IsTrue, IfOk, OnOk, OnErr, [], ◌∷◌, ◌++◌, length, slice_get, drop};
 ghost use Rattle.std.specs.VecDeque.Iter.{deque_iter_rest};
 ghost use Rattle.mont_base.specs.State.{QueueOf, queue_step};
 
@@ -47,6 +47,7 @@ impl QueueState {
         ensures reply { IfOk result (λ r. r ≡ (queue_step self.old op.now).reply) }
         ensures state { OnOk result (QueueOf self.new ≡ (queue_step self.old op.now).state) }
         ensures err { OnErr result (self.new ≡ self.old) }
+        ensures memory { OnErr result ((queue_step self.old op.now).effects ≢ []) }
     {
         match *op {
             Op::Enq { item, .. } => {

@@ -1,5 +1,5 @@
 // The things that an operation inserts into a structure, replaces in it and removes from it.
-ghost use Rattle.std.specs.Prelude.{◌≡◌, IfOk, ◌∷◌, [], Some};
+ghost use Rattle.std.specs.Prelude.{◌≡◌, ◌≢◌, IfOk, OnErr, ◌∷◌, [], Some};
 ghost use Rattle.mont_base.specs.State.{map_step, queue_step, graph_step, set_effects, add_edge, del_vertex, can_join, edge_thing};
 
 use crate::graph_state::{GraphState, touches};
@@ -10,7 +10,8 @@ use std::alloc::{AllocError, Global};
 
 // What an operation does to a map or an ordered unit.
 pub(crate) fn on_map(alloc: Global, state: &MapState, op: &Op) -> Result<Vec<Effect>, AllocError>
-    ensures { IfOk result (λ v. v.items ≡ (map_step state.now op.now).effects) }
+    ensures effects { IfOk result (λ v. v.items ≡ (map_step state.now op.now).effects) }
+    ensures memory { OnErr result ((map_step state.now op.now).effects ≢ []) }
 {
     match *op {
         Op::Put { key, value } | Op::OPut { key, value, .. } => {
@@ -31,7 +32,8 @@ pub(crate) fn on_queue(
     state: &QueueState,
     op: &Op,
 ) -> Result<Vec<Effect>, AllocError>
-    ensures { IfOk result (λ v. v.items ≡ (queue_step state.now op.now).effects) }
+    ensures effects { IfOk result (λ v. v.items ≡ (queue_step state.now op.now).effects) }
+    ensures memory { OnErr result ((queue_step state.now op.now).effects ≢ []) }
 {
     match *op {
         Op::Enq { item, .. } => set(alloc, false, Thing::Item { item }),
@@ -49,7 +51,8 @@ pub(crate) fn on_graph(
     state: &GraphState,
     op: &Op,
 ) -> Result<Vec<Effect>, AllocError>
-    ensures { IfOk result (λ v. v.items ≡ (graph_step state.now op.now).effects) }
+    ensures effects { IfOk result (λ v. v.items ≡ (graph_step state.now op.now).effects) }
+    ensures memory { OnErr result ((graph_step state.now op.now).effects ≢ []) }
 {
     match *op {
         Op::AddV { vertex, attr, .. } => {
@@ -83,8 +86,10 @@ fn joining(
     ends: (u64, u64),
     attribute: u64,
 ) -> Result<Vec<Effect>, AllocError>
-    ensures { IfOk result (λ v. v.items
+    ensures effects { IfOk result (λ v. v.items
         ≡ (add_edge state.now ends attribute (can_join state.now.vertices ends)).effects) }
+    ensures memory { OnErr result
+        ((add_edge state.now ends attribute (can_join state.now.vertices ends)).effects ≢ []) }
 {
     if !state.can_join(ends) {
         return Ok(Vec::new(alloc));

@@ -1,5 +1,5 @@
 // The structure of one unit in memory.
-ghost use Rattle.std.specs.Prelude.{◌≡◌, IfOk, OnOk, OnErr};
+ghost use Rattle.std.specs.Prelude.{◌≡◌, ◌≢◌, IfOk, OnOk, OnErr, MatchResult, []};
 ghost use Rattle.mont_base.specs.State.{empty_state, size_of, step};
 ghost use Rattle.plain.specs.States.{state_of};
 
@@ -41,11 +41,12 @@ impl UnitState {
     }
 
     /// Carries an operation out, and answers it. An operation on another kind of unit changes
-    /// nothing, and neither does want of memory.
+    /// nothing, and neither does want of memory, which only one that has effects can tell.
     pub fn apply(&mut self, op: &Op) -> Result<Reply, AllocError>
         ensures reply { IfOk result (λ r. r ≡ (step (state_of self.old) op.now).reply) }
         ensures state { OnOk result (state_of self.new ≡ (step (state_of self.old) op.now).state) }
         ensures err { OnErr result (state_of self.new ≡ state_of self.old) }
+        ensures memory { OnErr result ((step (state_of self.old) op.now).effects ≢ []) }
     {
         match self {
             UnitState::Map { state } => state.apply(op),
@@ -56,9 +57,10 @@ impl UnitState {
     }
 
     /// The things that an operation inserts, replaces and removes, in their order. It carries
-    /// nothing out.
+    /// nothing out. Where there are none it never wants for memory.
     pub fn effects(&self, alloc: Global, op: &Op) -> Result<Vec<Effect>, AllocError>
-        ensures { IfOk result (λ v. v.items ≡ (step (state_of self.now) op.now).effects) }
+        ensures { MatchResult result (λ v. v.items ≡ (step (state_of self.now) op.now).effects)
+            (λ _. (step (state_of self.now) op.now).effects ≢ []) }
     {
         match self {
             UnitState::Map { state } | UnitState::Ordered { state } => {

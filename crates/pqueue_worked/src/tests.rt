@@ -130,6 +130,7 @@ fn close(alloc: Global, store: Store) -> Result<Words, Fail>
         ticket,
         gate: _,
         receipts: _,
+        apart: _,
     } = pass;
     let mut units = Vec::new(alloc);
     units.push(queue.into_region().into_seat())?;

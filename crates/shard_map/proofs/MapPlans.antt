@@ -10,7 +10,7 @@ use Rattle.mont_base.specs.declared.operation.Op.TheVariants as ops
 use Rattle.mont_base.specs.declared.operation.Reply.{Reply}
 use Rattle.mont_base.specs.declared.record.Change.{Change}
 use Rattle.mont_base.specs.declared.record.Held.{Held}
-use Rattle.mont_base.specs.Bodies.{pair_body, pair_in}
+use Rattle.mont_base.specs.Bodies.{pair_body, pair_in, key_in, value_in, both}
 use Rattle.mont_base.specs.Layout.{kind_of}
 use Rattle.mont_base.specs.State.{Step, MapOf, Key, Value, Pairs, earlier_text, map_step, map_del, pair_put, pair_get, pair_del, set_effects}
 use Rattle.mont_base.specs.Structure.{pairs_of, keeps_key}
@@ -47,6 +47,12 @@ module _ (m : Pairs) (op : Op) (key : Key) where
 
   pub dels : IsEither op (ops.Del key) (λ unit. ops.ODel unit key) → map_step m op ≡ pair_del m key
   dels = either m op (ops.Del key) (λ unit. ops.ODel unit key) (pair_del m key) refl (λ unit. refl)
+
+-- the second of two that are both there
+second_of : {A B : Type 0} (a : Option A) (b : Option B) (p : A × B) → both a b ≡ Some p → b ≡ Some p.1
+second_of {A} {B} None b p e = absurd (cc)
+second_of {A} {B} (Some x) None p e = absurd (cc)
+second_of {A} {B} (Some x) (Some y) p e = ap (λ (q : A × B). Some q.1) (same_Some (x, y) p e)
 
 module _ (r : RegionShown) (places : Places) (unit : IsMapUnit r places) (running : r.books.halted ≡ None) where
   abbrev pub the_pairs : Pairs
@@ -85,31 +91,33 @@ module _ (r : RegionShown) (places : Places) (unit : IsMapUnit r places) (runnin
   pub no_record : (key : Key) (slot : ℕ) → finite.get places key ≡ Some slot → record_in r.seat.known.part.records slot ≡ None → ⊥
   no_record key slot e none = let b : Standing key slot = standing key slot e in let f = b.stands in absurd (cc)
 
-  pub no_pair : (key : Key) (slot : ℕ) (held : Held) → finite.get places key ≡ Some slot
-      → record_in r.seat.known.part.records slot ≡ Some held → pair_in held.body ≡ None → ⊥
-  no_pair key slot held e is none =
+  value_read : (key : Key) (slot : ℕ) (b : Standing key slot) → value_in b.at.kept.body ≡ Some b.at.value
+  value_read key slot b = second_of (key_in b.at.kept.body) (value_in b.at.kept.body) (key, b.at.value) b.read
+
+  pub always_value : (key : Key) (slot : ℕ) (held : Held) → finite.get places key ≡ Some slot
+      → record_in r.seat.known.part.records slot ≡ Some held → value_in held.body ≡ None → ⊥
+  always_value key slot held e is none =
       let b : Standing key slot = standing key slot e in
       let same : held ≡ b.at.kept = same_Some held b.at.kept (sym is ∙ b.stands) in
-      let f = b.read in
-      let g : pair_in b.at.kept.body ≡ None = ap (λ (h : Held). pair_in h.body) (sym same) ∙ none in
+      let f = value_read key slot b in
+      let g : value_in b.at.kept.body ≡ None = ap (λ (h : Held). value_in h.body) (sym same) ∙ none in
       absurd (cc)
 
-  module _ (key : Key) (slot : ℕ) (held : Held) (p : Key × Value) (e : finite.get places key ≡ Some slot)
-      (is : record_in r.seat.known.part.records slot ≡ Some held) (read : pair_in held.body ≡ Some p) where
+  module _ (key : Key) (slot : ℕ) (held : Held) (value : Value) (e : finite.get places key ≡ Some slot)
+      (is : record_in r.seat.known.part.records slot ≡ Some held) (read : value_in held.body ≡ Some value) where
     same_record : (b : Standing key slot) → held ≡ b.at.kept
     same_record b = same_Some held b.at.kept (sym is ∙ b.stands)
 
-    same_value : (b : Standing key slot) → p.1 ≡ b.at.value
-    same_value b = ap (λ (q : Key × Value). q.1)
-        (same_Some p (key, b.at.value) (sym read ∙ ap (λ (h : Held). pair_in h.body) (same_record b) ∙ b.read))
+    same_value : (b : Standing key slot) → value ≡ b.at.value
+    same_value b = same_Some value b.at.value (sym read ∙ ap (λ (h : Held). value_in h.body) (same_record b) ∙ value_read key slot b)
 
-    pub found_value : HasValue r key (Some p.1)
+    pub found_value : HasValue r key (Some value)
     found_value pairs shown =
         let b : Standing key slot = standing key slot e in
         value_kept r.books.layout r.books.unit r.seat.known.part.records places (unit.indexed running) pairs shown b.identity key slot b.at
         ∙ ap Some (sym (same_value b))
 
-    pub found_named : NamesThing r.seat.known.part.records (Pair key p.1) slot held.label.identity
+    pub found_named : NamesThing r.seat.known.part.records (Pair key value) slot held.label.identity
     found_named =
         let b : Standing key slot = standing key slot e in record {
           live = b.at.kept;

@@ -12,7 +12,7 @@ ghost use Rattle.shard_map.specs.MapPlan.{HasValue, value_found, setting, remova
 
 use index_kit::Index;
 use mont_base::{BODY, Change, Op, Reply, Slot, Text};
-use payload::{pair_body, pair_in};
+use payload::{pair_body, value_in};
 use slots::Region;
 
 // The reply, and the change, if there is one.
@@ -74,7 +74,7 @@ pub(crate) fn find<I: Index>(region: &Region, index: &I, key: &Text) -> Option<F
 {
     let slot = index.find(*key)?;
     let held = region.find_record(slot)?;
-    let (_, value) = pair_in(&held.body)?;
+    let value = value_in(&held.body)?;
     Some(Found {
         value,
         slot,

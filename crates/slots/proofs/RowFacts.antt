@@ -1,16 +1,17 @@
 -- Records by their slots: what becomes of the rows when a record is dropped or added.
-use Rattle.std.proofs.Common.{◌≡◌, ℕ, zero, suc, ◌+◌, ◌-◌, ◌*◌, ◌<◌, ◌≤◌, List, [], ◌∷◌, ◌++◌, map, set, replicate, sym, refl, ap, ◌∙◌, subst, arith, Bool, true, false, cond, inl, inr}
+use Rattle.std.proofs.Common.{◌≡◌, ℕ, zero, suc, ◌+◌, ◌-◌, ◌*◌, ◌<◌, ◌≤◌, List, [], ◌∷◌, ◌++◌, length, map, set, replicate, sym, refl, ap, ◌∙◌, subst, arith, Bool, true, false, cond, inl, inr}
 use Rattle.std.specs.Prelude.{◌≢◌, ◌==◌, not, Option, Some, None, slice_get}
 use Rattle.std.specs.List.{Contains, range_with_len}
 use Rattle.std.proofs.lemmas.Bool.{eq-eqb, ne_eqb}
 use Rattle.std.proofs.lemmas.Bool.Decides.{nat_tests}
+use Rattle.std.proofs.lemmas.Option.{slice_get_within}
 use Rattle.mont_base.specs.declared.record.Held.{Held}
 use Rattle.mont_base.specs.Layout.{Shape, unit_of_slot}
 use Rattle.mont_laws.specs.Records.{without_slot}
 use Rattle.mont_laws.proofs.Members.{no_element, first_element, element_cases}
-use Rattle.mont_laws.proofs.Mapped.{range_bounds}
-use Rattle.mont_laws.proofs.UnitSlots.{member_of_unit}
-use Rattle.slots.specs.Books.{times, slots_in, record_in, rows_of}
+use Rattle.mont_laws.proofs.Mapped.{range_bounds, in_range}
+use Rattle.mont_laws.proofs.UnitSlots.{member_of_unit, unit_of_member}
+use Rattle.slots.specs.Books.{BooksShown, times, slots_in, record_in, rows_of, row_in, row_at}
 use Rattle.slots.proofs.Times.{times_here, times_else, times_more, record_times}
 
 -- ---- one slot
@@ -136,3 +137,15 @@ pub rows_push : (s : Shape) (u : ℕ) (w : Held) (rs : List Held) → 1 ≤ s.sl
     → set (rows_of s u rs) (w.slot - u * s.slots) (Some w) ≡ rows_of s u (rs ++ w ∷ [])
 rows_push s u w rs some is none = rows_changed s u w.slot some is rs (rs ++ w ∷ []) (Some w) (find_pushed rs w none)
     (λ x ne. sym (find_push x rs w (λ e. ne (sym e))))
+
+-- ---- the row of a slot, by its place behind the unit's first one
+pub row_found : (b v : BooksShown) → b ≡ v → 1 ≤ b.layout.slots → length b.rows ≡ b.layout.slots → (slot place : ℕ) (row : Option Held)
+    → b.unit * b.layout.slots ≤ slot → place ≡ slot - b.unit * b.layout.slots → slice_get b.rows place ≡ Some row → row ≡ row_at v slot
+row_found b v is some long slot place row low at found =
+    let short : place < length b.rows = slice_get_within b.rows place row found in
+    let own : unit_of_slot b.layout slot ≡ b.unit =
+    unit_of_member b.layout b.unit slot some (in_range slot (b.unit * b.layout.slots) b.layout.slots low (omega arith)) in
+    sym (ap (λ (t : Bool). cond t (row_in (slice_get b.rows (slot - b.unit * b.layout.slots))) None)
+    (eq-eqb (unit_of_slot b.layout slot) b.unit own)
+    ∙ ap row_in (ap (slice_get b.rows) (sym at) ∙ found))
+    ∙ ap (λ (x : BooksShown). row_at x slot) is

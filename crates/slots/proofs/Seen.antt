@@ -1,6 +1,6 @@
 -- From what contracts see of a region to what its fields have. The fields are r, and v is seen.
-use Rattle.std.proofs.Common.{◌≡◌, ℕ, zero, suc, ◌+◌, ◌<◌, ◌≤◌, List, [], ◌∷◌, ◌++◌, length, get_or, drop, add-zero, sym, refl, ap, ◌∙◌, subst, arith, false, inl, inr}
-use Rattle.std.specs.Prelude.{All, Option, Some, None, Result, Ok, Err, OnErr, nat_le, max}
+use Rattle.std.proofs.Common.{◌≡◌, ℕ, zero, suc, ◌+◌, ◌*◌, ◌<◌, ◌≤◌, List, [], ◌∷◌, ◌++◌, length, get_or, drop, add-zero, sym, refl, ap, ◌∙◌, subst, arith, false, inl, inr}
+use Rattle.std.specs.Prelude.{All, Option, Some, None, Result, Ok, Err, OnOk, OnErr, nat_le, max}
 use Rattle.std.specs.List.{flat_map, range_with_len}
 use Rattle.std.proofs.lemmas.List.FromFn.{length-range_with_len}
 use Rattle.std.proofs.lemmas.Bool.Decides.{nat_tests}
@@ -11,6 +11,7 @@ use Rattle.mont_base.specs.declared.record.Change.TheVariants.{Insert, Replace, 
 use Rattle.mont_base.specs.declared.record.Kind.{Kind}
 use Rattle.mont_base.specs.declared.record.Held.{Held}
 use Rattle.mont_base.specs.Layout.{Shape, total_of, unit_of_slot}
+use Rattle.mont_base.specs.Record.{number_of_kind}
 use Rattle.mont_base.specs.declared.constants.TheConstants.{FIELDS, BODY, LAST}
 use Rattle.mont_laws.specs.SlotReadings.{held_words, IsRecordOf}
 use Rattle.core_steps.specs.Closing.{IsFirstDue, CanPersistClose}
@@ -78,6 +79,45 @@ module _ (s : Shape) (t x : UnitShown) (w : Held) (may : MayStore s t.known w) (
   pub cut_stored : (y : UnitShown) → n < FIELDS → y ≡ x → IsUnfinishedAt t y w
   cut_stored y few e = subst (λ (z : UnitShown). IsUnfinishedAt t z w) (sym (e ∙ at))
       (stored_cut s t w may.valid may.running may.registered may.unused n few)
+
+  pub label_end : {T E : Type 0} (result : Result T E) (y : UnitShown) (value : ℕ) → n + 1 ≡ FIELDS
+      → OnOk result (y ≡ record x { known = unit_wrote x.known w.slot 0 value })
+      → OnOk result (y ≡ record { table = t.table; known = unit_put t.known w })
+  label_end (Ok a) y value last e = label_stored y value last e
+  label_end (Err a) y value last e = tt
+
+  pub cut_end : {T E : Type 0} (result : Result T E) (y : UnitShown) → n < FIELDS → OnErr result (y ≡ x)
+      → OnErr result (IsUnfinishedAt t y w)
+  cut_end (Ok a) y few e = tt
+  cut_end (Err a) y few e = cut_stored y few e
+
+-- the words of a body stand behind the four of the label
+pub body_word : (w : Held) (at : ℕ) → get_or w.body at 0 ≡ get_or (held_words w) (4 + at) 0
+body_word w at =
+    let behind : suc (suc (suc (suc at))) ≡ 4 + at = omega arith in ap (λ (field : ℕ). get_or (held_words w) field 0) behind
+
+-- the three words behind the label's epoch, one by one
+module _ (s : Shape) (t : UnitShown) (w : Held) (may : MayStore s t.known w) (word : ℕ)
+    (is : word ≡ 256 * number_of_kind w.label.kind + w.label.unit) where
+  pub kind_may : CanStore (IsFreeSlot s t.known.unit t.known.part w.slot) t.known.unit t.known.part w.slot 1 word
+  kind_may = field_may s t t w may 0 refl 1 word refl (omega arith) is
+
+  module _ (x : UnitShown) (first : x ≡ record t { known = unit_wrote t.known w.slot 1 word }) where
+    pub kind_stored : x ≡ seat_begun t w 1
+    kind_stored = field_stored s t t w may 0 refl x 1 word refl (omega arith) is first
+
+    pub identity_may : CanStore (IsFreeSlot s x.known.unit x.known.part w.slot) x.known.unit x.known.part w.slot 2 w.label.identity
+    identity_may = field_may s t x w may 1 kind_stored 2 w.label.identity refl (omega arith) refl
+
+    module _ (y : UnitShown) (second : y ≡ record x { known = unit_wrote x.known w.slot 2 w.label.identity }) where
+      pub identity_stored : y ≡ seat_begun t w 2
+      identity_stored = field_stored s t x w may 1 kind_stored y 2 w.label.identity refl (omega arith) refl second
+
+      pub version_may : CanStore (IsFreeSlot s y.known.unit y.known.part w.slot) y.known.unit y.known.part w.slot 3 w.label.version
+      version_may = field_may s t y w may 2 identity_stored 3 w.label.version refl (omega arith) refl
+
+      pub version_stored : (z : UnitShown) → z ≡ record y { known = unit_wrote y.known w.slot 3 w.label.version } → z ≡ seat_begun t w 3
+      version_stored z third = field_stored s t y w may 2 identity_stored z 3 w.label.version refl (omega arith) refl third
 
 -- ---- reading and closing
 module _ (r v : RegionShown) (is : r ≡ v) (agrees : Agrees v) where

@@ -2,6 +2,7 @@
 // in which they are used.
 ghost use Rattle.std.specs.Prelude.{◌≡◌, ◌+◌, ◌-◌, ◌*◌, ◌<◌, ◌≤◌, [], ◌∷◌, ◌++◌, length, drop, false, slice_set, slice_get, slice_index_or, Some, None, IsTrue, IfSome, MatchOption, IfOk, IsSome, All, if◌then◌else◌};
 ghost use Rattle.std.specs.List.{flat_map};
+ghost use Rattle.std.specs.Option.{option_copied};
 ghost use Rattle.std.specs.VecDeque.{deque_capacity};
 ghost use Rattle.mont_base.specs.declared.constants.TheConstants.{LAST};
 ghost use Rattle.mont_base.specs.Image.{slots_of};
@@ -103,14 +104,12 @@ impl Books {
     }
 
     // The record of a slot's row; none where the slot is another unit's.
-    pub(crate) fn find(&self, slot: Slot) -> Option<Held>
-        ensures { result ≡ row_at self.now slot }
+    pub(crate) fn find(&self, slot: Slot) -> Option<&Held>
+        ensures { option_copied result ≡ row_at self.now slot }
     {
-        if self.layout.unit_of_slot(slot) == self.unit {
-            self.rows[self.place(slot)]
-        } else {
-            None
-        }
+        let place = slot.checked_sub(self.unit * self.layout.slots())?;
+        let row = self.rows.get(place as usize)?;
+        row.as_ref()
     }
 
     // The place of a slot among those of the unit.

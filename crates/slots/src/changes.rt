@@ -104,19 +104,18 @@ impl Region {
         ensures record_is { result ≡ put_by self.now change.now epoch slot }
         ensures valid { IsRecordOf self.now.books.unit result }
     {
-        let kind = kind_of(change);
-        let identity = self.identity_of(change);
-        let version = self.version_of(change);
-        let body = body_of(change);
-        let unit = self.unit();
         let label = Label {
             epoch,
-            kind,
-            unit,
-            identity,
-            version,
+            kind: kind_of(change),
+            unit: self.unit(),
+            identity: self.identity_of(change),
+            version: self.version_of(change),
         };
-        Held { slot, label, body }
+        Held {
+            slot,
+            label,
+            body: body_of(change),
+        }
     }
 }
 
@@ -137,18 +136,19 @@ fn body_of(change: &Change) -> [u64; BODY]
     ensures long { length result ≡ BODY }
 {
     match change {
-        Change::Insert { body } => whole(*body),
-        Change::Replace { body, .. } => whole(*body),
+        Change::Insert { body } => whole(body),
+        Change::Replace { body, .. } => whole(body),
         Change::Remove { .. } => no_body(),
     }
 }
 
 // A body has as many words as any.
-fn whole(body: [u64; BODY]) -> [u64; BODY]
-    ensures same { result ≡ body }
+#[inline(always)]
+fn whole(body: &[u64; BODY]) -> [u64; BODY]
+    ensures same { result ≡ body.now }
     ensures long { length result ≡ BODY }
 {
-    body
+    *body
 }
 
 // Whether a change adds an object.

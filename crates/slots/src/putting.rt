@@ -9,8 +9,8 @@ use crate::books::Written;
 use crate::changes::slot_before;
 use crate::region::Region;
 use heap::{Heap, UnitSeat};
-use mont_base::{Change, Cut, Epoch, FIELDS, Gate, Held, Receipt, Slot};
-use payload::write_words;
+use mont_base::{BODY, Change, Cut, Epoch, Gate, Held, LABEL, Receipt, Slot};
+use payload::kind_word;
 
 impl Region {
     /// Writes the record of a change into the first free slot: its fields in their order, and the
@@ -37,10 +37,12 @@ impl Region {
         ensures stays { StaysOpen heap.now self.old self.new }
     {
         let slot = self.books.first_free();
-        let held = self.record_by(change, epoch, slot);
-        store_record(heap, &mut self.seat, &held, gate)?;
-        let before = slot_before(change);
-        self.books.put(Written { held, before }, change);
+        let written = Written {
+            held: self.record_by(change, epoch, slot),
+            before: slot_before(change),
+        };
+        store_record(heap, &mut self.seat, &written.held, gate)?;
+        self.books.put(written, change);
         Ok(slot)
     }
 
@@ -70,10 +72,13 @@ fn store_record<G: Gate>(
         ≡ record { table = seat.old.table; known = unit_put seat.old.known held.now }) }
     ensures cut { OnErr result (IsUnfinishedAt seat.old seat.new held.now) }
 {
-    let words = write_words(&held.label, held.body);
-    for stored in 0..FIELDS - 1 {
-        let field = stored + 1;
-        heap.store_word(seat, held.slot, field as u64, words[field], gate)?;
+    let label = &held.label;
+    heap.store_word(seat, held.slot, 1, kind_word(label), gate)?;
+    heap.store_word(seat, held.slot, 2, label.identity, gate)?;
+    heap.store_word(seat, held.slot, 3, label.version, gate)?;
+    for at in 0..BODY {
+        let field = LABEL + at;
+        heap.store_word(seat, held.slot, field as u64, held.body[at], gate)?;
     }
-    heap.store_word(seat, held.slot, 0, words[0], gate)
+    heap.store_word(seat, held.slot, 0, label.epoch, gate)
 }

@@ -1,6 +1,7 @@
 // The region of a unit: its seat, and the books of its slots.
 ghost use Rattle.std.specs.Prelude.{◌≡◌, length, Some, None, IsTrue};
 ghost use Rattle.std.specs.Borrow.{sem};
+ghost use Rattle.std.specs.Option.{option_copied};
 ghost use Rattle.mont_base.specs.Layout.{units_of};
 ghost use Rattle.heap_rule.specs.Views.{are_clean, unit_frozen, caller_cut};
 ghost use Rattle.slots.specs.Books.{Agrees, IsRegionOf, record_in};
@@ -88,9 +89,9 @@ impl Region {
     }
 
     /// The record that stands in a slot.
-    pub fn find_record(&self, slot: Slot) -> Option<Held>
+    pub fn find_record(&self, slot: Slot) -> Option<&Held>
         requires { Agrees self.now }
-        ensures { result ≡ record_in self.now.seat.known.part.records slot }
+        ensures { option_copied result ≡ record_in self.now.seat.known.part.records slot }
     {
         self.books.find(slot)
     }

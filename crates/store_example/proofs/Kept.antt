@@ -46,8 +46,8 @@ pub kept_by_call : (heap : HeapShown) (q r : CallerShown) (op : Op) (olds news :
     → IfOk x (λ (receipt : Receipt). news ≡ olds ++ receipt ∷ []) → OnErr x (news ≡ olds) → IsWhole q olds → IsSameCaller q r news
 kept_by_call heap q r op olds news (Ok receipt) a k more kept whole = record {
   table = a.caller.table;
-  caller = a.caller.caller;
-  whole = more ∙ (ap (λ (rs : List Receipt). rs ++ receipt ∷ []) whole ∙ sym a.caller.receipts);
+  caller = a.caller.continued.goes_on.caller;
+  whole = more ∙ (ap (λ (rs : List Receipt). rs ++ receipt ∷ []) whole ∙ sym a.caller.continued.receipts);
 }
 kept_by_call heap q r op olds news (Err why) a k more kept whole =
     subst (IsSameCaller q r) (sym (kept ∙ whole)) (by_why heap k.unit q r op why k.learnt)

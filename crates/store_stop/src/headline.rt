@@ -32,8 +32,8 @@ pub fn are_whole<G: Gate>(passes: &[Pass<G>]) -> bool
     passes.iter().all(|pass| pass.is_whole())
 }
 
-/// Takes back all seats of a heap and the passes of all its callers, by their numbers. Each pass has
-/// to have all of its receipts still, since the histories are told by these. It looks at each
+/// Takes back all seats of a heap and the passes of all its callers, by their numbers. Each pass
+/// has to have all of its receipts still, since the histories are told by these. It looks at each
 /// receipt once for each unit. After want of memory the heap is gone.
 pub fn stop_store<G: Gate + Drop>(
     alloc: Global,
@@ -92,6 +92,7 @@ fn taken_apart<G: Gate + Drop>(
             ticket,
             gate: _,
             receipts: kept,
+            apart: _,
         } = pass;
         tickets.push(ticket)?;
         receipts.push(Sequence::from_vec(kept))?;

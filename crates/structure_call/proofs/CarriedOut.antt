@@ -12,6 +12,7 @@ use Rattle.mont_base.specs.declared.operation.Receipt.{Receipt}
 use Rattle.mont_base.specs.declared.operation.Reply.{Reply}
 use Rattle.mont_base.specs.declared.record.Change.{Change}
 use Rattle.mont_base.specs.declared.record.Held.{Held}
+use Rattle.mont_base.specs.Counting.{is_enqueuing, is_insertion}
 use Rattle.mont_base.specs.Layout.{Shape, kind_of, is_of_kind}
 use Rattle.mont_base.specs.State.{is_state_of, step}
 use Rattle.mont_base.specs.Versions.{newest_of}
@@ -34,7 +35,7 @@ use Rattle.op_guard.specs.Answered.{HasCommitted, HasRead}
 use Rattle.op_guard.specs.Guarding.{HasBegun, IsReachedBy}
 use Rattle.op_guard.specs.Regions.{IsReady}
 use Rattle.op_guard.proofs.Committed.{seen_at}
-use Rattle.structure_call.specs.Calling.{HasAnsweredCall, is_insertion, is_enqueuing}
+use Rattle.structure_call.specs.Calling.{HasAnsweredCall}
 use Rattle.structure_call.specs.Carrying.{CanPutAll, HasWrittenAll, HasCarried, records_by, serial_behind}
 use Rattle.structure_call.specs.Planning.{IsPlan, Makes, adds_item, first_at_end}
 use Rattle.structure_call.proofs.ChangeEffects.{step_fits, effects_by, queue_of, inserts_are, none_made}

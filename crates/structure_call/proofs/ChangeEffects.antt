@@ -14,13 +14,13 @@ use Rattle.mont_base.specs.declared.operation.Op.TheVariants as ops
 use Rattle.mont_base.specs.declared.record.Change.{Change}
 use Rattle.mont_base.specs.declared.record.Change.TheVariants.{Insert, Replace, Remove}
 use Rattle.mont_base.specs.declared.record.Held.{Held}
+use Rattle.mont_base.specs.Counting.{is_insertion}
 use Rattle.mont_base.specs.Layout.{Shape, kind_of, is_of_kind}
 use Rattle.mont_base.specs.State.{State, is_state_of, MapOf, QueueOf, GraphOf, Graph, Ends, Pairs, Key, Value, step, set_effects, map_del, queue_deq, del_vertex, add_edge, del_edge, edge_thing, edges_at, can_join}
 use Rattle.mont_base.specs.Versions.{newest_of}
 use Rattle.mont_laws.specs.Effects.{IsBodyOf, IsNewSerial, IsEffect, AreEffects}
 use Rattle.core_steps.proofs.Decisions.{both, either_true}
 use Rattle.slots.specs.Changes.{record_by, identity_after, version_in, has_serial, inserts, is_insert}
-use Rattle.structure_call.specs.Calling.{is_insertion}
 use Rattle.structure_call.specs.Carrying.{records_by}
 use Rattle.slots.specs.Books.{BooksShown}
 use Rattle.structure_call.proofs.KeptPlans.{newest_live}

@@ -1,7 +1,8 @@
 -- A call keeps the count of the numbers that were given.
 use Rattle.std.proofs.Common.{◌≡◌, ℕ, ◌+◌, ◌-◌, ◌<◌, Bool, true, false, cond, List, [], length, refl, sym, ap, ◌∙◌, subst, arith}
-use Rattle.std.specs.Prelude.{◌&&◌, nat_lt, Option, Some, None, count_by}
+use Rattle.std.specs.Prelude.{◌&&◌, nat_lt, max, Option, Some, None, count_by}
 use Rattle.std.specs.List.{AllZip, list_any}
+use Rattle.std.proofs.lemmas.List.Folds.{fold-map}
 use Rattle.std.proofs.lemmas.Bool.Decides.{nat_tests}
 use Rattle.std.proofs.lemmas.Option.{same_Some}
 use Rattle.mont_base.specs.declared.constants.TheConstants.{LAST}
@@ -16,29 +17,30 @@ use Rattle.mont_base.specs.declared.record.Held.{Held}
 use Rattle.mont_base.specs.declared.refusal.CallRefusal.TheVariants.{Halted, CountEnd, Memory, Full, Cut}
 use Rattle.mont_base.specs.declared.refusal.Which.{Which}
 use Rattle.mont_base.specs.declared.refusal.Which.TheVariants as ends
+use Rattle.mont_base.specs.Counting.{LacksIdentity, LacksVersions, changes_made, enqueued, greatest_by, identity_of, insertions, is_enqueuing, is_insertion, sum_over}
 use Rattle.mont_base.specs.History.{state_after}
 use Rattle.mont_base.specs.Image.{IsRecovered}
 use Rattle.mont_base.specs.Layout.{Shape, kind_of}
 use Rattle.mont_base.specs.State.{State, is_state_of, step}
 use Rattle.mont_laws.specs.Structures.{HasStructure}
+use Rattle.mont_laws.proofs.Counting.{sum_more}
 use Rattle.mont_laws.proofs.SameKind.{the_kind, of_one_kind, is_queue_by_state}
 use Rattle.mont_laws.proofs.Shown.{one_state}
 use Rattle.core_steps.specs.declared.parts.CallerPart.{CallerPart}
 use Rattle.heap.specs.HeapShown.{HeapShown, CallerShown}
 use Rattle.op_guard.specs.Regions.{KeepsUnit}
-use Rattle.slots.specs.RegionBeginning.{greatest, identities_in, live_serials, serial_at_first}
+use Rattle.slots.specs.RegionBeginning.{greatest, live_serials, serial_at_first}
 use Rattle.slots.specs.Books.{BooksShown, RegionShown}
 use Rattle.slots.specs.Changes.{ends_version, inserts}
 use Rattle.slots.specs.Serials.{is_queue}
-use Rattle.structure_call.specs.Calling.{HasAnsweredCall, is_insertion, is_enqueuing}
-use Rattle.structure_call.specs.Counting.{HasCounted, IsCountedFrom, AreVersionsWithin, FreshAreCounted, RecoveredAreCounted, AnswersAreCounted, RefusalsAreCounted, LacksIdentity, LacksVersions, LacksSerial, LacksNumber, NumbersEnd, sum_over, insertions, enqueued, changes_made, greatest_opened, objects_opened, opened_with, records_opened}
+use Rattle.structure_call.specs.Calling.{HasAnsweredCall}
+use Rattle.structure_call.specs.Counting.{HasCounted, IsCountedFrom, AreVersionsWithin, FreshAreCounted, RecoveredAreCounted, AnswersAreCounted, RefusalsAreCounted, LacksSerial, LacksNumber, NumbersEnd, greatest_opened, objects_opened, opened_with, records_opened}
 use Rattle.structure_call.specs.Planning.{IsPlan, Makes, adds_item, first_at_end}
 use Rattle.structure_call.specs.Standing.{ShowsHistory}
 use Rattle.structure_call.proofs.ChangeEffects.{inserts_are, queue_of, step_fits}
-use Rattle.structure_call.proofs.Insertions.{few_inserted}
+use Rattle.structure_call.proofs.Insertions.{few_inserted, some_counted}
 use Rattle.structure_call.proofs.NamedThings.{step_names}
 use Rattle.structure_call.proofs.SerialsGiven.{some_enqueued}
-use Rattle.structure_call.proofs.Summed.{sum_more}
 use Rattle.structure_call.proofs.VersionsWithin.{first_versions, kept_versions, more_versions, versions_end}
 
 -- ---- at first
@@ -72,14 +74,17 @@ serial_of_none s unit = by (is_queue s unit)
 pub fresh_are_counted : FreshAreCounted
 fresh_are_counted heap r empty books begins =
     counted_at_first heap r
-    (ap (λ (b : BooksShown). b.identity) books ∙ sym (ap (λ (rs : List Held). greatest (identities_in rs) + 1) empty))
+    (ap (λ (b : BooksShown). b.identity) books ∙ sym (ap (λ (rs : List Held). greatest_by identity_of rs + 1) empty))
     (ap (λ (b : BooksShown). b.serial) books ∙ sym (serial_of_none heap.opening.layout r.books.unit)
     ∙ sym (ap (serial_at_first heap.opening.layout r.books.unit) empty))
     (begins.records_are ∙ sym empty) begins.history
 
 pub recovered_are_counted : RecoveredAreCounted
 recovered_are_counted heap r lost books begins =
-    counted_at_first heap r (ap (λ (b : BooksShown). b.identity) books) (ap (λ (b : BooksShown). b.serial) books)
+    counted_at_first heap r
+    (ap (λ (b : BooksShown). b.identity) books
+    ∙ ap (λ (n : ℕ). n + 1) (fold-map max identity_of 0 (records_opened heap r.books.unit)))
+    (ap (λ (b : BooksShown). b.serial) books)
     begins.records_are begins.history
 
 -- ---- after a call
@@ -231,14 +236,16 @@ module _ (heap : HeapShown) (old : RegionShown) (q : CallerPart) (op : Op) (repl
   makes : AllZip (Makes old.books old.seat.known.part.records) (step reached op).effects changes
   makes = subst (λ (s : State). AllZip (Makes old.books old.seat.known.part.records) (step s op).effects changes) planned plan.makes
 
-  lacks_identity : LAST + 1 - old.books.identity < inserts changes → LacksIdentity heap old op opened_base
+  lacks_identity : LAST + 1 - old.books.identity < inserts changes
+      → LacksIdentity (records_opened heap old.books.unit) opened_base old.seat.known.part.history op
   lacks_identity above =
       let many = inserts_are old.books old.seat.known.part.records (step reached op).effects changes makes in
       let few = few_inserted reached op in
       let here = counted.identity in
-      record { inserts = omega (arith, above, many); none_left = omega (arith, above, many, few, here) }
+      (some_counted is_insertion (step reached op).effects (omega (arith, above, many)), omega (arith, above, many, few, here))
 
-  lacks_versions : list_any (ends_version old.seat.known.part.records) changes ≡ true → LacksVersions heap old op opened_base
+  lacks_versions : list_any (ends_version old.seat.known.part.records) changes ≡ true
+      → LacksVersions (records_opened heap old.books.unit) opened_base old.seat.known.part.history op
   lacks_versions ends =
       let kind = the_kind (kind_of heap.opening.layout old.books.unit) reached shown.of_unit in
       versions_end heap.opening.layout old.books.unit (objects_opened heap old.books.unit)

@@ -1,6 +1,6 @@
--- An operation inserts one object at most.
-use Rattle.std.proofs.Common.{◌≡◌, ℕ, ◌+◌, ◌≤◌, Bool, true, false, cond, List, [], ◌∷◌, ◌++◌, map, refl, arith}
-use Rattle.std.specs.Prelude.{count_by, Option, Some, None}
+-- An operation inserts one object at most, and what is counted is there.
+use Rattle.std.proofs.Common.{◌≡◌, ℕ, suc, ◌+◌, ◌≤◌, Bool, true, false, cond, List, [], ◌∷◌, ◌++◌, map, refl, arith}
+use Rattle.std.specs.Prelude.{count_by, Any, Option, Some, None}
 use Rattle.std.specs.FinMap as finite
 use Rattle.std.proofs.lemmas.List.Sums.{sum_by-cons}
 use Rattle.mont_base.specs.declared.effect.Effect.{Effect}
@@ -9,8 +9,8 @@ use Rattle.mont_base.specs.declared.effect.Thing.{Thing}
 use Rattle.mont_base.specs.declared.effect.Thing.TheVariants.{Pair, Item, Vertex}
 use Rattle.mont_base.specs.declared.operation.Op.{Op}
 use Rattle.mont_base.specs.declared.operation.Op.TheVariants as ops
+use Rattle.mont_base.specs.Counting.{is_insertion}
 use Rattle.mont_base.specs.State.{State, MapOf, QueueOf, GraphOf, Graph, Ends, Pairs, Key, Value, step, set_effects, map_del, queue_deq, del_vertex, add_edge, del_edge, edge_thing, edges_at, can_join}
-use Rattle.structure_call.specs.Calling.{is_insertion}
 
 counted_cons : (e : Effect) (es : List Effect) → count_by is_insertion (e ∷ es) ≡ cond (is_insertion e) 1 0 + count_by is_insertion es
 counted_cons e es = sum_by-cons (λ (x : Effect). cond (is_insertion x) 1 0) e es
@@ -67,3 +67,15 @@ few_inserted (GraphOf g) (ops.DelV unit vertex) = none_isolated g vertex (finite
 few_inserted (GraphOf g) (ops.AddE unit from to attribute) = one_joined g (from, to) attribute (can_join g.vertices (from, to))
 few_inserted (GraphOf g) (ops.DelE unit from to) = none_cut g (from, to) (finite.get g.edges (from, to))
 few_inserted (GraphOf g) _ = omega arith
+
+-- an effect that is counted is there
+pub some_counted : (p : Effect → Bool) (es : List Effect) → 1 ≤ count_by p es → Any (λ (e : Effect). p e ≡ true) es
+some_counted p [] some = absurd (omega arith)
+some_counted p (e ∷ es) some =
+    by (p e) refl (sum_by-cons (λ (x : Effect). cond (p x) 1 0) e es) (some_counted p es)
+  where
+    by : (t : Bool) → p e ≡ t → count_by p (e ∷ es) ≡ cond t 1 0 + count_by p es
+        → (1 ≤ count_by p es → Any (λ (e : Effect). p e ≡ true) es) → Any (λ (x : Effect). p x ≡ true) (e ∷ es)
+    by true is many more = (0, e, omega arith, refl, is)
+    by false is many more =
+        let m = more (omega (arith, many, some)) in (suc m.0, m.1, omega (arith, m.2), m.3, m.4)

@@ -11,7 +11,6 @@ pub mod Stands
 pub mod Refusals
 pub mod CarriedRecords
 pub mod Insertions
-pub mod Summed
 pub mod NamedThings
 pub mod VersionsWithin
 pub mod Counted

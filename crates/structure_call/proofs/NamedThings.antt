@@ -14,6 +14,7 @@ use Rattle.mont_base.specs.declared.kinds.UnitKind.TheVariants as kinds
 use Rattle.mont_base.specs.declared.operation.Op.{Op}
 use Rattle.mont_base.specs.declared.operation.Op.TheVariants as ops
 use Rattle.mont_base.specs.declared.record.Held.{Held}
+use Rattle.mont_base.specs.Counting.{is_version_of}
 use Rattle.mont_base.specs.Bodies.{pair_in, vertex_in, edge_in, is_vertex_body, is_edge_body, is_clean}
 use Rattle.mont_base.specs.Layout.{code_of, same_kind, keeps_pairs}
 use Rattle.mont_base.specs.State.{State, MapOf, QueueOf, GraphOf, is_state_of, Graph, Ends, Pairs, Key, Value, key_cmp, edge_cmp, step, set_effects, map_del, queue_deq, del_vertex, add_edge, del_edge, edge_thing, edges_at, can_join}
@@ -24,7 +25,7 @@ use Rattle.mont_laws.specs.Effects.{CarriesTexts, HasNameOf, IsBodyOf}
 use Rattle.mont_laws.proofs.Bodies.{pair_back, vertex_back, edge_back, vertex_tag, edge_tag, no_vertex_tag}
 use Rattle.mont_laws.proofs.Keys.{one_text, one_number, one_edge}
 use Rattle.mont_laws.proofs.SameKind.{maps_no_queues, maps_no_graphs, graphs_no_queues}
-use Rattle.structure_call.specs.Counting.{is_thing_of, is_version_of}
+use Rattle.structure_call.specs.Counting.{is_thing_of}
 
 -- ---- what an operation names
 abbrev pub HasTexts : Thing → Type 0

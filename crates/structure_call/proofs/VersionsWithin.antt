@@ -22,7 +22,8 @@ use Rattle.mont_laws.proofs.Members.{no_element, first_element, later_element, e
 use Rattle.mont_laws.proofs.Newest.{newest_append, newest_is}
 use Rattle.slots.specs.Books.{BooksShown}
 use Rattle.slots.specs.Changes.{ends_version, greatest_version, version_in}
-use Rattle.structure_call.specs.Counting.{AreVersionsWithin, LacksVersion, is_version_of, is_thing_of, may_hold, version_if, version_among}
+use Rattle.mont_base.specs.Counting.{LacksVersion, is_version_of, version_among, version_if}
+use Rattle.structure_call.specs.Counting.{AreVersionsWithin, is_thing_of, may_hold}
 use Rattle.structure_call.specs.Planning.{Makes, NamesThing}
 use Rattle.structure_call.proofs.KeptPlans.{newest_live}
 use Rattle.structure_call.proofs.NamedThings.{Names, AllName, named_is, same_name}
@@ -36,22 +37,23 @@ image_there f (y ∷ xs) x c = elim (element_cases y xs x c) [
 ]
 
 -- a number isn't above the greatest
-least_greatest : (m : ℕ) (xs : List ℕ) → m ≤ fold max m xs
-least_greatest m [] = omega arith
-least_greatest m (x ∷ xs) = let low = least_greatest (max m x) xs in omega (arith, low)
+module _ {A : Type 0} (number : A → ℕ) where
+  least_greatest : (m : ℕ) (xs : List A) → m ≤ fold (λ most x. max most (number x)) m xs
+  least_greatest m [] = omega arith
+  least_greatest m (x ∷ xs) = let low = least_greatest (max m (number x)) xs in omega (arith, low)
 
-not_above_greatest : (m x : ℕ) (xs : List ℕ) → Contains xs x → x ≤ fold max m xs
-not_above_greatest m x [] c = absurd (no_element x c)
-not_above_greatest m x (y ∷ xs) c = elim (element_cases y xs x c) [
-  | inl e ↦ let low = least_greatest (max m y) xs in omega (arith, e, low)
-  | inr k ↦ not_above_greatest (max m y) x xs k
-]
+  not_above_greatest : (m : ℕ) (x : A) (xs : List A) → Contains xs x → number x ≤ fold (λ most y. max most (number y)) m xs
+  not_above_greatest m x [] c = absurd (no_element x c)
+  not_above_greatest m x (y ∷ xs) c = elim (element_cases y xs x c) [
+    | inl e ↦ let low = least_greatest (max m (number y)) xs in let same = ap number e in omega (arith, same, low)
+    | inr k ↦ not_above_greatest (max m (number y)) x xs k
+  ]
 
 pub first_versions : (s : Shape) (unit : ℕ) (records : List Held) → AreVersionsWithin s unit (live_objects records) 0 records
 first_versions s unit records thing kind identity r live is =
-    let there = image_there (version_if thing) (live_objects records) (object_of r)
-    (image_there object_of (live_records records) r (record_live records identity r live)) in
-    let low = not_above_greatest 0 (version_if thing (object_of r)) (map (version_if thing) (live_objects records)) there in
+    let there = image_there object_of (live_records records) r (record_live records identity r live) in
+    let low : version_if thing (object_of r) ≤ version_among (live_objects records) thing =
+    not_above_greatest (version_if thing) 0 (object_of r) (live_objects records) there in
     let own : version_if thing (object_of r) ≡ r.label.version = ap (λ (t : Bool). cond t r.label.version 0) is in
     omega (arith, low, own)
 
@@ -147,7 +149,8 @@ module _ (s : Shape) (unit : ℕ) (objects : List Object) (changes : ℕ) (rs : 
   last_named thing slot identity is_kind k ends =
       let last = at_least LAST (greatest_version identity rs) ends in
       let own : greatest_version identity rs ≡ k.live.label.version = ap version_in (newest_live rs identity k.live k.is) in
-      let low = within thing (ap (λ (o : Option UnitKind). may_hold o thing) of_unit ∙ is_kind) identity k.live k.is (named_is rs thing k.live k.named) in
+      let low = within thing (ap (λ (o : Option UnitKind). may_hold o thing) of_unit ∙ is_kind)
+      identity k.live k.is (named_is rs thing k.live k.named) in
       omega (arith, last, own, low)
 
   effect_ends : (e : Effect) (c : Change) → Makes b rs e c → Names kind e → ends_version rs c ≡ true → LacksVersion objects changes e

@@ -2,8 +2,6 @@
 use Rattle.std.specs.Prelude.{◌≡◌, ℕ, ◌+◌, Bool, true, false, List, [], ◌∷◌, ◌++◌, All, count_by, length, None, Err}
 use Rattle.std.specs.declared.result.Result.{Result}
 use Rattle.mont_base.specs.declared.effect.Effect.{Effect}
-use Rattle.mont_base.specs.declared.effect.Effect.TheVariants.{Inserts}
-use Rattle.mont_base.specs.declared.effect.Thing.TheVariants.{Item}
 use Rattle.mont_base.specs.declared.operation.Op.{Op}
 use Rattle.mont_base.specs.declared.operation.Receipt.{Receipt}
 use Rattle.mont_base.specs.declared.operation.Reply.{Reply}
@@ -11,6 +9,7 @@ use Rattle.mont_base.specs.declared.record.Change.{Change}
 use Rattle.mont_base.specs.declared.record.Held.{Held}
 use Rattle.mont_base.specs.declared.refusal.CallRefusal.{CallRefusal}
 use Rattle.mont_base.specs.declared.refusal.CallRefusal.TheVariants.{Halted, CountEnd, Memory, Full, Cut}
+use Rattle.mont_base.specs.Counting.{is_insertion, is_enqueuing}
 use Rattle.mont_base.specs.State.{step}
 use Rattle.mont_laws.specs.Effects.{AreEffects}
 use Rattle.mont_laws.specs.Records.{live_of}
@@ -39,16 +38,6 @@ pub record HasWritten
   pub records_are : new ≡ kept ++ written
   pub are_effects : AreEffects unit kept effects written
   pub epochs : All (λ (w : Held). w.label.epoch ≡ epoch) written
-
--- an effect adds an object
-abbrev pub is_insertion : Effect → Bool
-is_insertion (Inserts thing) = true
-is_insertion _ = false
-
--- an effect adds an item to a queue
-abbrev pub is_enqueuing : Effect → Bool
-is_enqueuing (Inserts (Item item)) = true
-is_enqueuing _ = false
 
 -- The unit has one entry more, behind all that the caller had seen of it, which stood first there.
 -- Its reply is the plain step's on the state that the unit's records showed, and to which its

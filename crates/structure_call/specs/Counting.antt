@@ -1,15 +1,12 @@
 -- How far the numbers of a unit have come since its store was opened.
-use Rattle.std.specs.Prelude.{◌≡◌, ℕ, ◌+◌, ◌<◌, ◌≤◌, Bool, true, false, List, [], ◌∷◌, map, length, Any, count_by, Option, Some, None, if◌then◌else◌}
+use Rattle.std.specs.Prelude.{◌≡◌, ℕ, ◌+◌, ◌<◌, ◌≤◌, Bool, true, false, List, [], count_by, Option, Some, None}
 use Rattle.std.proofs.Props.{props}
 use Rattle.std.specs.Coded.{Coded-set, coded_ℕ}
 use Rattle.mont_base.specs.declared.constants.TheConstants.{LAST}
-use Rattle.mont_base.specs.declared.effect.Effect.{Effect}
-use Rattle.mont_base.specs.declared.effect.Effect.TheVariants.{Inserts, Replaces, Removes}
 use Rattle.mont_base.specs.declared.effect.Thing.{Thing}
 use Rattle.mont_base.specs.declared.effect.Thing.TheVariants.{Pair, Item, Vertex, Edge}
 use Rattle.mont_base.specs.declared.kinds.UnitKind.{UnitKind}
 use Rattle.mont_base.specs.declared.kinds.UnitKind.TheVariants as kinds
-use Rattle.mont_base.specs.declared.operation.Entry.{Entry}
 use Rattle.mont_base.specs.declared.operation.Op.{Op}
 use Rattle.mont_base.specs.declared.operation.Receipt.{Receipt}
 use Rattle.mont_base.specs.declared.record.Held.{Held}
@@ -18,40 +15,19 @@ use Rattle.mont_base.specs.declared.refusal.CallRefusal.{CallRefusal}
 use Rattle.mont_base.specs.declared.refusal.CallRefusal.TheVariants.{CountEnd}
 use Rattle.mont_base.specs.declared.refusal.Which.{Which}
 use Rattle.mont_base.specs.declared.refusal.Which.TheVariants as ends
-use Rattle.mont_base.specs.History.{state_after}
+use Rattle.mont_base.specs.Counting.{LacksIdentity, LacksVersions, changes_made, effects_then, enqueued, greatest_by, identity_of, insertions, is_enqueuing, is_version_of, version_among}
 use Rattle.mont_base.specs.Image.{clock_of, records_of, IsRecovered}
 use Rattle.mont_base.specs.Layout.{Shape, kind_of, same_kind, keeps_pairs}
-use Rattle.mont_base.specs.State.{State, step}
-use Rattle.mont_base.specs.Structure.{has_key, has_vertex, has_edge}
+use Rattle.mont_base.specs.State.{State}
 use Rattle.mont_base.specs.Versions.{live_objects, object_of}
 use Rattle.mont_laws.specs.Records.{live_of}
 use Rattle.core_steps.specs.declared.parts.CallerPart.{CallerPart}
 use Rattle.core_steps.specs.Opened.{opened_at}
 use Rattle.core_steps.specs.Sound.{base_state}
 use Rattle.heap.specs.HeapShown.{HeapShown, CallerShown}
-use Rattle.slots.specs.RegionBeginning.{BeginsWith, greatest, identities_in, live_serials, serial_at_first, fresh_books, first_books}
+use Rattle.slots.specs.RegionBeginning.{BeginsWith, greatest, live_serials, serial_at_first, fresh_books, first_books}
 use Rattle.slots.specs.Books.{RegionShown}
-use Rattle.structure_call.specs.Calling.{HasAnsweredCall, HasEnd, LeavesCall, is_insertion, is_enqueuing}
-
--- ---- what the entries of a unit did
--- the sum of what is counted of the effects of each entry, from a state on
-abbrev pub sum_over : (List Effect → ℕ) → State → List Entry → ℕ
-sum_over count s [] = 0
-sum_over count s (e ∷ es) =
-    count (step s e.op).effects + sum_over count (step s e.op).state es
-
-abbrev pub insertions : State → List Entry → ℕ
-insertions base history = sum_over (count_by is_insertion) base history
-
-abbrev pub enqueued : State → List Entry → ℕ
-enqueued base history = sum_over (count_by is_enqueuing) base history
-
-abbrev pub changes_made : State → List Entry → ℕ
-changes_made base history = sum_over length base history
-
--- what an operation would do behind them
-abbrev pub effects_behind : State → List Entry → Op → List Effect
-effects_behind base history op = (step (state_after base history) op).effects
+use Rattle.structure_call.specs.Calling.{HasAnsweredCall, HasEnd, LeavesCall}
 
 -- ---- what the unit was opened with
 abbrev pub records_opened : HeapShown → ℕ → List Held
@@ -62,7 +38,7 @@ objects_opened heap unit = live_objects (records_opened heap unit)
 
 -- the greatest identity of the records, and 0 without one
 abbrev pub greatest_opened : HeapShown → ℕ → ℕ
-greatest_opened heap unit = greatest (identities_in (records_opened heap unit))
+greatest_opened heap unit = greatest_by identity_of (records_opened heap unit)
 
 abbrev pub opened_with : HeapShown → List State → ℕ → State
 opened_with heap states unit = base_state (opened_at (clock_of heap.opening.words) states) unit
@@ -79,20 +55,6 @@ is_thing_of kind (Edge from to attribute) = same_kind kind kinds.Graph
 abbrev pub may_hold : Option UnitKind → Thing → Bool
 may_hold None thing = false
 may_hold (Some kind) thing = is_thing_of kind thing
-
--- the object is a version of the thing; in a queue any item will do
-abbrev pub is_version_of : Thing → Object → Bool
-is_version_of (Pair key value) o = has_key key o
-is_version_of (Item item) o = true
-is_version_of (Vertex vertex attribute) o = has_vertex vertex o
-is_version_of (Edge from to attribute) o = has_edge (from, to) o
-
-abbrev pub version_if : Thing → Object → ℕ
-version_if thing o = if is_version_of thing o then o.version else 0
-
--- the version that the thing has among objects, and 0 where it has none
-abbrev pub version_among : List Object → Thing → ℕ
-version_among objects thing = greatest (map (version_if thing) objects)
 
 -- A live record's version is above that which its thing had at first by so many at most.
 abbrev pub AreVersionsWithin : Shape → ℕ → List Object → ℕ → List Held → Type 0
@@ -157,31 +119,11 @@ RefusalsAreCounted =
     → HasCounted heap new
 
 -- ---- numbers at their end
--- The operation would insert an object, and there is no identity for it.
-pub record LacksIdentity (heap : HeapShown) (r : RegionShown) (op : Op) (base : State)
-    : Type 0 where
-  pub inserts : 1 ≤ count_by is_insertion (effects_behind base r.seat.known.part.history op)
-  pub none_left : LAST
-      ≤ greatest_opened heap r.books.unit + insertions base r.seat.known.part.history
-
--- the effect would make a later version of its thing, and there is none
-abbrev pub LacksVersion : List Object → ℕ → Effect → Type 0
-LacksVersion objects changes (Inserts thing) = ⊥
-LacksVersion objects changes (Replaces thing) = LAST ≤ version_among objects thing + changes
-LacksVersion objects changes (Removes thing) = LAST ≤ version_among objects thing + changes
-
-abbrev pub LacksVersions : HeapShown → RegionShown → Op → State → Type 0
-LacksVersions heap r op base =
-    Any
-    (LacksVersion (objects_opened heap r.books.unit)
-    (changes_made base r.seat.known.part.history))
-    (effects_behind base r.seat.known.part.history op)
-
 -- The operation would add an item, and there is no serial for it.
 pub record LacksSerial (heap : HeapShown) (r : RegionShown) (op : Op) (base : State)
     : Type 0 where
   pub of_queue : kind_of heap.opening.layout r.books.unit ≡ Some kinds.Queue
-  pub adds : 1 ≤ count_by is_enqueuing (effects_behind base r.seat.known.part.history op)
+  pub adds : 1 ≤ count_by is_enqueuing (effects_then base r.seat.known.part.history op)
   pub none_left : LAST
       ≤ greatest (live_serials (records_opened heap r.books.unit))
       + enqueued base r.seat.known.part.history
@@ -190,8 +132,10 @@ pub record LacksSerial (heap : HeapShown) (r : RegionShown) (op : Op) (base : St
 abbrev pub LacksNumber : HeapShown → RegionShown → CallerPart → Op → State → Which → Type 0
 LacksNumber heap r q op base ends.Call = LAST < q.calls
 LacksNumber heap r q op base ends.Place = LAST < r.books.places
-LacksNumber heap r q op base ends.Identity = LacksIdentity heap r op base
-LacksNumber heap r q op base ends.Version = LacksVersions heap r op base
+LacksNumber heap r q op base ends.Identity =
+    LacksIdentity (records_opened heap r.books.unit) base r.seat.known.part.history op
+LacksNumber heap r q op base ends.Version =
+    LacksVersions (records_opened heap r.books.unit) base r.seat.known.part.history op
 LacksNumber heap r q op base ends.Serial = LacksSerial heap r op base
 
 abbrev pub NumbersEnd : Type 0

@@ -3,11 +3,11 @@ ghost use Rattle.std.specs.Prelude.{◌<◌};
 
 use crate::job_outcome::outcome_of;
 use case_file::{Case, Unanswered, numbers_in};
-use job_text::{Grammar, READ_BYTES};
+use job_text::READ_BYTES;
 use std::alloc::Global;
 
-/// A line for each grammar: what comes of the text, whose source gives it in pieces of several
-/// sizes or of those of the part `pieces`, and fails in the calls of the part `failing calls`.
+/// A line on what comes of the text, whose source gives it in pieces of several sizes or of those
+/// of the part `pieces`, and fails in the calls of the part `failing calls`.
 pub fn answer_job(alloc: Global, case: &Case, text: &[u8]) -> Result<Vec<u8>, Unanswered> {
     let pieces = match case.part("pieces") {
         Some(words) => numbers_in(alloc, "pieces", words)?,
@@ -17,38 +17,24 @@ pub fn answer_job(alloc: Global, case: &Case, text: &[u8]) -> Result<Vec<u8>, Un
         Some(words) => numbers_in(alloc, "failing calls", words)?,
         None => Vec::new(alloc),
     };
-    let (pieces, failing) = (pieces.as_slice(), failing.as_slice());
-    let mut answer = String::new(alloc);
-    write!(answer, "whole grammar: ")?;
-    push_outcomes(&mut answer, alloc, Grammar::Whole, text, pieces, failing)?;
-    write!(answer, "first path: ")?;
-    push_outcomes(
-        &mut answer,
-        alloc,
-        Grammar::FirstPath,
-        text,
-        pieces,
-        failing,
-    )?;
-    Ok(answer.into_bytes())
+    told_of(alloc, text, pieces.as_slice(), failing.as_slice())
 }
 
 // What comes of the text in pieces of each size, which is told once where it stays the same.
-fn push_outcomes(
-    answer: &mut String,
+fn told_of(
     alloc: Global,
-    grammar: Grammar,
     text: &[u8],
     pieces: &[u64],
     failing: &[u64],
-) -> Result<(), Unanswered> {
+) -> Result<Vec<u8>, Unanswered> {
+    let mut answer = String::new(alloc);
     let mut told = None;
     for piece in pieces {
         let piece = *piece;
         if piece == 0 {
             return Err(Unanswered::Unclear { head: "pieces" });
         }
-        let outcome = outcome_of(alloc, grammar, text, piece, failing)?;
+        let outcome = outcome_of(alloc, text, piece, failing)?;
         if told != Some(outcome) {
             if told.is_some() {
                 write!(answer, ", but in pieces of {piece} ")?;
@@ -58,5 +44,5 @@ fn push_outcomes(
         }
     }
     writeln!(answer)?;
-    Ok(())
+    Ok(answer.into_bytes())
 }

@@ -5,7 +5,7 @@ ghost use Rattle.job_text.specs.JobText.{job_text};
 ghost use Rattle.text_cases.specs.CaseOutcomes.{IsOutcome};
 ghost use Rattle.text_cases.specs.declared.job_outcome.JobOutcome.TheVariants.{Read};
 
-use job_text::{Grammar, Job, JobFault, JobRefusal, read_job_of, write_job};
+use job_text::{Job, JobFault, JobRefusal, read_job, write_job};
 use mont_base::MemSource;
 use std::alloc::{AllocError, Global};
 use std::fmt;
@@ -25,16 +25,15 @@ pub enum JobOutcome {
 /// Reads the text of a job from a source that gives so many bytes a call and fails in these calls.
 pub fn outcome_of(
     alloc: Global,
-    grammar: Grammar,
     text: &[u8],
     piece: u64,
     failing: &[u64],
 ) -> Result<JobOutcome, AllocError>
     requires { 0 < piece }
-    ensures { IfOk result (IsOutcome grammar text.now) }
+    ensures { IfOk result (IsOutcome text.now) }
 {
     let mut source = source_of(alloc, text, piece, failing)?;
-    match read_job_of(alloc, grammar, &mut source) {
+    match read_job(alloc, &mut source) {
         Ok(job) => outcome_of_job(alloc, &job, text),
         Err(JobRefusal::Text { line, fault }) => Ok(JobOutcome::Refused { line, fault }),
         Err(JobRefusal::Read) => Ok(JobOutcome::Failed),

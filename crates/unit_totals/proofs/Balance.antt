@@ -13,7 +13,7 @@ use Rattle.mont_base.specs.declared.operation.Op.{Op}
 use Rattle.mont_base.specs.declared.operation.Op.TheVariants as ops
 use Rattle.mont_base.specs.State.{Key, Value, Pairs, State, MapOf, Step, key_cmp, map_step, map_del, earlier_text}
 use Rattle.mont_base.specs.History.{state_after, RepliesFollow}
-use Rattle.unit_totals.specs.MapBooks.{total_of, put_by, told_by, taken_by, put_in, taken_out, BooksBalance}
+use Rattle.unit_totals.specs.MapBooks.{amount_in, put_amount, told_amount, taken_amount, put_in, taken_out, BooksBalance}
 
 is_less : (r : Ordering) → is_lt r ≡ true → r ≡ Less
 is_less Less h = refl
@@ -63,7 +63,7 @@ module _ {K X : Type 0} {R : K → K → Ordering} (o : IsTotalOrder R) (f : X �
 same_key : finite.IsAntisymmetric key_cmp
 same_key = finite.slice_cmp-IsAntisymmetric finite.nat_cmp-IsAntisymmetric
 
-told_found : (f : Value → ℕ) (old : Option Value) → told_by f (earlier_text old) ≡ found f old
+told_found : (f : Value → ℕ) (old : Option Value) → told_amount f (earlier_text old) ≡ found f old
 unfolding found
 told_found f None = refl
 told_found f (Some v) = refl
@@ -73,7 +73,7 @@ told true t = refl
 told false t = absurd t
 
 put_total : (f : Value → ℕ) (m : Pairs) (k : Key) (v : Value)
-    → total_of f (MapOf (finite.insert m k v)) + told_by f (earlier_text (finite.get m k)) ≡ total_of f (MapOf m) + f v
+    → amount_in f (MapOf (finite.insert m k v)) + told_amount f (earlier_text (finite.get m k)) ≡ amount_in f (MapOf m) + f v
 put_total f m k v =
     let put_is = finite.entries-insert nat_list_cmp_total m k v in
     let old_is = told_found f (finite.get m k) ∙ ap (found f) (finite.get-entries m k) in
@@ -95,18 +95,18 @@ none_left m k = finite.get-remove nat_list_cmp_total m k k
     ∙ ap (λ r. cond (is_eq r) None (finite.get m k)) (tied_itself nat_list_cmp_total k)
 
 remove_total : (f : Value → ℕ) (m : Pairs) (k : Key) (v : Value) → finite.get m k ≡ Some v
-    → total_of f (MapOf (finite.remove m k)) + f v ≡ total_of f (MapOf m)
+    → amount_in f (MapOf (finite.remove m k)) + f v ≡ amount_in f (MapOf m)
 remove_total f m k v there =
     let one = put_total f (finite.remove m k) k v in
-    let back = ap (λ (n : Pairs). total_of f (MapOf n)) (put_back m k v there) in
-    let none = ap (λ (old : Option Value). told_by f (earlier_text old)) (none_left m k) in
+    let back = ap (λ (n : Pairs). amount_in f (MapOf n)) (put_back m k v there) in
+    let none = ap (λ (old : Option Value). told_amount f (earlier_text old)) (none_left m k) in
     omega (arith, one, back, none)
 
 -- ---- each operation of a map
 record StepBalances (f : Value → ℕ) (m : Pairs) (op : Op) (s : Step) : Type 0 where
   pub behind : Pairs
   pub leads : s.state ≡ MapOf behind
-  pub sums : total_of f (MapOf behind) + taken_by f op s.reply ≡ total_of f (MapOf m) + put_by f op
+  pub sums : amount_in f (MapOf behind) + taken_amount f op s.reply ≡ amount_in f (MapOf m) + put_amount f op
 
 removal : (f : Value → ℕ) (m : Pairs) (k : Key) (old : Option Value) → finite.get m k ≡ old → StepBalances f m (ops.Del k) (map_del m k old)
 removal f m k None is = record { behind = m; leads = refl; sums = refl }
@@ -131,8 +131,8 @@ balance f m [] follows = refl
 balance f m (e ∷ es) follows =
     let b = step_balances f m e.op in
     let rest = balance f b.behind es (subst (λ (s : State). RepliesFollow s es) b.leads follows.1) in
-    let leads = ap (λ (s : State). total_of f (state_after s es)) b.leads in
-    let reply = ap (taken_by f e.op) follows.0 in
+    let leads = ap (λ (s : State). amount_in f (state_after s es)) b.leads in
+    let reply = ap (taken_amount f e.op) follows.0 in
     let c = sum_by-cons (put_in f) e es in
     let d = sum_by-cons (taken_out f) e es in
     omega (arith, b.sums, rest, leads, reply, c, d)

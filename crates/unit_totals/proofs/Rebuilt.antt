@@ -18,7 +18,7 @@ use Rattle.mont_base.specs.declared.record.Object.{Object}
 use Rattle.mont_base.proofs.KindTable.{one_kind}
 use Rattle.mont_laws.proofs.SameKind.{same_kind_after, of_one_kind}
 use Rattle.store_stop.specs.Headline.{IsRebuilt}
-use Rattle.unit_totals.specs.MapBooks.{total_of, put_by, taken_by, put_in, taken_out}
+use Rattle.unit_totals.specs.MapBooks.{amount_in, put_amount, taken_amount, put_in, taken_out}
 use Rattle.unit_totals.proofs.Balance.{balance}
 
 -- what an entry counts if its epoch is at most x
@@ -80,12 +80,12 @@ named_has s kind named unit e = by (is_of_kind (kind_of s named) kind) refl e
 
 module _ (amount : Value → ℕ) (s : Shape) (unit : ℕ) (no_map : kind_of s unit ≢ Some kinds.Map)
     (no_ordered : kind_of s unit ≢ Some kinds.Ordered) where
-  puts_nothing : (op : Op) → unit_of_op s op ≡ Some unit → put_by amount op ≡ 0
+  puts_nothing : (op : Op) → unit_of_op s op ≡ Some unit → put_amount amount op ≡ 0
   puts_nothing (ops.Put key value) e = absurd (no_map (map_of_key s unit key e))
   puts_nothing (ops.OPut named key value) e = absurd (no_ordered (named_has s kinds.Ordered named unit e))
   puts_nothing _ e = refl
 
-  takes_nothing : (op : Op) (reply : Reply) → unit_of_op s op ≡ Some unit → taken_by amount op reply ≡ 0
+  takes_nothing : (op : Op) (reply : Reply) → unit_of_op s op ≡ Some unit → taken_amount amount op reply ≡ 0
   takes_nothing (ops.Put key value) reply e = absurd (no_map (map_of_key s unit key e))
   takes_nothing (ops.Del key) reply e = absurd (no_map (map_of_key s unit key e))
   takes_nothing (ops.OPut named key value) reply e = absurd (no_ordered (named_has s kinds.Ordered named unit e))
@@ -115,7 +115,7 @@ pairs_after : (state : State) (h : List Entry) → has_pairs (state_after state 
 pairs_after state [] = refl
 pairs_after state (e ∷ es) = pairs_after (step state e.op).state es ∙ same_kind_after kinds.Map state e.op
 
-no_total : (amount : Value → ℕ) (state : State) → has_pairs state ≡ false → total_of amount state ≡ 0
+no_total : (amount : Value → ℕ) (state : State) → has_pairs state ≡ false → amount_in amount state ≡ 0
 no_total amount (MapOf m) none = absurd (cc)
 no_total amount (QueueOf items) none = refl
 no_total amount (GraphOf g) none = refl
@@ -123,8 +123,8 @@ no_total amount (GraphOf g) none = refl
 -- ---- what is rebuilt of a unit accounts for the entries within the cut
 module _ (amount : Value → ℕ) (s : Shape) (clock x unit : ℕ) (os : List Object) where
   abbrev Accounts : State → List Entry → State → Type 0
-  Accounts opened h state = total_of amount state + sum_by (within x (taken_out amount)) h
-      ≡ total_of amount opened + sum_by (within x (put_in amount)) h
+  Accounts opened h state = amount_in amount state + sum_by (within x (taken_out amount)) h
+      ≡ amount_in amount opened + sum_by (within x (put_in amount)) h
 
   -- the state of a unit of this kind has pairs, so a unit whose state has none isn't of it
   not_of : (kind : UnitKind) (state : State) → has_pairs (structure_of kind os) ≡ true → has_pairs state ≡ false
@@ -153,7 +153,7 @@ module _ (amount : Value → ℕ) (s : Shape) (clock x unit : ℕ) (os : List Ob
   accounts (MapOf m) h state r made =
       let follows = front_follows (MapOf m) (cut_at x h) r.front.0 (subst (RepliesFollow (MapOf m)) r.front.1 r.legal.replies) in
       let book = balance amount m (cut_at x h) follows in
-      let leads = ap (total_of amount) r.leads in
+      let leads = ap (amount_in amount) r.leads in
       omega (arith, book, leads, cut_sum x (put_in amount) h, cut_sum x (taken_out amount) h)
   accounts (QueueOf items) h state r made = other_accounts (QueueOf items) h state refl r made
   accounts (GraphOf g) h state r made = other_accounts (GraphOf g) h state refl r made
@@ -170,11 +170,11 @@ module _ (amount : Value → ℕ) (x : ℕ) where
   EachAccounts states base histories =
       (unit : ℕ) (opened : State) (h : List Entry) (state : State) → slice_get base unit ≡ Some opened
       → slice_get histories unit ≡ Some h → slice_get states unit ≡ Some state
-      → total_of amount state + taken_sum h ≡ total_of amount opened + put_sum h
+      → amount_in amount state + taken_sum h ≡ amount_in amount opened + put_sum h
 
   pub all_account : (states base : List State) (histories : List (List Entry)) → length states ≡ length histories
       → length base ≡ length histories → EachAccounts states base histories
-      → sum_by (total_of amount) states + sum_by taken_sum histories ≡ sum_by (total_of amount) base + sum_by put_sum histories
+      → sum_by (amount_in amount) states + sum_by taken_sum histories ≡ sum_by (amount_in amount) base + sum_by put_sum histories
   all_account [] [] [] e f each = refl
   all_account [] [] (h ∷ hs) e f each = absurd (omega arith)
   all_account [] (b ∷ base) hs e f each = absurd (omega (arith, e, f))
@@ -184,8 +184,8 @@ module _ (amount : Value → ℕ) (x : ℕ) where
       let here = each 0 b h a refl refl refl in
       let rest = all_account states base hs (omega arith) (omega arith)
       (λ unit opened g state i j k. each (suc unit) opened g state i j k) in
-      let c = sum_by-cons (total_of amount) a states in
-      let d = sum_by-cons (total_of amount) b base in
+      let c = sum_by-cons (amount_in amount) a states in
+      let d = sum_by-cons (amount_in amount) b base in
       let p = sum_by-cons put_sum h hs in
       let t = sum_by-cons taken_sum h hs in
       omega (arith, here, rest, c, d, p, t)

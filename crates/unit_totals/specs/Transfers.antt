@@ -13,7 +13,7 @@ use Rattle.core_steps.specs.CallerClauses.{receipts_of}
 use Rattle.heap.specs.HeapShown.{CallerShown}
 use Rattle.store_stop.specs.declared.headline.Stopped.{Stopped}
 use Rattle.store_stop.specs.Headline.{IsStopped, parts_shown}
-use Rattle.unit_totals.specs.MapBooks.{total_in, put_in, taken_out}
+use Rattle.unit_totals.specs.MapBooks.{amount_in_all, put_in, taken_out}
 use Rattle.unit_totals.specs.Naming.{all_receipts}
 
 -- two entries of one epoch, which together put in what they take out
@@ -55,5 +55,6 @@ StoppedStoresKeepTotals =
     → IsStopped s clock base callers t → IsPermitted t.words.cur t.words.dur image
     → IsRecovered s image states
     → AreTransfers amount (cut_of image) (receipts_in callers) opening transfers others
-    → total_in amount states + sum_by (λ (r : Receipt). taken_out amount r.entry) opening
-    ≡ total_in amount (states_of base) + sum_by (λ (r : Receipt). put_in amount r.entry) opening
+    → amount_in_all amount states + sum_by (λ (r : Receipt). taken_out amount r.entry) opening
+    ≡ amount_in_all amount (states_of base)
+    + sum_by (λ (r : Receipt). put_in amount r.entry) opening

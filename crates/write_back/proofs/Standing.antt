@@ -5,11 +5,10 @@ use Rattle.std.proofs.lemmas.Bool.{lt-ltb}
 use Rattle.std.proofs.lemmas.List.Elements.{All-nil, All-get_or}
 use Rattle.std.proofs.lemmas.Option.{get_or_from_slice_get, slice_get_within}
 use Rattle.mont_base.specs.Layout.{Shape, total_of}
-use Rattle.core_steps.specs.declared.parts.AdvPart.{AdvPart}
 use Rattle.core_steps.specs.declared.parts.AdvPart.TheVariants.{Flushing, Holding}
 use Rattle.core_steps.specs.Flushing.{can_load_word}
 use Rattle.heap_rule.specs.declared.views.AdvKnown.{AdvKnown}
-use Rattle.heap_rule.specs.Views.{joined, list_at, holding, place_at_hand, slot_at_hand, advancer_loaded, advancer_gave}
+use Rattle.heap_rule.specs.Views.{joined, list_at, place_at_hand, slot_at_hand, advancer_gave}
 use Rattle.write_back.specs.declared.flush.Flush.{Flush}
 use Rattle.heap_pass.specs.OfLayout.{IsOfLayout}
 use Rattle.write_back.specs.Flush.{StandsAt, slots_out, lists_taken, slots_given}
@@ -85,21 +84,3 @@ module _ (f : Flush) (a : AdvKnown) (s : StandsAt f a) where
         ∙ (ap (λ (b : Bool). can_load_word (length (joined a.lists))
         (cond b (Holding (slots_given a + f.at) f.field a.loaded) (Flushing (slots_given a + f.at) f.field))) held
         ∙ lt-ltb (slots_given a + f.at) (length (joined a.lists)) (slice_get_within (joined a.lists) (slots_given a + f.at) slot listed))
-
-    not_at_end : f.at ≡ length (slots_out a) → ⊥
-    not_at_end e = let l = before_end in omega arith
-
-    -- it is loaded
-    pub loaded : (found : ℕ) → f.held ≡ false → StandsAt (record f { held = true }) (advancer_loaded a found)
-    loaded found known = record {
-      part = ap (λ (p : AdvPart). holding p found) s.part
-          ∙ ap (λ (b : Bool). holding
-          (cond b (Holding (slots_given a + f.at) f.field a.loaded) (Flushing (slots_given a + f.at) f.field)) found) held;
-      unit = s.unit;
-      units = s.units;
-      list = s.list;
-      slots = s.slots;
-      place = s.place;
-      field = s.field;
-      none_left = λ e. absurd (not_at_end e);
-    }

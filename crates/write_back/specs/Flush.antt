@@ -72,6 +72,12 @@ behind_word flush =
     record flush { field = flush.field + 1; held = false }
     else record flush { at = flush.at + 1; field = 0; held = false }
 
+-- the word of the same slot that an advancer has at hand
+abbrev pub waiting_at : Flush → AdvPart → Flush
+waiting_at flush (Flushing done field) = record flush { field = field; held = false }
+waiting_at flush (Holding done field value) = record flush { field = field; held = true }
+waiting_at flush _ = flush
+
 -- ---- what a flush makes of a seat
 -- its part, its turn, its count of steps and the word that it loaded last are those of another
 abbrev pub with_flush_of : AdvKnown → AdvKnown → AdvKnown

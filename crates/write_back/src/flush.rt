@@ -1,11 +1,12 @@
 // A flush: where it stands, and how it goes on through the lists of all units.
-ghost use Rattle.std.specs.Prelude.{◌≡◌, ◌+◌, ◌^◌, ◌<◌, true, false, is_err, length, slice_get, OnOk, OnErr, Some};
-ghost use Rattle.write_back.specs.Flush.{StandsAt, IsFlushed, flush_start, slots_out, slot_in, words_done, behind_word, with_flush_of};
+ghost use Rattle.std.specs.Prelude.{◌≡◌, ◌+◌, ◌*◌, ◌^◌, ◌<◌, true, false, is_err, length, slice_get, OnOk, OnErr, Some};
+ghost use Rattle.write_back.specs.Flush.{StandsAt, IsFlushed, flush_start, slots_out, slot_in, words_done, behind_word, waiting_at, with_flush_of};
 ghost use Rattle.mont_base.specs.declared.constants.TheConstants.{FIELDS};
 ghost use Rattle.mont_base.specs.Layout.{IsLayout};
 ghost use Rattle.heap.specs.GateAsked.{IsAskedOften};
 ghost use Rattle.heap_pass.specs.OfLayout.{IsOfLayout};
 
+use core_steps::AdvPart;
 use heap::{AdvSeat, Heap};
 use mont_base::{Cut, FIELDS, Gate, Slot, SlotList, Unit};
 
@@ -107,8 +108,11 @@ impl Flush {
         ensures ok { OnOk result (self.new.at ≡ length (slots_out seat.old.known)) }
     {
         while let Some(slot) = self.slot() {
-            self.load(heap, seat, slot, gate)?;
-            self.persist(heap, seat, slot, gate)?;
+            if self.held {
+                self.persist(heap, seat, slot, gate)?;
+            } else {
+                self.flush_slot(heap, seat, slot, gate)?;
+            }
         }
         Ok(())
     }
@@ -156,8 +160,9 @@ impl Flush {
         }
     }
 
-    // Loads the word at hand, unless it is loaded.
-    fn load<G: Gate>(
+    // Makes the words of the slot durable from the one at hand on, which is not loaded, and goes to
+    // the next slot. Where the gate cuts, the word that would have come next is at hand.
+    fn flush_slot<G: Gate>(
         &mut self,
         heap: &Heap,
         seat: &mut AdvSeat,
@@ -166,8 +171,10 @@ impl Flush {
     ) -> Result<(), Cut>
         requires heap { seat.old.table ≡ heap.now.table }
         requires layout { IsOfLayout heap.now.opening.layout seat.old.known }
+        requires range { IsLayout heap.now.opening.layout }
         requires stands { StandsAt self.old seat.old.known }
         requires slot { slice_get (slots_out seat.old.known) self.old.at ≡ Some slot }
+        requires unloaded { self.old.held ≡ false }
         ensures gate { IsAskedOften G.cuts G.endless gate.old gate.new (is_err result) }
         ensures stands { StandsAt self.new seat.new.known }
         ensures stays { seat.new ≡ record {
@@ -175,18 +182,37 @@ impl Flush {
           known = with_flush_of seat.old.known seat.new.known;
         } }
         ensures turn { seat.new.known.turn ≡ seat.old.known.turn }
-        ensures same { (self.new.at ≡ self.old.at) × (self.new.field ≡ self.old.field) }
-        ensures ok { OnOk result (self.new.held ≡ true) }
+        ensures ok { OnOk result (words_done self.new ≡ FIELDS * (self.old.at + 1)) }
     {
-        if self.held {
-            return Ok(());
+        let flushed = heap.flush_slot(seat, slot, gate);
+        match flushed {
+            Ok(()) => {
+                self.at += 1;
+                self.field = 0;
+            }
+            Err(Cut) => self.wait_at(seat.part()),
         }
-        heap.load_word(seat, slot, gate)?;
-        self.held = true;
-        Ok(())
+        flushed
     }
 
-    // Makes the loaded word durable, and goes to the next one.
+    // The word of the slot that an advancer with this part has at hand.
+    fn wait_at(&mut self, part: AdvPart)
+        ensures { self.new ≡ waiting_at self.old part }
+    {
+        match part {
+            AdvPart::Flushing { field, .. } => {
+                self.field = field;
+                self.held = false;
+            }
+            AdvPart::Holding { field, .. } => {
+                self.field = field;
+                self.held = true;
+            }
+            _ => {}
+        }
+    }
+
+    // Makes the word that is loaded durable, and goes to the next one.
     fn persist<G: Gate>(
         &mut self,
         heap: &Heap,

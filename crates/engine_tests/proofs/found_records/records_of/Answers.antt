@@ -1,4 +1,5 @@
 use Rattle.std.proofs.Common.{◌*◌, arith, ap}
+use Rattle.std.specs.Option.{option_copied}
 use Rattle.mont_base.specs.Layout.{Shape}
 use Rattle.engine_tests.proofs.FoundRecords.{first_is, none_below, more_below, all_below}
 use Rattle.engine_tests.proofs.found_records.records_of.Goals as goal
@@ -10,7 +11,8 @@ loop-slot-init c = none_below c.args.region.now c.requires.agrees (c.unit.result
 
 pub loop-slot-preserved : goal.loop-slot-preserved
 loop-slot-preserved c = more_below c.args.region.now c.requires.agrees c.loop-slot.slot c.loop-slot.records.items
-    c.push_found.new.records.items c.find_record.result c.loop-slot.invariant c.find_record.ensures c.in_ok-push_found.ensures
+    c.push_found.new.records.items (option_copied c.find_record.result)
+    c.loop-slot.invariant c.find_record.ensures c.in_ok-push_found.ensures
 
 pub returns : goal.returns
 returns c =

@@ -1,8 +1,7 @@
 use Rattle.std.proofs.Common.{◌≡◌, ◌++◌, drop}
 use Rattle.std.specs.Prelude.{All}
-use Rattle.mont_base.specs.History.{runs_of}
+use Rattle.mont_base.specs.History.{runs_of, IsShort}
 use Rattle.plain.specs.States.{state_of}
-use Rattle.job_report.specs.FoundRuns.{IsShort}
 use Rattle.job_report.proofs.found_runs.runs_of.Given as goal
 
 -- the runs so far, and those of the entries left

@@ -13,6 +13,6 @@ pub returns-clause-worked : goal.returns-clause-worked
 returns-clause-worked g c =
     all_worked (g.S.Asks.opening c.args.store.now) (g.S.Asks.has c.args.store.now) g.S.Asks.known g.S.Asks.cuts
     g.S.Asks.endless c.args.job.now c.args.passes.now.items c.clear_away.new.passes.items c.set_out-desks.result.items
-    c.run_desks-desks.result.items c.clear_away.new.done.items
+    c.run_desks-desks.result.0.items c.clear_away.new.done.items
     (c.set_out-desks.ensures ∙ ap (λ v. map empty_desk v.items) c.replace.ensures.value)
     c.clear_away.ensures.passes c.clear_away.ensures.done c.run_desks-desks.ensures.worked

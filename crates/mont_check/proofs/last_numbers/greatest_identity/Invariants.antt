@@ -1,5 +1,5 @@
 use Rattle.std.proofs.Common.{◌≡◌, take}
-use Rattle.job_text.specs.Causes.{greatest_by, identity_of}
+use Rattle.mont_base.specs.Counting.{greatest_by, identity_of}
 use Rattle.mont_check.proofs.last_numbers.greatest_identity.Given as goal
 
 abbrev pub invariant-loop-held : goal.invariant-loop-held

@@ -3,7 +3,7 @@ use Rattle.std.specs.Io.KnownBytes.{Appends}
 use Rattle.std.proofs.lemmas.Result.{on_ok_weaker, on_err_weaker}
 use Rattle.mont_image.specs.declared.image_text.TheConstants.{MAGIC}
 use Rattle.mont_image.specs.declared.image_text.Version.TheVariants.{Third}
-use Rattle.mont_image.specs.ByteDelivery.{AppendsFront}
+use Rattle.mont_base.specs.Delivery.{AppendsFront}
 use Rattle.mont_image.specs.ImageText.{bytes_of, header_words, header_of}
 use Rattle.mont_image.proofs.image_writer.write_header.Goals as goal
 

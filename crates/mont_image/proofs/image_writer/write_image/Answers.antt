@@ -4,7 +4,7 @@ use Rattle.std.proofs.lemmas.Result.{err_from_is_err_and, on_ok_weaker, on_err_w
 use Rattle.std.proofs.lemmas.List.{take_rest}
 use Rattle.mont_base.specs.declared.kinds.UnitKind.{UnitKind}
 use Rattle.mont_base.specs.Layout.{code_of}
-use Rattle.mont_image.specs.ByteDelivery.{AppendsFront}
+use Rattle.mont_base.specs.Delivery.{AppendsFront}
 use Rattle.mont_image.specs.declared.image_text.Version.TheVariants.{Third}
 use Rattle.mont_image.specs.ImageText.{bytes_of, header_words, header_of, image_text}
 use Rattle.mont_image.proofs.Spelled.{image_parts, all_three, first_fails, second_fails, third_fails}

@@ -2,7 +2,7 @@ use Rattle.std.proofs.Common.{◌≡◌, List, ℕ, ◌++◌, [], refl, sym, ap,
 use Rattle.std.proofs.KnownBytes.{Appends-nil, Appends-trans}
 use Rattle.std.proofs.lemmas.Result.{err_from_is_err_and}
 use Rattle.std.specs.Io.KnownBytes.{Appends}
-use Rattle.mont_image.specs.ByteDelivery.{AppendsFront}
+use Rattle.mont_base.specs.Delivery.{AppendsFront}
 use Rattle.mont_image.specs.ImageText.{bytes_of}
 use Rattle.mont_image.proofs.WordBytes.{bytes_of-append}
 use Rattle.mont_image.proofs.Spelled.{bytes_of_none, cut_back, three_parts, front_behind, front_before}

@@ -2,7 +2,7 @@ use Rattle.std.proofs.Common.{ap, arith, subst, sym}
 use Rattle.std.specs.Prelude.{Err}
 use Rattle.job_text.specs.declared.limits.TheConstants.{READ_BYTES}
 use Rattle.montage_tool.specs.Montage.{RunsJob}
-use Rattle.montage_tool.proofs.Serving.{run_served, run_unread}
+use Rattle.montage_tool.proofs.Serving.{lost_some, run_served, run_unread}
 use Rattle.montage_tool.proofs.top_call.read_and_run.Goals as goal
 
 pub returns-in-Ok : goal.returns-in-Ok
@@ -13,7 +13,7 @@ returns-in-Ok g c =
     (record {
       of_job = record { is_job = read.spelled.0; spelled = read.spelled.1 };
       same = λ i is text. read.accepted i is text;
-      few = (READ_BYTES, omega arith, read.taken.0);
+      few = lost_some READ_BYTES _ _ read.taken.0;
       ended = read.taken.1;
       kept = read.cause;
     })

@@ -6,4 +6,4 @@ pub returns-clause-only : goal.returns-clause-only
 returns-clause-only c =
     pair_body-read c.args.body.now c.told-body c.fits-body c.in_ok-key.key c.in_ok-value.value
     (sym c.of_words.ensures ∙ c.in_ok-key.was)
-    (sym c.of_words-2.ensures ∙ c.in_ok-value.was)
+    (sym c.value_in.ensures ∙ c.in_ok-value.was)

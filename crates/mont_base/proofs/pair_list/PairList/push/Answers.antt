@@ -9,7 +9,8 @@ invariant_of-self c =
     let len = c.self.inside.len in
     let stands = c.self.invariant in
     let pair : List ℕ × List ℕ = (c.args.key, c.args.value) in
-    let count : length c.args.self.now ≡ len = sym (ap length c.self.view_is) ∙ omega (arith, length-take len pairs, stands.few, stands.long) in
+    let count : length c.args.self.now ≡ len =
+    sym (ap length c.self.view_is) ∙ omega (arith, length-take len pairs, stands.few, stands.long) in
     let room : len < MOST_PAIRS = omega (arith, count, c.requires) in
     let set_long = length-set pairs len pair ∙ stands.long in
     let fillers = behind ([], []) MOST_PAIRS pairs len stands.few stands.long stands.behind in

@@ -1,7 +1,0 @@
--- What a device that fails may have taken.
-use Rattle.std.specs.Prelude.{ℕ, ◌≤◌, List, length, take, Option}
-use Rattle.std.specs.Io.KnownBytes.{Appends}
-
--- some bytes from the front were taken, and no others
-abbrev pub AppendsPrefix : Option (List ℕ) → Option (List ℕ) → List ℕ → Type 0
-AppendsPrefix old new bytes = (n : ℕ) × (n ≤ length bytes) × Appends old new (take n bytes)
