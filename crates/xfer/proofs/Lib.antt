@@ -1,0 +1,2 @@
+pub mod PairBegins
+pub mod PairEnds
