@@ -28,7 +28,7 @@ use Rattle.core_answer.specs.Newest.{HaveSameNewest}
 use Rattle.core_answer.proofs.SameNewest.{same_structure, same_effects}
 use Rattle.slots.specs.declared.books.Written.{Written}
 use Rattle.slots.specs.Books.{BooksShown, RegionShown, Agrees, as_written}
-use Rattle.slots.specs.Changes.{NamesLive, CanPut, ends_version, first_end, inserts, is_insert, serial_in}
+use Rattle.slots.specs.WrittenRecords.{NamesLive, CanPut, ends_version, first_end, inserts, is_insert, serial_in}
 use Rattle.op_guard.specs.declared.guard.Guard.{Guard}
 use Rattle.op_guard.specs.Regions.{IsRunning}
 use Rattle.engine_tests.specs.declared.engine.Engine.{Engine}

@@ -5,7 +5,7 @@ ghost use Rattle.mont_base.specs.declared.constants.TheConstants.{LAST};
 ghost use Rattle.core_steps.specs.CallAnswers.{CanLeave, CanRead};
 ghost use Rattle.slots.specs.declared.books.Written as one_written;
 ghost use Rattle.slots.specs.Books.{Agrees};
-ghost use Rattle.slots.specs.Changes.{CanPut, IsLiveAt, NamesLive, is_insert, serial_in};
+ghost use Rattle.slots.specs.WrittenRecords.{CanPut, IsLiveAt, NamesLive, is_insert, serial_in};
 ghost use Rattle.engine_tests.specs.Permits.{StandsFor};
 ghost use Rattle.engine_tests.specs.Working.{IsIdle, IsOperating};
 

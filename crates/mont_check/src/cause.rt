@@ -1,5 +1,6 @@
 // What may have kept a call from being answered, at some moment of its unit's history.
-ghost use Rattle.std.specs.Prelude.{◌≡◌, IfOk, IfSome};
+ghost use Rattle.std.specs.Prelude.{◌≡◌, ◌+◌, ◌^◌, ◌≤◌, IfOk, IfSome, MatchResult};
+ghost use Rattle.mont_base.specs.State.{size_of};
 ghost use Rattle.mont_check.specs.JudgedCauses.{FreesAtMost, TellsEnd, TellsHeld, clock_of_cause, is_del_v, room_in};
 ghost use Rattle.mont_check.specs.Walk.{closed_later, facts_of};
 
@@ -68,8 +69,9 @@ impl Case {
 
     // The slots that were free.
     fn room(&self, walk: &Walk, closed: u64) -> Result<u64, AllocError>
-        ensures { IfOk result (λ n. n ≡ room_in self.now.slots
-            (closed_later closed (facts_of walk.now))) }
+        ensures { let f = closed_later closed (facts_of walk.now) in
+            MatchResult result (λ n. n ≡ room_in self.now.slots f)
+            (λ _. 2 ^ 64 ≤ size_of f.state + f.waiting) }
     {
         let waiting = walk.retired.saturating_sub(closed);
         let used = sum(walk.state.size(), waiting)?;

@@ -1,5 +1,5 @@
 // A walk along a unit's history: what its first entries lead to and did.
-ghost use Rattle.std.specs.Prelude.{◌≡◌, ◌+◌, IfOk, OnOk, count_by, sum_by};
+ghost use Rattle.std.specs.Prelude.{◌≡◌, ◌+◌, ◌^◌, ◌≤◌, IfOk, MatchResult, OnOk, count_by, sum_by};
 ghost use Rattle.mont_base.specs.Counting.{is_enq, is_insertion};
 ghost use Rattle.mont_base.specs.Room.{retires};
 ghost use Rattle.plain.specs.States.{state_of};
@@ -68,7 +68,8 @@ pub fn copied(state: &UnitState) -> Result<UnitState, AllocError>
 
 // How many slots the effects retire: a version each, and an anti-payload for each removal.
 fn retired_by(effects: &[Effect]) -> Result<u64, AllocError>
-    ensures { IfOk result (λ n. n ≡ sum_by retires effects.now) }
+    ensures { MatchResult result (λ n. n ≡ sum_by retires effects.now)
+        (λ _. 2 ^ 64 ≤ sum_by retires effects.now) }
 {
     let removed = removed_by(effects);
     let both = sum(removed, removed)?;
@@ -119,7 +120,7 @@ pub fn is_enq(op: &Op) -> bool
 
 /// A sum that there is room for.
 pub fn sum(a: u64, b: u64) -> Result<u64, AllocError>
-    ensures { IfOk result (λ n. n ≡ a + b) }
+    ensures { MatchResult result (λ n. n ≡ a + b) (λ _. 2 ^ 64 ≤ a + b) }
 {
     a.checked_add(b).ok_or(AllocError)
 }

@@ -35,7 +35,7 @@ use Rattle.slots.specs.Books.{RegionShown}
 use Rattle.op_guard.specs.Guarding.{HasNoted, IsFull}
 use Rattle.structure_call.specs.Calling.{HasAnsweredCall, HasEnd, IsUncarried, LeavesCall, was_checked}
 use Rattle.structure_call.specs.Checking.{WasNoted, MayBeCalled}
-use Rattle.structure_call.specs.Counting.{HasCounted}
+use Rattle.structure_call.specs.CountedNumbers.{HasCounted}
 use Rattle.structure_call.specs.Planning.{IsPlan, Makes}
 use Rattle.structure_call.specs.Standing.{IsStanding, ShowsHistory}
 use Rattle.structure_call.proofs.Counted.{numbers_end}

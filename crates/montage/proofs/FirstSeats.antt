@@ -28,7 +28,7 @@ use Rattle.heap_rule.specs.declared.views.UnitKnown.{UnitKnown}
 use Rattle.mont_laws.specs.Records.{live_of}
 use Rattle.slots.specs.RegionBeginning.{BeginsWith, fresh_books}
 use Rattle.slots.specs.Books.{RegionShown, BooksShown, Agrees}
-use Rattle.structure_call.specs.Counting.{HasCounted, records_opened}
+use Rattle.structure_call.specs.CountedNumbers.{HasCounted, records_opened}
 use Rattle.structure_call.specs.Standing.{IsIdle, IsStanding}
 use Rattle.structure_call.proofs.Counted.{fresh_are_counted}
 use Rattle.job_run.specs.Run.{IsFresh}

@@ -33,7 +33,7 @@ use Rattle.core_steps.specs.declared.parts.CallerPart.{CallerPart}
 use Rattle.heap.specs.HeapShown.{HeapShown}
 use Rattle.slots.specs.RegionBeginning.{greatest, serial_of}
 use Rattle.slots.specs.Books.{RegionShown}
-use Rattle.structure_call.specs.Counting.{LacksSerial, LacksNumber, records_opened, objects_opened, opened_with}
+use Rattle.structure_call.specs.CountedNumbers.{LacksSerial, LacksNumber, records_opened, objects_opened, opened_with}
 use Rattle.job_worker.specs.Asking.{opened_records}
 use Rattle.montage.specs.UnitAt.{IsSeated}
 

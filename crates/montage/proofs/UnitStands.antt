@@ -10,7 +10,7 @@ use Rattle.heap.specs.HeapShown.{HeapShown, CallerShown}
 use Rattle.slots.specs.Books.{RegionShown, Agrees}
 use Rattle.structure_call.specs.Calling.{HasAnsweredCall, LeavesCall, was_checked}
 use Rattle.structure_call.specs.Checking.{MayBeCalled}
-use Rattle.structure_call.specs.Counting.{HasCounted}
+use Rattle.structure_call.specs.CountedNumbers.{HasCounted}
 use Rattle.structure_call.specs.Standing.{IsStanding}
 use Rattle.structure_call.proofs.Counted.{answers_are_counted, refusals_are_counted}
 use Rattle.montage.specs.declared.unit_at.Structure.{Structure}

@@ -5,7 +5,7 @@ use Rattle.std.proofs.Props.{props}
 use Rattle.mont_base.specs.Layout.{units_of}
 use Rattle.heap.specs.HeapShown.{HeapShown}
 use Rattle.slots.specs.Books.{RegionShown}
-use Rattle.structure_call.specs.Counting.{HasCounted, counted_once}
+use Rattle.structure_call.specs.CountedNumbers.{HasCounted, counted_once}
 use Rattle.structure_call.specs.Standing.{IsStanding, standing_once}
 use Rattle.montage.specs.declared.unit_at.Structure.{Structure}
 use Rattle.montage.specs.declared.unit_at.Structure.TheVariants.{Map, Queue, Graph}

@@ -1,7 +1,7 @@
 // How an operation's changes are written, and how one is given up that has none.
 ghost use Rattle.std.specs.Prelude.{◌≡◌, ◌<◌, IfOk, OnOk, OnErr, is_err};
 ghost use Rattle.heap.specs.GateAsked.{IsAskedOften};
-ghost use Rattle.slots.specs.Changes.{CanPut};
+ghost use Rattle.slots.specs.WrittenRecords.{CanPut};
 ghost use Rattle.op_guard.specs.Regions.{IsUnderWay, KeepsStage, WasHalted};
 ghost use Rattle.op_guard.specs.Guarding.{HasChanged, WentBack};
 

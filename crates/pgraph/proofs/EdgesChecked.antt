@@ -10,7 +10,7 @@ use Rattle.mont_base.specs.State.{Ends}
 use Rattle.mont_laws.proofs.Members.{first_element, later_element}
 use Rattle.heap.specs.HeapShown.{HeapShown, CallerShown}
 use Rattle.slots.specs.Books.{RegionShown}
-use Rattle.slots.specs.Changes.{NamesLive, IsLiveAt}
+use Rattle.slots.specs.WrittenRecords.{NamesLive, IsLiveAt}
 use Rattle.structure_call.specs.Checking.{EndsCount}
 use Rattle.structure_call.specs.Planning.{first_at_end}
 use Rattle.pgraph.specs.declared.node.Node.{Node}

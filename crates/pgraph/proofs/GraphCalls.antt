@@ -29,7 +29,7 @@ use Rattle.mont_laws.proofs.Parts.{one_part, same_part}
 use Rattle.mont_laws.proofs.Shown.{one_state}
 use Rattle.heap.specs.HeapShown.{HeapShown, CallerShown}
 use Rattle.slots.specs.Books.{RegionShown, IsRegionOf, HasLowerIdentity, record_in}
-use Rattle.slots.specs.Changes.{record_by, kind_by, body_by, identity_by, identity_after, version_in}
+use Rattle.slots.specs.WrittenRecords.{record_by, kind_by, body_by, identity_by, identity_after, version_in}
 use Rattle.structure_call.specs.Calling.{HasAnsweredCall, LeavesCall}
 use Rattle.structure_call.specs.Carrying.{HasCarried, LeavesUncarried, records_by, last_of}
 use Rattle.structure_call.specs.Checking.{EndsCount, MayBeCalled}

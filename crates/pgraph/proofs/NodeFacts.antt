@@ -26,7 +26,7 @@ use Rattle.mont_laws.proofs.Keys.{one_edge}
 use Rattle.mont_laws.proofs.Members.{no_element, first_element, later_element, element_cases, kept_element, all_elements}
 use Rattle.mont_laws.proofs.Rows.{first, second}
 use Rattle.slots.specs.Books.{BooksShown, RegionShown}
-use Rattle.slots.specs.Changes.{IsLiveAt, NamesLive}
+use Rattle.slots.specs.WrittenRecords.{IsLiveAt, NamesLive}
 use Rattle.structure_call.proofs.ChangeNumbers.{all_live}
 use Rattle.structure_call.proofs.KeptPlans.{structure_kept}
 use Rattle.structure_call.specs.Planning.{NamesThing, IsBodyNext, Makes, IsPlan}

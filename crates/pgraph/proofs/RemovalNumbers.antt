@@ -20,7 +20,7 @@ use Rattle.mont_laws.proofs.Members.{no_element, first_element, later_element, e
 use Rattle.core_steps.specs.declared.parts.CallerPart.{CallerPart}
 use Rattle.heap.specs.HeapShown.{HeapShown, CallerShown}
 use Rattle.slots.specs.Books.{BooksShown, RegionShown}
-use Rattle.slots.specs.Changes.{IsLiveAt, NamesLive, ends_version, inserts}
+use Rattle.slots.specs.WrittenRecords.{IsLiveAt, NamesLive, ends_version, inserts}
 use Rattle.slots.specs.Serials.{is_queue}
 use Rattle.structure_call.specs.Checking.{EndsCount}
 use Rattle.structure_call.specs.Planning.{adds_item, first_at_end}

@@ -7,7 +7,7 @@ use Rattle.mont_base.specs.State.{Ends}
 use Rattle.core_steps.specs.declared.parts.CallerPart.{CallerPart}
 use Rattle.heap.specs.HeapShown.{HeapShown, CallerShown}
 use Rattle.slots.specs.Books.{RegionShown, record_in}
-use Rattle.slots.specs.Changes.{IsLiveAt}
+use Rattle.slots.specs.WrittenRecords.{IsLiveAt}
 use Rattle.structure_call.specs.Checking.{EndsCount}
 use Rattle.structure_call.specs.Planning.{first_at_end}
 use Rattle.pgraph.specs.declared.graph_edit.GraphEdit.{GraphEdit}

@@ -8,7 +8,7 @@ ghost use Rattle.mont_laws.specs.Effects.{IsOpOf};
 ghost use Rattle.heap.specs.GateAsked.{IsAskedOften};
 ghost use Rattle.heap_pass.specs.Spare.{spare_of};
 ghost use Rattle.slots.specs.Books.{Agrees};
-ghost use Rattle.slots.specs.Changes.{NamesLive};
+ghost use Rattle.slots.specs.WrittenRecords.{NamesLive};
 ghost use Rattle.structure_call.specs.Calling.{HasAnsweredCall, LeavesCall, was_cut, was_checked};
 ghost use Rattle.structure_call.specs.Checking.{EndsCount, MayBeCalled};
 ghost use Rattle.structure_call.specs.Planning.{first_at_end};

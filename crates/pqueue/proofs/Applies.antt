@@ -18,7 +18,7 @@ use Rattle.mont_base.specs.State.{step}
 use Rattle.heap.specs.HeapShown.{HeapShown, CallerShown}
 use Rattle.core_steps.specs.declared.parts.CallerPart.{CallerPart}
 use Rattle.slots.specs.Books.{RegionShown, Agrees, IsRegionOf}
-use Rattle.slots.specs.Changes.{NamesLive}
+use Rattle.slots.specs.WrittenRecords.{NamesLive}
 use Rattle.slots.specs.Serials.{is_queue, IsNextSerial}
 use Rattle.structure_call.specs.Planning.{IsPlan, first_at_end, adds_item as adds_item_among}
 use Rattle.structure_call.specs.Standing.{IsStanding}

@@ -19,7 +19,7 @@ use Rattle.mont_laws.proofs.Edits.{live_facts}
 use Rattle.mont_laws.proofs.Members.{no_element, first_element, element_cases, pairs_head, pairs_tail}
 use Rattle.mont_laws.proofs.Newest.{IsAbove, IsNewest, newest_is}
 use Rattle.slots.specs.Books.{RegionShown, Agrees, HasLowerIdentity, record_in}
-use Rattle.slots.specs.Changes.{record_by, identity_by, greatest_version, version_in}
+use Rattle.slots.specs.WrittenRecords.{record_by, identity_by, greatest_version, version_in}
 use Rattle.slots.specs.Serials.{IsNextSerial}
 use Rattle.structure_call.specs.Carrying.{HasCarried, records_by, last_of}
 use Rattle.pqueue.specs.declared.queued.Queued.{Queued}

@@ -26,7 +26,7 @@ use Rattle.mont_laws.specs.Structures.{pair_for, HasPairs}
 use Rattle.heap.specs.HeapShown.{HeapShown, CallerShown}
 use Rattle.index_kit.specs.Index.{Places, CanPut}
 use Rattle.slots.specs.Books.{RegionShown, IsRegionOf}
-use Rattle.slots.specs.Changes.{has_serial}
+use Rattle.slots.specs.WrittenRecords.{has_serial}
 use Rattle.structure_call.specs.Calling.{HasAnsweredCall}
 use Rattle.structure_call.specs.Carrying.{HasCarried, LeavesUncarried, records_by, last_of}
 use Rattle.structure_call.specs.Planning.{IsPlan, Makes}

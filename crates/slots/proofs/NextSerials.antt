@@ -26,7 +26,7 @@ use Rattle.mont_laws.proofs.Newest.{IsAbove, newest_push}
 use Rattle.mont_laws.proofs.SameKind.{is_queue_by_state}
 use Rattle.slots.specs.RegionBeginning.{greatest, serial_of, live_serials, serial_at_first}
 use Rattle.slots.specs.Books.{BooksShown}
-use Rattle.slots.specs.Changes.{serial_after, record_by}
+use Rattle.slots.specs.WrittenRecords.{serial_after, record_by}
 use Rattle.slots.specs.Serials.{is_queue, serial_past, IsNextSerial}
 
 -- ---- at first

@@ -25,7 +25,7 @@ use Rattle.heap_rule.specs.declared.views.UnitKnown.{UnitKnown}
 use Rattle.heap_rule.specs.Views.{are_clean}
 use Rattle.slots.specs.declared.books.Written.{Written}
 use Rattle.slots.specs.Books.{BooksShown, RegionShown, AreBooks, AreBooksOf, Agrees, IsRegionOf, StaysOpen, times, slots_in, record_in, slot_before, as_written, HasLowerIdentity}
-use Rattle.slots.specs.Changes.{record_by, identity_by, body_by, version_in, greatest_version, identity_after, serial_after, slot_named, IsLiveAt, NamesLive, CanPut}
+use Rattle.slots.specs.WrittenRecords.{record_by, identity_by, body_by, version_in, greatest_version, identity_after, serial_after, slot_named, IsLiveAt, NamesLive, CanPut}
 use Rattle.slots.specs.Putting.{MayWrite, MayStore, IsUnfinishedAt, FirstIsUnfinished, HasPut, WasCutPutting, unit_put, put_by, seat_put, books_put}
 use Rattle.slots.specs.Rooms.{at_front}
 use Rattle.slots.specs.Serials.{is_queue, serial_past, IsNextSerial}

@@ -26,7 +26,7 @@ use Rattle.slots.specs.Reclaiming.{first_due, first_closed}
 use Rattle.slots.specs.Sweeping.{MaySweep, WasCutSweeping, sweeping_at, swept}
 use Rattle.slots.specs.Rooms.{at_front, settled, retired_with, IsOwnSlot}
 use Rattle.slots.specs.declared.books.Written.{Written}
-use Rattle.slots.specs.Changes.{CanPut, NamesLive, slot_named, kind_by, identity_by, body_by, version_in, greatest_version, ends_version, identity_after, serial_after}
+use Rattle.slots.specs.WrittenRecords.{CanPut, NamesLive, slot_named, kind_by, identity_by, body_by, version_in, greatest_version, ends_version, identity_after, serial_after}
 use Rattle.slots.proofs.Agreements.{row_shows}
 use Rattle.slots.proofs.Puts.{version_found, first_version, record_valid, may_store, room_to_write, region_put, put_cut, put_open}
 use Rattle.slots.proofs.Reclaims.{books_closed, due_inside, due_own_slot, closed_is, IsReclaiming, begins}

@@ -1,7 +1,7 @@
 pub mod Serials
 pub mod Books
 pub mod Rooms
-pub mod Changes
+pub mod WrittenRecords
 pub mod Putting
 pub mod Reclaiming
 pub mod Sweeping

@@ -17,7 +17,7 @@ use Rattle.core_steps.specs.Storing.{IsFreeSlot, front_of}
 use Rattle.heap.specs.HeapShown.{UnitShown}
 use Rattle.heap_rule.specs.declared.views.UnitKnown.{UnitKnown}
 use Rattle.slots.specs.Books.{BooksShown, RegionShown, AreBooksOf, IsAtRest, as_written}
-use Rattle.slots.specs.Changes.{identity_after, serial_after, record_by}
+use Rattle.slots.specs.WrittenRecords.{identity_after, serial_after, record_by}
 
 -- ---- the unit is registered at the epoch, and no slot is unfinished
 pub record MayWrite (p : UnitPart) (epoch : ℕ) : Type 0 where

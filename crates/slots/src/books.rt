@@ -9,7 +9,7 @@ ghost use Rattle.mont_base.specs.Image.{slots_of};
 ghost use Rattle.mont_base.specs.Layout.{IsLayout, unit_of_slot, units_of};
 ghost use Rattle.slots.specs.Books.{row_at};
 ghost use Rattle.slots.specs.RegionBeginning.{fresh_books};
-ghost use Rattle.slots.specs.Changes.{is_insert, has_serial, serial_in, identity_after, serial_after};
+ghost use Rattle.slots.specs.WrittenRecords.{is_insert, has_serial, serial_in, identity_after, serial_after};
 ghost use Rattle.slots.specs.Reclaiming.{first_due};
 ghost use Rattle.slots.specs.Rooms.{first_slot, placed, retired_with, at_front, settled, IsOwnSlot, IsInRows};
 

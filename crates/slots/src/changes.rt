@@ -4,7 +4,7 @@ ghost use Rattle.std.specs.List.{list_any};
 ghost use Rattle.mont_base.specs.declared.constants.TheConstants.{BODY};
 ghost use Rattle.mont_laws.specs.SlotReadings.{IsRecordOf};
 ghost use Rattle.slots.specs.Books.{Agrees, record_in};
-ghost use Rattle.slots.specs.Changes.{CanPut, NamesLive, first_end, ends_version, greatest_version, is_insert, slot_named, version_in, kind_by, identity_by, body_by};
+ghost use Rattle.slots.specs.WrittenRecords.{CanPut, NamesLive, first_end, ends_version, greatest_version, is_insert, slot_named, version_in, kind_by, identity_by, body_by};
 ghost use Rattle.slots.specs.Putting.{MayWrite, put_by};
 
 use crate::region::Region;

@@ -1,7 +1,7 @@
 // How a record is written into the first free slot, and what becomes of written records.
 ghost use Rattle.std.specs.Prelude.{◌≡◌, ◌<◌, length, None, IfOk, is_err, OnOk, OnErr};
 ghost use Rattle.slots.specs.Books.{Agrees, IsRegionOf, StaysOpen, books_showing};
-ghost use Rattle.slots.specs.Changes.{CanPut};
+ghost use Rattle.slots.specs.WrittenRecords.{CanPut};
 ghost use Rattle.heap.specs.GateAsked.{IsAskedOften};
 ghost use Rattle.slots.specs.Putting.{MayWrite, MayStore, HasPut, WasCutPutting, HasJustAnswered, unit_put, IsUnfinishedAt};
 

@@ -29,7 +29,7 @@ use Rattle.heap.specs.Receipts.{receipt_of}
 use Rattle.heap_rule.specs.Plays.{answer_of}
 use Rattle.slots.specs.Books.{BooksShown, RegionShown, HasLowerIdentity}
 use Rattle.slots.specs.Serials.{IsNextSerial}
-use Rattle.slots.specs.Changes.{record_by, identity_after, has_serial, serial_in}
+use Rattle.slots.specs.WrittenRecords.{record_by, identity_after, has_serial, serial_in}
 use Rattle.op_guard.specs.declared.guard.Guard.{Guard}
 use Rattle.op_guard.specs.Answered.{HasCommitted, HasRead}
 use Rattle.op_guard.specs.Guarding.{HasBegun, IsReachedBy}

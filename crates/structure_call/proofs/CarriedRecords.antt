@@ -15,7 +15,7 @@ use Rattle.mont_laws.specs.Structures.{HasStructure}
 use Rattle.mont_laws.proofs.Shown.{one_state}
 use Rattle.heap.specs.HeapShown.{HeapShown, CallerShown}
 use Rattle.slots.specs.Books.{RegionShown}
-use Rattle.slots.specs.Changes.{identity_after}
+use Rattle.slots.specs.WrittenRecords.{identity_after}
 use Rattle.structure_call.specs.Calling.{HasAnsweredCall}
 use Rattle.structure_call.specs.Carrying.{HasCarried, records_by}
 use Rattle.structure_call.specs.Planning.{IsPlan, Makes}

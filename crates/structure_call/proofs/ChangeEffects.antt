@@ -20,7 +20,7 @@ use Rattle.mont_base.specs.State.{State, is_state_of, MapOf, QueueOf, GraphOf, G
 use Rattle.mont_base.specs.Versions.{newest_of}
 use Rattle.mont_laws.specs.Effects.{IsBodyOf, IsNewSerial, IsEffect, AreEffects}
 use Rattle.core_steps.proofs.Decisions.{both, either_true}
-use Rattle.slots.specs.Changes.{record_by, identity_after, version_in, has_serial, inserts, is_insert}
+use Rattle.slots.specs.WrittenRecords.{record_by, identity_after, version_in, has_serial, inserts, is_insert}
 use Rattle.structure_call.specs.Carrying.{records_by}
 use Rattle.slots.specs.Books.{BooksShown}
 use Rattle.structure_call.proofs.KeptPlans.{newest_live}

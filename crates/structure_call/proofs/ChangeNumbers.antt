@@ -18,7 +18,7 @@ use Rattle.mont_base.specs.Layout.{Shape, kind_of, is_of_kind}
 use Rattle.mont_laws.specs.Records.{live_of}
 use Rattle.core_steps.specs.declared.parts.CallerPart.{CallerPart}
 use Rattle.slots.specs.Books.{BooksShown, RegionShown}
-use Rattle.slots.specs.Changes.{NamesLive, IsLiveAt, ends_version, greatest_version, version_in, has_serial, serial_in, inserts, is_insert}
+use Rattle.slots.specs.WrittenRecords.{NamesLive, IsLiveAt, ends_version, greatest_version, version_in, has_serial, serial_in, inserts, is_insert}
 use Rattle.structure_call.proofs.KeptPlans.{newest_live}
 use Rattle.structure_call.specs.Planning.{NamesThing, IsBodyNext, Makes, adds_item, first_at_end}
 use Rattle.structure_call.proofs.ChangeEffects.{FitsKind, AllFit, is_item, has_one, has_more}

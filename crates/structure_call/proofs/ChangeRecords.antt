@@ -6,7 +6,7 @@ use Rattle.mont_base.specs.declared.record.Change.{Change}
 use Rattle.mont_base.specs.declared.record.Change.TheVariants.{Insert, Replace, Remove}
 use Rattle.mont_base.specs.declared.record.Held.{Held}
 use Rattle.mont_base.specs.Layout.{Shape}
-use Rattle.slots.specs.Changes.{record_by, identity_after, inserts, is_insert, has_serial, serial_in}
+use Rattle.slots.specs.WrittenRecords.{record_by, identity_after, inserts, is_insert, has_serial, serial_in}
 use Rattle.structure_call.specs.Carrying.{records_by, last_of, serial_behind}
 
 -- the next identity behind one change more

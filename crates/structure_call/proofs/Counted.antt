@@ -31,10 +31,10 @@ use Rattle.heap.specs.HeapShown.{HeapShown, CallerShown}
 use Rattle.op_guard.specs.Regions.{KeepsUnit}
 use Rattle.slots.specs.RegionBeginning.{greatest, live_serials, serial_at_first}
 use Rattle.slots.specs.Books.{BooksShown, RegionShown}
-use Rattle.slots.specs.Changes.{ends_version, inserts}
+use Rattle.slots.specs.WrittenRecords.{ends_version, inserts}
 use Rattle.slots.specs.Serials.{is_queue}
 use Rattle.structure_call.specs.Calling.{HasAnsweredCall}
-use Rattle.structure_call.specs.Counting.{HasCounted, IsCountedFrom, AreVersionsWithin, FreshAreCounted, RecoveredAreCounted, AnswersAreCounted, RefusalsAreCounted, LacksSerial, LacksNumber, NumbersEnd, greatest_opened, objects_opened, opened_with, records_opened}
+use Rattle.structure_call.specs.CountedNumbers.{HasCounted, IsCountedFrom, AreVersionsWithin, FreshAreCounted, RecoveredAreCounted, AnswersAreCounted, RefusalsAreCounted, LacksSerial, LacksNumber, NumbersEnd, greatest_opened, objects_opened, opened_with, records_opened}
 use Rattle.structure_call.specs.Planning.{IsPlan, Makes, adds_item, first_at_end}
 use Rattle.structure_call.specs.Standing.{ShowsHistory}
 use Rattle.structure_call.proofs.ChangeEffects.{inserts_are, queue_of, step_fits}

@@ -25,7 +25,7 @@ use Rattle.mont_laws.specs.Effects.{CarriesTexts, HasNameOf, IsBodyOf}
 use Rattle.mont_laws.proofs.Bodies.{pair_back, vertex_back, edge_back, vertex_tag, edge_tag, no_vertex_tag}
 use Rattle.mont_laws.proofs.Keys.{one_text, one_number, one_edge}
 use Rattle.mont_laws.proofs.SameKind.{maps_no_queues, maps_no_graphs, graphs_no_queues}
-use Rattle.structure_call.specs.Counting.{is_thing_of}
+use Rattle.structure_call.specs.CountedNumbers.{is_thing_of}
 
 -- ---- what an operation names
 abbrev pub HasTexts : Thing → Type 0

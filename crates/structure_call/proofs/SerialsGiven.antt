@@ -16,7 +16,7 @@ use Rattle.mont_base.specs.Counting.{is_enqueuing, is_insertion}
 use Rattle.mont_base.specs.Layout.{kind_of, is_of_kind}
 use Rattle.mont_base.specs.State.{State, is_state_of, step}
 use Rattle.slots.specs.Books.{BooksShown}
-use Rattle.slots.specs.Changes.{has_serial, serial_in}
+use Rattle.slots.specs.WrittenRecords.{has_serial, serial_in}
 use Rattle.structure_call.specs.Carrying.{serial_behind}
 use Rattle.structure_call.specs.Planning.{Makes}
 use Rattle.structure_call.proofs.ChangeEffects.{FitsKind, AllFit, is_item, step_fits}

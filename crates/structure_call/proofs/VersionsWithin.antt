@@ -21,9 +21,9 @@ use Rattle.mont_laws.proofs.LiveObjects.{live_records, record_live}
 use Rattle.mont_laws.proofs.Members.{no_element, first_element, later_element, element_cases}
 use Rattle.mont_laws.proofs.Newest.{newest_append, newest_is}
 use Rattle.slots.specs.Books.{BooksShown}
-use Rattle.slots.specs.Changes.{ends_version, greatest_version, version_in}
+use Rattle.slots.specs.WrittenRecords.{ends_version, greatest_version, version_in}
 use Rattle.mont_base.specs.Counting.{LacksVersion, is_version_of, version_among, version_if}
-use Rattle.structure_call.specs.Counting.{AreVersionsWithin, is_thing_of, may_hold}
+use Rattle.structure_call.specs.CountedNumbers.{AreVersionsWithin, is_thing_of, may_hold}
 use Rattle.structure_call.specs.Planning.{Makes, NamesThing}
 use Rattle.structure_call.proofs.KeptPlans.{newest_live}
 use Rattle.structure_call.proofs.NamedThings.{Names, AllName, named_is, same_name}

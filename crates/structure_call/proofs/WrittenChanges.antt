@@ -9,7 +9,7 @@ use Rattle.mont_base.specs.declared.record.Held.{Held}
 use Rattle.core_steps.specs.declared.parts.UnitPart.{UnitPart}
 use Rattle.heap.specs.HeapShown.{HeapShown, UnitShown}
 use Rattle.slots.specs.Books.{BooksShown, RegionShown}
-use Rattle.slots.specs.Changes.{CanPut, NamesLive, record_by, inserts, is_insert, ends_version, has_serial, serial_in}
+use Rattle.slots.specs.WrittenRecords.{CanPut, NamesLive, record_by, inserts, is_insert, ends_version, has_serial, serial_in}
 use Rattle.op_guard.specs.declared.guard.Guard.{Guard}
 use Rattle.op_guard.specs.Guarding.{HasChanged}
 use Rattle.op_guard.specs.Regions.{IsUnderWay}

@@ -13,7 +13,7 @@ use Rattle.op_guard.specs.declared.guard.Guard.{Guard}
 use Rattle.op_guard.specs.Guarding.{IsFull}
 use Rattle.op_guard.specs.Regions.{IsUnderWay, WasHalted}
 use Rattle.slots.specs.Books.{BooksShown, RegionShown}
-use Rattle.slots.specs.Changes.{NamesLive, inserts, identity_after, record_by, has_serial, serial_in, ends_version}
+use Rattle.slots.specs.WrittenRecords.{NamesLive, inserts, identity_after, record_by, has_serial, serial_in, ends_version}
 
 -- ---- what changes write into these slots, in their order
 abbrev pub records_by : ℕ → ℕ → List Held → ℕ → List Change → List ℕ → List Held

@@ -4,4 +4,4 @@ pub mod Checking
 pub mod Refusing
 pub mod Carrying
 pub mod Calling
-pub mod Counting
+pub mod CountedNumbers

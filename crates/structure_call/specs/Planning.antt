@@ -20,7 +20,7 @@ use Rattle.mont_laws.specs.Records.{live_of}
 use Rattle.mont_laws.specs.Structures.{HasStructure}
 use Rattle.core_steps.specs.declared.parts.CallerPart.{CallerPart}
 use Rattle.slots.specs.Books.{BooksShown, RegionShown}
-use Rattle.slots.specs.Changes.{has_serial, first_end}
+use Rattle.slots.specs.WrittenRecords.{has_serial, first_end}
 
 -- ---- changes and effects
 -- the live record of an identity is in this slot, and has the name of a thing

@@ -1,7 +1,7 @@
 // What is decided of a call before it takes memory.
 ghost use Rattle.std.specs.Prelude.{◌≡◌, None, All, OnOk, OnErr, IfErr};
 ghost use Rattle.slots.specs.Books.{Agrees};
-ghost use Rattle.slots.specs.Changes.{NamesLive};
+ghost use Rattle.slots.specs.WrittenRecords.{NamesLive};
 ghost use Rattle.structure_call.specs.Planning.{adds_item, first_at_end};
 ghost use Rattle.structure_call.specs.Checking.{WasNoted, WasHaltedBefore, EndsCount};
 

@@ -1,5 +1,5 @@
 // Each call counts the numbers that it gives.
-ghost use Rattle.structure_call.specs.Counting.{FreshAreCounted, RecoveredAreCounted, AnswersAreCounted, RefusalsAreCounted, NumbersEnd};
+ghost use Rattle.structure_call.specs.CountedNumbers.{FreshAreCounted, RecoveredAreCounted, AnswersAreCounted, RefusalsAreCounted, NumbersEnd};
 
 /// A unit of a store that was never used has given no number.
 pub fn fresh_units_are_counted()

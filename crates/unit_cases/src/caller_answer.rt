@@ -1,5 +1,5 @@
 // What is told of what callers have seen, and of the order of their answers.
-use crate::rows::{number_of, rows_in};
+use crate::case_rows::{number_of, rows_in};
 use case_file::{Case, Unanswered, numbers_in};
 use mont_base::{Entry, Op, Receipt, Reply, Sequence};
 use plain::{View, continues_view, fits_histories, is_callers_order};

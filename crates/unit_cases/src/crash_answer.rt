@@ -1,5 +1,5 @@
 // Whether a crash may leave words.
-use crate::rows::{layout_of, numbers_of, rows_in};
+use crate::case_rows::{layout_of, numbers_of, rows_in};
 use case_file::{Case, Unanswered};
 use mont_base::{Sequence, Words};
 use std::alloc::Global;

@@ -1,7 +1,7 @@
 // What is told of the histories of a report.
+use crate::case_rows::{is_shown, numbers_of};
 use crate::entry_shown::tell_entries;
 use crate::history_told::{CutTold, copied, cut_told, is_legal_at, report_in, used_at};
-use crate::rows::{is_shown, numbers_of};
 use case_file::{Case, Unanswered};
 use job_text::Report;
 use mont_base::{Epoch, Unit};

@@ -1,5 +1,5 @@
 // What is told of kinds and layouts.
-use crate::rows::{is_shown, line_of, numbers_of};
+use crate::case_rows::{is_shown, line_of, numbers_of};
 use case_file::{Case, Unanswered};
 use job_text::write_contents;
 use mont_base::{FIRST_CLOCK, Kinds, Layout, Signs, UnitKind};

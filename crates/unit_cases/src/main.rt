@@ -4,6 +4,7 @@
 
 mod answers;
 mod caller_answer;
+mod case_rows;
 mod crash_answer;
 mod entry_shown;
 mod history_answer;
@@ -11,7 +12,6 @@ mod history_told;
 mod image_answer;
 mod image_told;
 mod layout_answer;
-mod rows;
 mod step_told;
 mod text_answer;
 

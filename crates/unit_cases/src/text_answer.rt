@@ -1,5 +1,5 @@
 // What is told of texts, which are keys and values.
-use crate::rows::{line_of, numbers_of, rows_in};
+use crate::case_rows::{line_of, numbers_of, rows_in};
 use case_file::{Case, Unanswered};
 use mont_base::Text;
 use std::alloc::{AllocError, Global};

@@ -20,7 +20,7 @@ pub struct PairGuard {
 /// Why no operation was begun.
 #[derive(Clone, Copy, Debug, PartialEq, Eq)]
 pub enum PairRefusal {
-    /// So few slots of the unit are free, once all is closed that this durable clock lets be closed.
+    /// So few slots of the unit are free, once all is closed that this durable clock lets close.
     Full {
         unit: Unit,
         need: u64,

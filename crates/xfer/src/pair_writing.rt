@@ -1,7 +1,7 @@
 // How the records of both units are written.
 ghost use Rattle.std.specs.Prelude.{◌≡◌, ℕ, OnOk, OnErr, is_err};
 ghost use Rattle.heap.specs.GateAsked.{IsAskedOften};
-ghost use Rattle.slots.specs.Changes.{CanPut};
+ghost use Rattle.slots.specs.WrittenRecords.{CanPut};
 ghost use Rattle.op_guard.specs.Guarding.{HasChanged};
 ghost use Rattle.op_guard.specs.Regions.{IsUnderWay, KeepsStage, WasHalted};
 ghost use Rattle.xfer.specs.Pairs.{IsPairUnderWay, WereCutBehind, half_of};

@@ -1,6 +1,6 @@
 use Rattle.std.proofs.Common.{◌∙◌, List, subst, sym, refl}
 use Rattle.mont_base.specs.declared.record.Held.{Held}
-use Rattle.slots.specs.Changes.{NamesLive}
+use Rattle.slots.specs.WrittenRecords.{NamesLive}
 use Rattle.engine_tests.proofs.Permitted.{same_names, may_put}
 use Rattle.engine_tests.proofs.permits.permit_change.Goals as goal
 

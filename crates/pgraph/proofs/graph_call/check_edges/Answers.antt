@@ -2,7 +2,7 @@ use Rattle.std.proofs.Common.{◌≡◌, List, [], ◌∷◌, sym, subst, ◌∙
 use Rattle.std.specs.Prelude.{None}
 use Rattle.mont_base.specs.declared.record.Change.{Change}
 use Rattle.mont_base.specs.State.{Ends}
-use Rattle.slots.specs.Changes.{NamesLive}
+use Rattle.slots.specs.WrittenRecords.{NamesLive}
 use Rattle.structure_call.specs.Planning.{first_at_end}
 use Rattle.pgraph.specs.declared.node.Name.{Name}
 use Rattle.pgraph.specs.declared.node.Node.{Node}

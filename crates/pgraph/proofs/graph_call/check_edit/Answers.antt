@@ -3,7 +3,7 @@ use Rattle.std.specs.Prelude.{All, None}
 use Rattle.mont_base.specs.declared.record.Change.{Change}
 use Rattle.heap.specs.HeapShown.{CallerShown}
 use Rattle.slots.specs.Books.{RegionShown}
-use Rattle.slots.specs.Changes.{NamesLive}
+use Rattle.slots.specs.WrittenRecords.{NamesLive}
 use Rattle.structure_call.specs.Checking.{EndsCount}
 use Rattle.structure_call.specs.Planning.{first_at_end}
 use Rattle.pgraph.specs.GraphEdit.{nodes_with}

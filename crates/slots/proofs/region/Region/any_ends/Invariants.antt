@@ -1,6 +1,6 @@
 use Rattle.std.proofs.Common.{◌≡◌, drop}
 use Rattle.std.specs.List.{list_any}
-use Rattle.slots.specs.Changes.{ends_version}
+use Rattle.slots.specs.WrittenRecords.{ends_version}
 use Rattle.slots.proofs.region.Region.any_ends.Given as goal
 
 -- the changes that are left decide

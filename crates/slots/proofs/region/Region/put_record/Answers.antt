@@ -1,6 +1,6 @@
 use Rattle.std.proofs.Common.{sym, subst}
 use Rattle.slots.specs.Books.{RegionShown}
-use Rattle.slots.specs.Changes.{CanPut}
+use Rattle.slots.specs.WrittenRecords.{CanPut}
 use Rattle.slots.proofs.Seen.{on_err, store_at, room_at, put_at, cut_at}
 use Rattle.slots.proofs.region.Region.put_record.Goals as goal
 

@@ -1,5 +1,5 @@
 use Rattle.std.proofs.Common.{ap}
-use Rattle.slots.specs.Changes.{version_in}
+use Rattle.slots.specs.WrittenRecords.{version_in}
 use Rattle.slots.proofs.Seen.{found_in}
 use Rattle.slots.proofs.region.Region.version_at.Goals as goal
 
