@@ -13,6 +13,7 @@ mod store_sweep;
 
 pub use image_opening::recover;
 pub use image_units::{FoundImage, FoundUnit, ImageFault, RecoverRefusal, find_units};
+pub use old_image::migrate;
 pub use recovered::Recovered;
 pub use stopped_images::{stopped_stores_are_recovered, swept_stores_are_recovered};
 pub use stopped_words::unused_stores_keep_base;

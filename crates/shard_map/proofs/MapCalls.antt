@@ -1,5 +1,5 @@
 -- What a map unit is behind each answer of a call.
-use Rattle.std.proofs.Common.{◌≡◌, ℕ, ◌≤◌, List, [], ◌∷◌, ◌++◌, sym, refl, ap, ◌∙◌, subst, arith, Bool, true, false}
+use Rattle.std.proofs.Common.{◌≡◌, ℕ, ◌≤◌, List, [], ◌∷◌, ◌++◌, append-nil, sym, refl, ap, ◌∙◌, subst, arith, Bool, true, false}
 use Rattle.std.specs.Prelude.{Option, Some, None, length, is_some, option_to_list, MatchOption}
 use Rattle.std.specs.FinMap as finite
 use Rattle.std.specs.List.{AllZip, list_any}
@@ -157,6 +157,19 @@ module _ (heap : HeapShown) (old new : RegionShown) (places : Places) (called : 
     indexed = λ e. let f = h.1.by in absurd (cc);
   }
   unit_uncarried q r many _ h = absurd h
+
+  -- ---- behind an answer without changes the index stays
+  pub unit_answered : (q r : CallerShown) (op : Op) (receipt : Receipt) (slot : Option ℕ) → HasAnsweredCall heap old new q r op receipt
+      → HasCarried old new [] receipt slot → IsMapUnit new places
+  unit_answered q r op receipt slot answered carried = record {
+    agrees = answered.ready.runs.agrees;
+    kind = kind_stays answered.ready.runs.of_heap answered.of_unit;
+    indexed = λ _. keys_stay places answered.ready.runs.of_heap answered.of_unit
+        (subst (λ (rs : List Held). HoldsLiveKeys old.books.layout old.books.unit rs places)
+        (sym (carried.records_are ∙ append-nil carried.kept))
+        (keys_of_same_live old.books.layout old.books.unit old.seat.known.part.records carried.kept places carried.live
+        (called.unit.indexed called.running)));
+  }
 
   -- ---- behind an answer the index has followed
   module _ (q r : CallerShown) (op : Op) (receipt : Receipt) (answered : HasAnsweredCall heap old new q r op receipt) (reply : Reply)

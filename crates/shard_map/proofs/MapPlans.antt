@@ -129,7 +129,7 @@ module _ (r : RegionShown) (places : Places) (unit : IsMapUnit r places) (runnin
 
   -- ---- what is planned
   module _ (op : Op) (is : IsOpOf r.books.layout r.books.unit op) where
-    plan_of : (planned : Step) (reply : Reply) (changes : List Change) → map_step the_pairs op ≡ planned → reply ≡ planned.reply
+    pub plan_of : (planned : Step) (reply : Reply) (changes : List Change) → map_step the_pairs op ≡ planned → reply ≡ planned.reply
         → AllZip (Makes r.books r.seat.known.part.records) planned.effects changes → IsPlan r op reply changes
     plan_of planned reply changes same replies makes = record {
       of_unit = is;

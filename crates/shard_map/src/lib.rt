@@ -2,6 +2,7 @@
 //! unit, whose index says where each live key is.
 #![tactic(auto)]
 
+mod map_answer;
 mod map_beginning;
 mod map_call;
 mod map_plan;

@@ -54,6 +54,14 @@ impl<I: Index> MapShard<I> {
         &self.region
     }
 
+    /// The unit's index.
+    pub fn index(&self) -> &I
+        ensures index { I.places result.now ≡ self.now.places }
+        ensures unit { IsMapUnit self.now.region self.now.places }
+    {
+        &self.index
+    }
+
     /// What the live record of a key says, if the key is there.
     pub fn find(&self, key: &Text) -> Option<Found>
         requires running { self.now.region.books.halted ≡ None }
