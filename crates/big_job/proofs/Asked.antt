@@ -1,5 +1,5 @@
 -- What each line of the generated job asks is what words can ask, of a unit that there is.
-use Rattle.std.proofs.Common.{◌≡◌, ◌≢◌, ℕ, zero, suc, ◌+◌, ◌-◌, ◌*◌, ◌/◌, ◌%◌, ◌^◌, ◌<◌, ◌≤◌, Bool, true, false, cond, List, length, get_or, All, arith, lit<, lit≤, rules}
+use Rattle.std.proofs.Common.{◌≢◌, ℕ, zero, suc, ◌+◌, ◌*◌, ◌/◌, ◌%◌, ◌^◌, ◌<◌, Bool, true, false, cond, arith, lit<}
 use Rattle.std.proofs.lemmas.List.{get_or_default}
 use Rattle.std.proofs.lemmas.Fmt.{length-decimal-le, IsAscii-decimal}
 use Rattle.std.specs.Prelude.{None}
@@ -10,7 +10,7 @@ use Rattle.mont_base.specs.Texts.{IsText}
 use Rattle.mont_base.specs.State.{unit_of_op}
 use Rattle.job_text.specs.Operations.{IsOp}
 use Rattle.job_text.proofs.Grammars.{key_has_unit}
-use Rattle.big_job.specs.CallerWords.{first_word, next_word, word_after}
+use Rattle.big_job.specs.CallerWords.{word_after}
 use Rattle.big_job.specs.GeneratedLines.{graph_op, op_at, op_of}
 use Rattle.big_job.specs.Generated.{generated_head}
 

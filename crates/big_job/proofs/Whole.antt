@@ -1,6 +1,5 @@
 -- The generated job is a job.
-use Rattle.std.proofs.Common.{◌≡◌, ℕ, zero, suc, ◌+◌, ◌*◌, ◌%◌, ◌^◌, ◌<◌, ◌≤◌, List, [], ◌∷◌, ◌++◌, length, get_or, map, All, arith, lit≤, refl, rules, subst, sym, ap, ◌∙◌, add-one, append_assoc}
-use Rattle.std.specs.Prelude.{AllPairs}
+use Rattle.std.proofs.Common.{◌≡◌, ℕ, zero, suc, ◌+◌, ◌*◌, ◌<◌, ◌≤◌, List, [], ◌∷◌, ◌++◌, length, get_or, All, arith, lit≤, refl, subst, sym, ap, ◌∙◌, add-one, append_assoc}
 use Rattle.std.specs.List.{flat_map, range_with_len}
 use Rattle.std.proofs.lemmas.List.{length-append, map-id, flat_map_more}
 use Rattle.std.proofs.lemmas.List.Elements.{All-nil, All-append, All-map}
@@ -11,7 +10,7 @@ use Rattle.job_text.specs.declared.job.Job.{Job}
 use Rattle.job_text.specs.declared.job.Line.{Line}
 use Rattle.job_text.specs.declared.job.Stop.{Stop}
 use Rattle.job_text.specs.declared.job.Deed.TheVariants.{Call}
-use Rattle.job_text.specs.Grammar.{job_of, IsHead, IsJob, IsLine, IsStop, Rises}
+use Rattle.job_text.specs.Grammar.{job_of, IsJob, IsLine, IsStop}
 use Rattle.big_job.specs.CallerWords.{first_word, next_word, word_after}
 use Rattle.big_job.specs.GeneratedLines.{op_of}
 use Rattle.big_job.specs.Generated.{line_of_caller, first_lines, lines_of_callers, generated_head, generated_job}

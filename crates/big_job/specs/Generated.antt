@@ -1,7 +1,6 @@
 -- The generated job of a number.
-use Rattle.std.specs.Prelude.{ℕ, ◌+◌, List, [], ◌∷◌, map}
+use Rattle.std.specs.Prelude.{ℕ, ◌+◌, List, [], map}
 use Rattle.std.specs.List.{flat_map, range_with_len}
-use Rattle.mont_base.specs.Layout.{Shape}
 use Rattle.mont_base.specs.Kinds.{old_kinds}
 use Rattle.job_text.specs.declared.header.Head.{Head}
 use Rattle.job_text.specs.declared.job.Job.{Job}

@@ -57,3 +57,7 @@ totals_of states = record {
   edges = sum_by edges_in states;
   sum = sum_by values_in states % 2 ^ 64;
 }
+
+-- how many things were counted
+abbrev pub things_in : Totals → ℕ
+things_in t = t.keys + t.items + t.vertices + t.edges

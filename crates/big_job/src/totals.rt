@@ -1,8 +1,9 @@
 // What is counted of the contents of all units, and the sum of their values.
-ghost use Rattle.std.specs.Prelude.{◌≡◌, ◌+◌, ◌%◌, ◌^◌, IfOk, sum, sum_by};
+ghost use Rattle.std.specs.Prelude.{◌≡◌, ◌+◌, ◌%◌, ◌^◌, ◌≤◌, MatchResult, sum, sum_by};
+ghost use Rattle.mont_base.specs.State.{size_of};
 ghost use Rattle.std.specs.VecDeque.Iter.{deque_iter_rest};
 ghost use Rattle.plain.specs.States.{state_of, states_of};
-ghost use Rattle.big_job.specs.Totals.{totals_of, value_of_edge, value_of_pair, value_of_vertex, with_state};
+ghost use Rattle.big_job.specs.Totals.{things_in, totals_of, value_of_edge, value_of_pair, value_of_vertex, with_state};
 
 use crate::digits::number_spelled;
 use mont_base::Text;
@@ -21,10 +22,11 @@ pub struct Totals {
 }
 
 impl Totals {
-    /// Those of contents. A count above `u64::MAX`, for which no memory has room, is want of memory
-    /// too.
+    /// Those of contents. Only a count above `u64::MAX`, for which no memory has room, is want of
+    /// memory.
     pub fn of(contents: &Contents) -> Result<Totals, AllocError>
-        ensures { IfOk result (λ t. t ≡ totals_of (states_of contents.now)) }
+        ensures { MatchResult result (λ t. t ≡ totals_of (states_of contents.now))
+            (λ _. 2 ^ 64 ≤ sum_by size_of (states_of contents.now)) }
     {
         let mut totals = Totals {
             keys: 0,
@@ -41,7 +43,8 @@ impl Totals {
 
     // With those of one unit more.
     fn with(self, state: &UnitState) -> Result<Totals, AllocError>
-        ensures { IfOk result (λ t. t ≡ with_state self (state_of state.now)) }
+        ensures { MatchResult result (λ t. t ≡ with_state self (state_of state.now))
+            (λ _. 2 ^ 64 ≤ things_in self + size_of (state_of state.now)) }
     {
         match state {
             UnitState::Map { state } | UnitState::Ordered { state } => Ok(Totals {
@@ -70,7 +73,7 @@ impl Totals {
 
 // A count that there is room for.
 fn added(a: u64, b: u64) -> Result<u64, AllocError>
-    ensures { IfOk result (λ n. n ≡ a + b) }
+    ensures { MatchResult result (λ n. n ≡ a + b) (λ _. 2 ^ 64 ≤ a + b) }
 {
     a.checked_add(b).ok_or(AllocError)
 }
