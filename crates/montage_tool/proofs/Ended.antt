@@ -1,6 +1,6 @@
 -- A job that was run on a store that was then stopped, and the report of it.
 use Rattle.std.proofs.Common.{◌≡◌, ◌≢◌, ℕ, Bool, List, [], length, map, replicate, refl, sym, ap, ◌∙◌, subst, arith}
-use Rattle.std.specs.Prelude.{All, Option, Some, None, IsSome, Ok, Err, IfOk, OnErr}
+use Rattle.std.specs.Prelude.{All, Option, Some, None, IsSome, Ok, Err, IfOk}
 use Rattle.std.specs.declared.result.Result.{Result}
 use Rattle.std.proofs.lemmas.List.{length-map}
 use Rattle.mont_base.specs.declared.constants.TheConstants.{FIRST_CLOCK}
@@ -26,13 +26,12 @@ use Rattle.job_text.specs.Report.{Report}
 use Rattle.job_worker.specs.Asking.{opened_records}
 use Rattle.job_worker.specs.Ending.{MayBeAsked}
 use Rattle.job_run.specs.declared.run.Ran.{Ran}
-use Rattle.job_run.specs.Run.{IsFresh, AreWorked}
+use Rattle.job_run.specs.Run.{AreWorked}
 use Rattle.job_report.specs.Reported.{HasRun, WasRun, report_made}
 use Rattle.mont_image.specs.Picking.{HasClock}
 use Rattle.store_stop.specs.declared.headline.Stopped.{Stopped}
 use Rattle.store_stop.specs.Headline.{IsBaseOf, IsStopped}
 use Rattle.store_stop.proofs.Items.{all_gives}
-use Rattle.montage.specs.Store.{AreAllCallers}
 use Rattle.montage_tool.specs.RunGates.{AreGates}
 use Rattle.montage_tool.specs.ReportedRun.{opening_of, HasEnded, IsPickOf, IsRun}
 use Rattle.montage_tool.proofs.CarriedOut.{carried_out}

@@ -3,5 +3,5 @@ pub mod Gated
 pub mod Passes
 pub mod CarriedOut
 pub mod Ended
-pub mod Serving
+pub mod SentReports
 pub mod Words

@@ -1,24 +1,21 @@
 -- The passes of all callers: those that a store was never used with, and the same behind a run.
 use Rattle.std.proofs.Common.{◌≡◌, ℕ, zero, suc, List, [], ◌∷◌, length, map, refl, sym, ap, ◌∙◌, subst, arith, length-append}
-use Rattle.std.specs.Prelude.{All, slice_get, Option, Some}
-use Rattle.std.proofs.lemmas.List.{length-map}
+use Rattle.std.specs.Prelude.{slice_get, Some}
 use Rattle.std.proofs.lemmas.Option.{slice_get_within}
 use Rattle.atomic_table.specs.Seated.{TableId}
 use Rattle.mont_base.specs.declared.gate.Fuel.{Fuel}
 use Rattle.mont_base.specs.Gates.{is_endless}
 use Rattle.core_steps.specs.Places.{EachAt}
-use Rattle.core_steps.proofs.RowFacts.{all_at, each_push, item_at, row_of_map, row_in_map}
+use Rattle.core_steps.proofs.RowFacts.{each_push, item_at, row_of_map, row_in_map}
 use Rattle.heap_rule.specs.declared.rule.Opening.{Opening}
 use Rattle.heap_rule.specs.declared.views.CallerKnown.{CallerKnown}
 use Rattle.heap_rule.specs.Views.{first_caller}
 use Rattle.heap.specs.HeapShown.{HeapShown, CallerShown}
 use Rattle.heap.specs.Opens.{dealt_callers}
-use Rattle.heap.specs.Stops.{IsSeatOfCaller}
 use Rattle.job_text.specs.declared.job.Job.{Job}
 use Rattle.job_text.specs.declared.outcome.Outcome.{Outcome}
-use Rattle.job_run.specs.Run.{IsFresh, AreWorked}
+use Rattle.job_run.specs.Run.{AreWorked}
 use Rattle.job_report.specs.Reported.{HasRun}
-use Rattle.montage.specs.Store.{AreAllCallers}
 use Rattle.montage_tool.specs.RunGates.{AreGates}
 use Rattle.montage_tool.proofs.Gated.{cuts_the_stopped}
 

@@ -5,3 +5,4 @@ pub mod Forms
 pub mod Montage
 pub mod Program
 pub mod CommandLine
+pub mod Process

@@ -3,7 +3,7 @@ ghost use Rattle.std.specs.Prelude.{◌≡◌, ◌↔◌, Some, map, string_byte
 ghost use Rattle.montage_tool.specs.Forms.{AreHelp, AreVersion};
 
 /// The answer to `--help`.
-pub(crate) const HELP: &str = "\
+pub const HELP: &str = "\
 montage: runs jobs over buffered durable structures
 
 usage:
@@ -33,7 +33,7 @@ exit status: 0 done, 2 bad words, 3 bad job, 5 read fault, 6 write fault,
 ";
 
 /// The answer to `--version`.
-pub(crate) const VERSION: &str = "montage 0.2.0\n";
+pub const VERSION: &str = "montage 0.2.0\n";
 
 // What the program may be asked of itself.
 #[derive(Clone, Copy, Debug, PartialEq, Eq)]

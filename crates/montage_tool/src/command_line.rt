@@ -9,8 +9,8 @@ use std::alloc::{AllocError, Global};
 use std::env::Args;
 use std::io;
 
-// The words behind the program's name, where the process has all of these.
-pub(crate) fn words_of(alloc: Global, all: io::Result<Args>) -> Result<Vec<String>, Status>
+/// The words behind the program's name, where the process has all of these.
+pub fn words_of(alloc: Global, all: io::Result<Args>) -> Result<Vec<String>, Status>
     ensures { MatchResult all
         (λ args. MatchResult result (λ words. words.items ≡ drop 1 (into_iter_items args))
         (λ status. status ≡ Status.Memory))

@@ -16,14 +16,8 @@ use std::process::ExitCode;
 use std::sync::Wait;
 use std::thread::Threads;
 
-// Answers what the words ask: of the program itself, or by `montage`.
-pub(crate) fn answer<
-    R: AllocGlobal + Threads + Wait + Sync,
-    J: Source,
-    I: Source,
-    O: Sink,
-    K: Sink,
->(
+/// Answers what the words ask: of the program itself, or by `montage`.
+pub fn answer<R: AllocGlobal + Threads + Wait + Sync, J: Source, I: Source, O: Sink, K: Sink>(
     rt: &R,
     words: &[String],
     job: &mut J,
@@ -51,15 +45,15 @@ fn send_text<O: Sink>(out: &mut O, text: &str) -> Status
     send(out, text.as_bytes())
 }
 
-// The exit status of the process.
-pub(crate) fn exit_of(status: &Status) -> ExitCode
+/// The exit status of the process.
+pub fn exit_of(status: &Status) -> ExitCode
     ensures { exit_status result ≡ exit_code_of status.now }
 {
     ExitCode::from(exit_code(status))
 }
 
-// Says a status other than `Done` by its line. Without memory for the line nothing is written.
-pub(crate) fn say<O: Sink>(alloc: Global, out: &mut O, status: &Status) -> Result<(), AllocError>
+/// Says a status other than `Done` by its line. Without memory for the line nothing is written.
+pub fn say<O: Sink>(alloc: Global, out: &mut O, status: &Status) -> Result<(), AllocError>
     ensures told { OnOk result
         (IsSaid O.taken O.faults out.old out.new (status_line status.now)) }
     ensures untold { OnErr result (out.new ≡ out.old) }

@@ -1,8 +1,8 @@
-use Rattle.std.proofs.Common.{ap, arith, subst, sym}
+use Rattle.std.proofs.Common.{ap, subst, sym}
 use Rattle.std.specs.Prelude.{Err}
 use Rattle.job_text.specs.declared.limits.TheConstants.{READ_BYTES}
 use Rattle.montage_tool.specs.Montage.{RunsJob}
-use Rattle.montage_tool.proofs.Serving.{lost_some, run_served, run_unread}
+use Rattle.montage_tool.proofs.SentReports.{lost_some, run_served, run_unread}
 use Rattle.montage_tool.proofs.top_call.read_and_run.Goals as goal
 
 pub returns-in-Ok : goal.returns-in-Ok

@@ -336,3 +336,9 @@ module _ {O : Type 0} (taken : O → Option (List ℕ)) (faults : O → ℕ) (ou
   }
   told_line (Err failed) all part cause =
       record { front = part; later = cause.later; whole = λ none. absurd (none cause.failed) }
+
+-- it is told, or there was no memory for it and the sink stayed as it was
+pub told_or_not : {O : Type 0} {T : Type 0} (old new : O) {E : Type 0} (result : Result (Unit {0}) E) → OnOk result T
+    → OnErr result (new ≡ old) → T ⊎ (new ≡ old)
+told_or_not old new (Ok done) told untold = inl told
+told_or_not old new (Err failed) told untold = inr untold

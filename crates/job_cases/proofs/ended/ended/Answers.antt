@@ -1,0 +1,11 @@
+use Rattle.montage_tool.proofs.SentReports.{told_or_not}
+use Rattle.job_cases.proofs.ended.ended.Goals as goal
+
+pub returns : goal.returns
+returns g c = record {
+  written = c.answer-status.new.out;
+  status = c.answer-status.result;
+  of_words = c.answer-status.ensures.answered;
+  line = told_or_not c.answer-status.new.out c.say.new.out c.say.result c.say.ensures.told c.say.ensures.untold;
+  code = c.exit_code.ensures;
+}

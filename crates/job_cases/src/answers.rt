@@ -1,0 +1,133 @@
+// What comes of a case on words and a job.
+use crate::boxes::{boxes_in, empty_boxes};
+use crate::ended::ended;
+use case_file::{Case, Subject, Unanswered, is_wanted, numbers_in};
+use index_kit::Index;
+use mont_base::{MemSink, MemSource};
+use std::alloc::Global;
+use std::rt::Files;
+use std::sync::Wait;
+use std::thread::Threads;
+use std::{fs, str};
+
+/// How many bytes a report has at most.
+const MOST_BYTES: u64 = 16_384;
+
+/// Answers cases with a part `words`, by what the process writes to its standard output, and its exit
+/// status. The part `job` is its standard input. Each case is tried with empty boxes of either kind,
+/// where it tells no boxes of its own, and as often as its part `times` says.
+#[derive(Drop)]
+pub struct JobCases<'a, R> {
+    pub rt: &'a R,
+}
+
+// How the devices of a case give and take bytes.
+#[derive(Drop)]
+struct Devices {
+    // How many bytes in a call.
+    piece: u64,
+    // The calls of the source that fail, and those of the sink.
+    reads: Vec<u64>,
+    writes: Vec<u64>,
+}
+
+impl<R: AllocGlobal + Files + Threads + Wait + Sync> Subject for JobCases<'_, R> {
+    fn answer(&self, case: &Case) -> Result<Vec<u8>, Unanswered> {
+        let alloc = self.rt.alloc();
+        if let Some(told) = case.part("boxes") {
+            return answer_with(self.rt, case, boxes_in(alloc, told)?);
+        }
+        let mut got = Vec::new(alloc);
+        for _time in 0..first_number(alloc, case, "times")?.unwrap_or(1) {
+            for sorted in [true, false] {
+                got = answer_with(self.rt, case, empty_boxes(alloc, sorted)?)?;
+                if !is_wanted(case, got.as_slice()) {
+                    return Ok(got);
+                }
+            }
+        }
+        Ok(got)
+    }
+}
+
+// What comes of a case with these boxes.
+fn answer_with<R: AllocGlobal + Files + Threads + Wait + Sync>(
+    rt: &R,
+    case: &Case,
+    boxes: Vec<Box<dyn Index + Send>>,
+) -> Result<Vec<u8>, Unanswered> {
+    let alloc = rt.alloc();
+    let words = words_in(alloc, case.needed("words")?)?;
+    let devices = devices_of(alloc, case)?;
+    if devices.piece == 0 {
+        return Err(Unanswered::Unclear { head: "pieces" });
+    }
+    let text = job_of(rt, case)?;
+    let mut job = MemSource::new(text, devices.piece, devices.reads);
+    let mut image = MemSource::new(Vec::new(alloc), 1, Vec::new(alloc));
+    let mut out = MemSink::new(alloc, MOST_BYTES, devices.piece, devices.writes)?;
+    let mut image_out = MemSink::new(alloc, 1, 1, Vec::new(alloc))?;
+    let code = ended(
+        rt,
+        &words,
+        &mut job,
+        &mut image,
+        boxes,
+        &mut out,
+        &mut image_out,
+    );
+    let mut answer = out.taken().to_vec(alloc)?;
+    let last = format!(in alloc; "exit status {code}\n")?;
+    answer.extend_from_slice(last.as_bytes())?;
+    Ok(answer)
+}
+
+// The standard input: the part `job`, or the file that the part `job file` names.
+fn job_of<R: AllocGlobal + Files>(rt: &R, case: &Case) -> Result<Vec<u8>, Unanswered> {
+    let unclear = Unanswered::Unclear { head: "job file" };
+    let Some(name) = case.part("job file") else {
+        return Ok(case.part("job").unwrap_or(b"").to_vec(rt.alloc())?);
+    };
+    let Ok(name) = str::from_utf8(name) else {
+        return Err(unclear);
+    };
+    match fs::read(rt, name.trim()) {
+        Ok(text) => Ok(text),
+        Err(_) => Err(unclear),
+    }
+}
+
+// How the devices give and take bytes, and fail.
+fn devices_of(alloc: Global, case: &Case) -> Result<Devices, Unanswered> {
+    Ok(Devices {
+        piece: first_number(alloc, case, "pieces")?.unwrap_or(4096),
+        reads: numbers_of(alloc, case, "failing reads")?,
+        writes: numbers_of(alloc, case, "failing writes")?,
+    })
+}
+
+// The numbers of a part, none where there is no such part.
+fn numbers_of(alloc: Global, case: &Case, head: &'static str) -> Result<Vec<u64>, Unanswered> {
+    match case.part(head) {
+        Some(text) => numbers_in(alloc, head, text),
+        None => Ok(Vec::new(alloc)),
+    }
+}
+
+// The first number of a part.
+fn first_number(alloc: Global, case: &Case, head: &'static str) -> Result<Option<u64>, Unanswered> {
+    let numbers = numbers_of(alloc, case, head)?;
+    Ok(numbers.first().copied())
+}
+
+// The words of a command line.
+fn words_in(alloc: Global, text: &[u8]) -> Result<Vec<String>, Unanswered> {
+    let Ok(line) = str::from_utf8(text) else {
+        return Err(Unanswered::Unclear { head: "words" });
+    };
+    let mut words = Vec::new(alloc);
+    for word in line.split_ascii_whitespace() {
+        words.push(String::from_str(alloc, word)?)?;
+    }
+    Ok(words)
+}

@@ -1,0 +1,62 @@
+//! The program that runs jobs over buffered durable structures.
+#![tactic(auto)]
+
+ghost use Rattle.std.specs.Prelude.{◌≡◌, map, string_bytes, MatchResult};
+ghost use Rattle.std.specs.Process.{exit_status};
+ghost use Rattle.montage_tool.specs.Process.{CameOf, Ends};
+
+use mont_base::{Sink, Source};
+use montage_tool::{Status, StdSink, StdSource, exit_of, say, serve, words_of};
+use std::process::ExitCode;
+use std::rt::Files;
+use std::sync::Wait;
+use std::thread::Threads;
+use std::{env, io};
+
+fn main(rt: HostRuntime) -> ExitCode {
+    let mut job = StdSource::new(rt.reader());
+    let mut out = StdSink::new(io::writer(&rt));
+    let words = words_of(rt.alloc(), env::args(&rt));
+    end_process(&rt, words, &mut job, &mut out)
+}
+
+// Answers the words of the process, where it has any, says the status by its line, and ends with its
+// exit status. Where there is no memory for the line, the exit status alone tells it.
+fn end_process<R: AllocGlobal + Files + Threads + Wait + Sync, J: Source, O: Sink>(
+    rt: &R,
+    words: Result<Vec<String>, Status>,
+    job: &mut J,
+    out: &mut O,
+) -> ExitCode
+    ensures { Ends O.taken O.faults
+        (λ written status. MatchResult words
+        (λ w. CameOf J.left J.faults O.taken O.faults (map string_bytes w.items)
+        job.old job.new out.old written status)
+        (λ s. (status ≡ s) × (job.new ≡ job.old) × (written ≡ out.old)))
+        out.new (exit_status result) }
+{
+    let status = status_of(rt, words, job, out);
+    let _ = say(rt.alloc(), out, &status);
+    exit_of(&status)
+}
+
+// What came of the words.
+fn status_of<R: AllocGlobal + Files + Threads + Wait + Sync, J: Source, O: Sink>(
+    rt: &R,
+    words: Result<Vec<String>, Status>,
+    job: &mut J,
+    out: &mut O,
+) -> Status
+    ensures { MatchResult words
+        (λ w. CameOf J.left J.faults O.taken O.faults (map string_bytes w.items)
+        job.old job.new out.old out.new result)
+        (λ s. (result ≡ s) × (job.new ≡ job.old) × (out.new ≡ out.old)) }
+{
+    match words {
+        Ok(words) => match serve(rt, &words, job, out) {
+            Ok(status) => status,
+            Err(_) => Status::Memory,
+        },
+        Err(status) => status,
+    }
+}

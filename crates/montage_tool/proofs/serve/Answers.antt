@@ -1,9 +1,0 @@
-use Rattle.std.proofs.Common.{◌∙◌, arith}
-use Rattle.std.proofs.lemmas.List.{length-map}
-use Rattle.montage_tool.proofs.serve.Goals as goal
-
-pub returns : goal.returns
-returns g c =
-    let many = c.loop-pair.invariant in
-    let test = c.loop-pair-test.false in
-    (_, length-map c.loop-pair.indexes.items _ ∙ omega (arith, many, test), c.answer.ensures.answered)
