@@ -1,10 +1,10 @@
 // What comes of a case on words and a job.
-use crate::boxes::{boxes_in, empty_boxes};
+use crate::boxes::{BoxKind, boxes_in, empty_boxes};
 use crate::ended::ended;
 use case_file::{Case, Subject, Unanswered, is_wanted, numbers_in};
-use index_kit::Index;
-use mont_base::{MemSink, MemSource};
-use std::alloc::Global;
+use index_kit::{Index, ProbeIndex, SortedIndex};
+use mont_base::{MemSink, MemSource, Text};
+use std::alloc::{AllocError, Global};
 use std::rt::Files;
 use std::sync::Wait;
 use std::thread::Threads;
@@ -35,12 +35,12 @@ impl<R: AllocGlobal + Files + Threads + Wait + Sync> Subject for JobCases<'_, R>
     fn answer(&self, case: &Case) -> Result<Vec<u8>, Unanswered> {
         let alloc = self.rt.alloc();
         if let Some(told) = case.part("boxes") {
-            return answer_with(self.rt, case, boxes_in(alloc, told)?);
+            return answer_with(self.rt, case, &boxes_in(alloc, told)?);
         }
         let mut got = Vec::new(alloc);
         for _time in 0..first_number(alloc, case, "times")?.unwrap_or(1) {
             for sorted in [true, false] {
-                got = answer_with(self.rt, case, empty_boxes(alloc, sorted)?)?;
+                got = answer_with(self.rt, case, &empty_boxes(alloc, sorted)?)?;
                 if !is_wanted(case, got.as_slice()) {
                     return Ok(got);
                 }
@@ -54,7 +54,7 @@ impl<R: AllocGlobal + Files + Threads + Wait + Sync> Subject for JobCases<'_, R>
 fn answer_with<R: AllocGlobal + Files + Threads + Wait + Sync>(
     rt: &R,
     case: &Case,
-    boxes: Vec<Box<dyn Index + Send>>,
+    boxes: &[BoxKind],
 ) -> Result<Vec<u8>, Unanswered> {
     let alloc = rt.alloc();
     let words = words_in(alloc, case.needed("words")?)?;
@@ -64,22 +64,39 @@ fn answer_with<R: AllocGlobal + Files + Threads + Wait + Sync>(
     }
     let text = job_of(rt, case)?;
     let mut job = MemSource::new(text, devices.piece, devices.reads);
-    let mut image = MemSource::new(Vec::new(alloc), 1, Vec::new(alloc));
     let mut out = MemSink::new(alloc, MOST_BYTES, devices.piece, devices.writes)?;
-    let mut image_out = MemSink::new(alloc, 1, 1, Vec::new(alloc))?;
-    let code = ended(
-        rt,
-        &words,
-        &mut job,
-        &mut image,
-        boxes,
-        &mut out,
-        &mut image_out,
-    );
+    let code = ended_with(rt, &words, &mut job, boxes, &mut out)?;
     let mut answer = out.taken().to_vec(alloc)?;
     let last = format!(in alloc; "exit status {code}\n")?;
     answer.extend_from_slice(last.as_bytes())?;
     Ok(answer)
+}
+
+// The exit status behind these words, with such boxes and without images.
+fn ended_with<R: AllocGlobal + Threads + Wait + Sync>(
+    rt: &R,
+    words: &[String],
+    job: &mut MemSource,
+    boxes: &[BoxKind],
+    out: &mut MemSink,
+) -> Result<u8, AllocError> {
+    let alloc = rt.alloc();
+    let mut image = MemSource::new(Vec::new(alloc), 1, Vec::new(alloc));
+    let mut image_out = MemSink::new(alloc, 1, 1, Vec::new(alloc))?;
+    let mut indexes: Vec<Box<dyn Index + Send>> = Vec::new(alloc);
+    for kind in boxes {
+        match kind {
+            BoxKind::Sorted => indexes.push(Box::new(alloc, SortedIndex::new(alloc))?)?,
+            BoxKind::Probed => indexes.push(Box::new(alloc, ProbeIndex::new(alloc))?)?,
+            BoxKind::Full => {
+                let mut index = SortedIndex::new(alloc);
+                index.reserve()?;
+                let _ = index.put(Text::of_number(1), 0);
+                indexes.push(Box::new(alloc, index)?)?;
+            }
+        }
+    }
+    Ok(ended(rt, words, job, &mut image, indexes, out, &mut image_out))
 }
 
 // The standard input: the part `job`, or the file that the part `job file` names.

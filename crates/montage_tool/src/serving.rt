@@ -9,7 +9,7 @@ use crate::program::answer;
 use crate::status::Status;
 use index_kit::{Index, ProbeIndex, SortedIndex};
 use mont_base::{Sink, Source};
-use std::alloc::{AllocError, Global};
+use std::alloc::AllocError;
 use std::rt::Files;
 use std::sync::Wait;
 use std::thread::Threads;
@@ -30,7 +30,12 @@ pub fn serve<R: AllocGlobal + Files + Threads + Wait + Sync, J: Source, O: Sink>
         job.old job.new out.old out.new status) }
     ensures memory { OnErr result ((job.new ≡ job.old) × (out.new ≡ out.old)) }
 {
-    let indexes = empty_boxes(rt.alloc())?;
+    let alloc = rt.alloc();
+    let mut indexes: Vec<Box<dyn Index + Send>> = Vec::new(alloc);
+    for _pair in 0..PAIRS {
+        indexes.push(Box::new(alloc, SortedIndex::new(alloc))?)?;
+        indexes.push(Box::new(alloc, ProbeIndex::new(alloc))?)?;
+    }
     let files = files_of(words);
     let mut image: FileSource<R::File> = match file_word(words, files.image) {
         Some(path) => FileSource::open(rt, path),
@@ -38,16 +43,4 @@ pub fn serve<R: AllocGlobal + Files + Threads + Wait + Sync, J: Source, O: Sink>
     };
     let mut image_out = FileSink::new(rt, file_word(words, files.image_out).unwrap_or(""));
     Ok(answer(rt, words, job, &mut image, indexes, out, &mut image_out))
-}
-
-// Empty boxes of two kinds in turn.
-fn empty_boxes(alloc: Global) -> Result<Vec<Box<dyn Index + Send>>, AllocError>
-    ensures { IfOk result (λ boxes. length boxes.items ≡ 16) }
-{
-    let mut boxes: Vec<Box<dyn Index + Send>> = Vec::new(alloc);
-    for _pair in 0..PAIRS {
-        boxes.push(Box::new(alloc, SortedIndex::new(alloc))?)?;
-        boxes.push(Box::new(alloc, ProbeIndex::new(alloc))?)?;
-    }
-    Ok(boxes)
 }
