@@ -1,7 +1,7 @@
 // What comes of a case on words and a job.
 use crate::boxes::{BoxKind, boxes_in, empty_boxes};
 use crate::ended::ended;
-use case_file::{Case, Subject, Unanswered, is_wanted, numbers_in};
+use case_file::{Case, Unanswered, is_wanted, numbers_in};
 use index_kit::{Index, ProbeIndex, SortedIndex};
 use mont_base::{MemSink, MemSource, Text};
 use std::alloc::{AllocError, Global};
@@ -13,14 +13,6 @@ use std::{fs, str};
 /// How many bytes a report has at most.
 const MOST_BYTES: u64 = 16_384;
 
-/// Answers cases with a part `words`, by what the process writes to its standard output, and its exit
-/// status. The part `job` is its standard input. Each case is tried with empty boxes of either kind,
-/// where it tells no boxes of its own, and as often as its part `times` says.
-#[derive(Drop)]
-pub struct JobCases<'a, R> {
-    pub rt: &'a R,
-}
-
 // How the devices of a case give and take bytes.
 #[derive(Drop)]
 struct Devices {
@@ -31,23 +23,27 @@ struct Devices {
     writes: Vec<u64>,
 }
 
-impl<R: AllocGlobal + Files + Threads + Wait + Sync> Subject for JobCases<'_, R> {
-    fn answer(&self, case: &Case) -> Result<Vec<u8>, Unanswered> {
-        let alloc = self.rt.alloc();
-        if let Some(told) = case.part("boxes") {
-            return answer_with(self.rt, case, &boxes_in(alloc, told)?);
-        }
-        let mut got = Vec::new(alloc);
-        for _time in 0..first_number(alloc, case, "times")?.unwrap_or(1) {
-            for sorted in [true, false] {
-                got = answer_with(self.rt, case, &empty_boxes(alloc, sorted)?)?;
-                if !is_wanted(case, got.as_slice()) {
-                    return Ok(got);
-                }
+/// Answers a case by what the process writes to its standard output, and its exit status. The part
+/// `words` is its command line, the part `job` its standard input. It is tried with empty boxes of
+/// either kind, where it tells no boxes of its own, and as often as its part `times` says.
+pub fn answer<R: AllocGlobal + Files + Threads + Wait + Sync>(
+    rt: &R,
+    case: &Case,
+) -> Result<Vec<u8>, Unanswered> {
+    let alloc = rt.alloc();
+    if let Some(told) = case.part("boxes") {
+        return answer_with(rt, case, &boxes_in(alloc, told)?);
+    }
+    let mut got = Vec::new(alloc);
+    for _time in 0..first_number(alloc, case, "times")?.unwrap_or(1) {
+        for sorted in [true, false] {
+            got = answer_with(rt, case, &empty_boxes(alloc, sorted)?)?;
+            if !is_wanted(case, got.as_slice()) {
+                return Ok(got);
             }
         }
-        Ok(got)
     }
+    Ok(got)
 }
 
 // What comes of a case with these boxes.

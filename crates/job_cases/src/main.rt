@@ -4,12 +4,12 @@
 mod answers;
 mod boxes;
 mod ended;
+mod job_trial;
 
-use answers::JobCases;
 use anyhow::Result;
-use case_file::try_cases;
+use job_trial::try_jobs;
 use std::process::ExitCode;
 
 fn main(rt: HostRuntime) -> Result<ExitCode> {
-    try_cases(&rt, &JobCases { rt: &rt })
+    try_jobs(&rt)
 }
