@@ -1,9 +1,9 @@
 //! Tries worked cases of jobs: what the words and the job come to, on devices in memory.
 #![tactic(auto)]
 
-mod answers;
 mod boxes;
-mod ended;
+mod ended_process;
+mod job_answers;
 mod job_trial;
 
 use anyhow::Result;

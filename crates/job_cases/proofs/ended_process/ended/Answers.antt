@@ -1,5 +1,5 @@
 use Rattle.montage_tool.proofs.SentReports.{told_or_not}
-use Rattle.job_cases.proofs.ended.ended.Goals as goal
+use Rattle.job_cases.proofs.ended_process.ended.Goals as goal
 
 pub returns : goal.returns
 returns g c = record {

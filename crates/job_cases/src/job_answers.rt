@@ -1,6 +1,6 @@
 // What comes of a case on words and a job.
 use crate::boxes::{BoxKind, boxes_in, empty_boxes};
-use crate::ended::ended;
+use crate::ended_process::ended;
 use case_file::{Case, Unanswered, is_wanted, numbers_in};
 use index_kit::{Index, ProbeIndex, SortedIndex};
 use mont_base::{MemSink, MemSource, Text};

@@ -1,0 +1,3 @@
+mod KeysAlike
+mod OrderedKeys
+mod RangeWalk
