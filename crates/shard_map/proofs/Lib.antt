@@ -4,3 +4,10 @@ pub mod KeysFilled
 pub mod MapBegins
 pub mod MapPlans
 pub mod MapCalls
+pub mod NumbersSpelled
+pub mod PairHalves
+pub mod PairCarried
+pub mod MapShifts
+pub mod PairOutcomes
+pub mod PairUnits
+pub mod Shifted

@@ -131,11 +131,11 @@ as_changes (Some c) cs h = h
 
 module _ (heap : HeapShown) (old new : RegionShown) (places : Places) (called : IsCalled heap old places) where
   -- it is a map unit still
-  kind_stays : IsRegionOf heap new → new.books.unit ≡ old.books.unit → KeepsPairs (kind_of new.books.layout new.books.unit)
+  pub kind_stays : IsRegionOf heap new → new.books.unit ≡ old.books.unit → KeepsPairs (kind_of new.books.layout new.books.unit)
   kind_stays of_heap unit = subst (λ (s : Shape). KeepsPairs (kind_of s new.books.unit)) (called.of_heap.layout ∙ sym of_heap.layout)
       (subst (λ (u : ℕ). KeepsPairs (kind_of old.books.layout u)) (sym unit) called.unit.kind)
 
-  keys_stay : (after : Places) → IsRegionOf heap new → new.books.unit ≡ old.books.unit
+  pub keys_stay : (after : Places) → IsRegionOf heap new → new.books.unit ≡ old.books.unit
       → HoldsLiveKeys old.books.layout old.books.unit new.seat.known.part.records after
       → HoldsLiveKeys new.books.layout new.books.unit new.seat.known.part.records after
   keys_stay after of_heap unit holds =

@@ -3,3 +3,7 @@ pub mod MapShard
 pub mod MapBeginning
 pub mod MapPlan
 pub mod MapCall
+pub mod NumberTexts
+pub mod MovedNumbers
+pub mod PairCarrying
+pub mod MapShift

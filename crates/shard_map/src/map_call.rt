@@ -91,7 +91,7 @@ fn make_room<I: Index, G: Gate>(
 }
 
 // The index follows an operation whose last record stands in this slot; with no record it stays.
-fn follow<I: Index>(index: &mut I, op: &Op, slot: Option<Slot>)
+pub(crate) fn follow<I: Index>(index: &mut I, op: &Op, slot: Option<Slot>)
     requires { HasRoomFor (I.places index.old) (I.spare index.old) op.now }
     ensures { I.places index.new ≡ places_behind (I.places index.old) op.now slot }
 {

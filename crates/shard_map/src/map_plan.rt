@@ -83,7 +83,7 @@ pub(crate) fn find<I: Index>(region: &Region, index: &I, key: &Text) -> Option<F
 }
 
 // What an operation on a key is answered: the value that it had.
-fn reply_of(found: &Option<Found>) -> Reply
+pub(crate) fn reply_of(found: &Option<Found>) -> Reply
     ensures { result ≡ earlier_text (value_found found.now) }
 {
     match found {
@@ -93,7 +93,7 @@ fn reply_of(found: &Option<Found>) -> Reply
 }
 
 // The change that sets the pair of a key.
-fn setting(found: &Option<Found>, body: [u64; BODY]) -> Change
+pub(crate) fn setting(found: &Option<Found>, body: [u64; BODY]) -> Change
     ensures { result ≡ setting found.now body }
 {
     match found {
