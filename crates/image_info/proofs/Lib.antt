@@ -1,0 +1,9 @@
+pub mod Accepted
+pub mod Behind
+pub mod Counted
+pub mod EpochNumbers
+pub mod Names
+pub mod NoFaults
+pub mod Repeated
+pub mod Versions
+pub mod Widened

@@ -1,0 +1,7 @@
+pub mod WideWords
+pub mod UnitCounts
+pub mod EpochCounts
+pub mod AllFaults
+pub mod ObjectFaults
+pub mod Info
+pub mod ToldLines
