@@ -1,6 +1,7 @@
 // What a crash keeps of a report's calls, and what is lost.
-ghost use Rattle.std.specs.Prelude.{◌≡◌, ◌-◌, ◌<◌, ◌↔◌, length, IsTrue, IfOk};
+ghost use Rattle.std.specs.Prelude.{◌≡◌, ◌-◌, length, IfOk};
 ghost use Rattle.mont_base.specs.History.{cut_at};
+ghost use Rattle.report_picture.specs.Lanes.{is_lost};
 
 use job_text::Report;
 use mont_base::{Entry, Epoch};
@@ -16,7 +17,7 @@ pub(crate) fn last_kept(image_clock: Epoch) -> Epoch
 
 /// Whether what is of an epoch is lost in an image with this clock.
 pub(crate) fn is_lost(image_clock: Epoch, epoch: Epoch) -> bool
-    ensures { IsTrue result ↔ (image_clock - 2 < epoch) }
+    ensures { result ≡ is_lost image_clock epoch }
 {
     last_kept(image_clock) < epoch
 }

@@ -1,134 +1,184 @@
 // What stands in the lanes of a picture: one for each unit with its entries, one for each caller
-// with what came of its lines. A lane has rows, and each label is a cell in the column of an epoch.
+// with what came of its lines. Each label is a cell in the column of an epoch.
+ghost use Rattle.std.specs.Prelude.{◌≡◌, ◌++◌, map, slice_get, IfOk, OnOk};
+ghost use Rattle.report_picture.specs.Lanes.{is_entry, entry_shown, outcome_shown, told_epoch, epoch_in, unit_lane, caller_lane, unit_lanes, caller_lanes, lanes_of, shown_of, cells_of};
+
 use crate::counts::is_lost;
-use crate::labels::{caller_letter, entry_label, kind_word};
+use crate::labels::{caller_letter, entry_label, kind_word, outcome_label};
 use job_text::{Outcome, Report};
 use mont_base::{Entry, Epoch, Sequence};
 use std::alloc::{AllocError, Global};
 
 /// A label in the column of an epoch.
-#[derive(Debug, Drop)]
+#[derive(Drop)]
 pub(crate) struct Cell {
     pub(crate) epoch: Epoch,
-    /// How many rows of its lane stand above it.
-    pub(crate) row: u64,
     /// Whether it is an entry that the image has lost.
     pub(crate) lost: bool,
     pub(crate) label: String,
 }
 
-/// A unit or a caller, with its labels in their order.
-#[derive(Debug, Drop)]
+/// A unit or a caller, with its cells in their order.
+#[derive(Drop)]
 pub(crate) struct Lane {
     pub(crate) name: String,
     pub(crate) cells: Vec<Cell>,
-    /// How many rows it has, one at least.
-    pub(crate) rows: u64,
-}
-
-impl Lane {
-    fn new(alloc: Global, name: String) -> Lane {
-        Lane {
-            name,
-            cells: Vec::new(alloc),
-            rows: 1,
-        }
-    }
-
-    // A label behind all others of the lane: beneath the last one where that has the same epoch.
-    fn add(&mut self, epoch: Epoch, lost: bool, label: String) -> Result<(), AllocError> {
-        let row = match self.cells.last() {
-            Some(last) if last.epoch == epoch => last.row.saturating_add(1),
-            _ => 0,
-        };
-        self.rows = self.rows.max(row.saturating_add(1));
-        self.cells.push(Cell {
-            epoch,
-            row,
-            lost,
-            label,
-        })?;
-        Ok(())
-    }
 }
 
 /// The lanes of all units, and behind them those of all callers.
-pub(crate) fn lanes_of(alloc: Global, report: &Report) -> Result<Vec<Lane>, AllocError> {
+pub(crate) fn lanes_of(alloc: Global, report: &Report) -> Result<Vec<Lane>, AllocError>
+    ensures { IfOk result (λ lanes. map cells_of lanes.items ≡ lanes_of report.now) }
+{
     let mut lanes = Vec::new(alloc);
-    let kinds = report.layout.kinds();
-    let mut unit = 0;
-    for history in report.histories.as_slice() {
-        let word = match kinds.as_slice().get(unit) {
-            Some(kind) => kind_word(*kind),
-            None => "unit",
-        };
-        let name = format!(in alloc; "{word} {unit}")?;
-        lanes.push(unit_lane(alloc, report.image_clock, name, history)?)?;
-        unit = unit.saturating_add(1);
-    }
-    let mut caller = 0;
-    for outcomes in report.outcomes.as_slice() {
-        lanes.push(caller_lane(alloc, report, caller, outcomes)?)?;
-        caller = caller.saturating_add(1);
-    }
+    push_units(alloc, &mut lanes, report)?;
+    push_callers(alloc, &mut lanes, report)?;
     Ok(lanes)
 }
 
-fn unit_lane(
-    alloc: Global,
-    image_clock: Epoch,
-    name: String,
-    history: &Sequence<Entry>,
-) -> Result<Lane, AllocError> {
-    let mut lane = Lane::new(alloc, name);
-    for entry in history.as_slice() {
-        let lost = is_lost(image_clock, entry.epoch);
-        lane.add(entry.epoch, lost, entry_label(alloc, entry)?)?;
+// The lanes of all units.
+fn push_units(alloc: Global, lanes: &mut Vec<Lane>, report: &Report) -> Result<(), AllocError>
+    ensures { OnOk result (map cells_of lanes.new.items
+        ≡ map cells_of lanes.old.items ++ unit_lanes report.now) }
+{
+    for (unit, history) in report.histories.as_slice().iter().enumerate() {
+        lanes.push(lane_of_unit(alloc, report, unit, history.as_slice())?)?;
     }
-    Ok(lane)
+    Ok(())
 }
 
-// What a caller's outcomes show stands at the epoch that the caller had reached.
-fn caller_lane(
+// The lane of a unit with this history.
+fn lane_of_unit(
+    alloc: Global,
+    report: &Report,
+    unit: usize,
+    history: &[Entry],
+) -> Result<Lane, AllocError>
+    ensures { IfOk result (λ lane. cells_of lane
+        ≡ unit_lane report.now.image_clock history.now) }
+{
+    let name = unit_name(alloc, report, unit)?;
+    let cells = unit_cells(alloc, report.image_clock, history)?;
+    Ok(Lane { name, cells })
+}
+
+// The lanes of all callers.
+fn push_callers(alloc: Global, lanes: &mut Vec<Lane>, report: &Report) -> Result<(), AllocError>
+    ensures { OnOk result (map cells_of lanes.new.items
+        ≡ map cells_of lanes.old.items ++ caller_lanes report.now) }
+{
+    for (caller, outcomes) in report.outcomes.as_slice().iter().enumerate() {
+        lanes.push(lane_of_caller(alloc, report, caller as u64, outcomes.as_slice())?)?;
+    }
+    Ok(())
+}
+
+// The lane of a caller with these outcomes.
+fn lane_of_caller(
     alloc: Global,
     report: &Report,
     caller: u64,
-    outcomes: &Sequence<Outcome>,
-) -> Result<Lane, AllocError> {
+    outcomes: &[Outcome],
+) -> Result<Lane, AllocError>
+    ensures { IfOk result (λ lane. cells_of lane ≡ caller_lane report.now outcomes.now) }
+{
     let letter = caller_letter(caller);
-    let mut lane = Lane::new(alloc, format!(in alloc; "caller {letter}")?);
+    let name = format!(in alloc; "caller {letter}")?;
+    let cells = caller_cells(alloc, report, outcomes)?;
+    Ok(Lane { name, cells })
+}
+
+/// The name of a unit: its kind and its number.
+pub(crate) fn unit_name(alloc: Global, report: &Report, unit: usize) -> Result<String, AllocError> {
+    let word = match report.layout.kinds().as_slice().get(unit) {
+        Some(kind) => kind_word(*kind),
+        None => "unit",
+    };
+    format!(in alloc; "{word} {unit}")
+}
+
+// The entries of a unit, each at its epoch.
+fn unit_cells(alloc: Global, image_clock: Epoch, history: &[Entry]) -> Result<Vec<Cell>, AllocError>
+    ensures { IfOk result (λ cells. map shown_of cells.items
+        ≡ unit_lane image_clock history.now) }
+{
+    let mut cells = Vec::new(alloc);
+    for entry in history {
+        cells.push(entry_cell(alloc, image_clock, entry)?)?;
+    }
+    Ok(cells)
+}
+
+// An entry at its epoch.
+fn entry_cell(alloc: Global, image_clock: Epoch, entry: &Entry) -> Result<Cell, AllocError>
+    ensures { IfOk result (λ cell. shown_of cell ≡ entry_shown image_clock entry.now) }
+{
+    Ok(Cell {
+        epoch: entry.epoch,
+        lost: is_lost(image_clock, entry.epoch),
+        label: entry_label(alloc, entry)?,
+    })
+}
+
+// The outcomes of a caller, each at the epoch that the caller had reached with it.
+fn caller_cells(
+    alloc: Global,
+    report: &Report,
+    outcomes: &[Outcome],
+) -> Result<Vec<Cell>, AllocError>
+    ensures { IfOk result (λ cells. map shown_of cells.items
+        ≡ caller_lane report.now outcomes.now) }
+{
+    let mut cells = Vec::new(alloc);
     let mut reached = report.base_clock;
-    for outcome in outcomes.as_slice() {
-        if let Some(epoch) = epoch_of(report, outcome) {
-            reached = reached.max(epoch);
-        }
-        let mark = if is_answer(outcome) { "" } else { "! " };
-        let lost = is_entry(outcome) && is_lost(report.image_clock, reached);
-        lane.add(reached, lost, format!(in alloc; "{mark}{outcome}")?)?;
+    for outcome in outcomes {
+        reached = reached.max(told_epoch(report, outcome));
+        cells.push(outcome_cell(alloc, report.image_clock, reached, outcome)?)?;
     }
-    Ok(lane)
+    Ok(cells)
 }
 
-// The epoch of the entry that an outcome names, or the clock that it tells.
-fn epoch_of(report: &Report, outcome: &Outcome) -> Option<Epoch> {
+// An outcome at the epoch that its caller had reached.
+fn outcome_cell(
+    alloc: Global,
+    image_clock: Epoch,
+    epoch: Epoch,
+    outcome: &Outcome,
+) -> Result<Cell, AllocError>
+    ensures { IfOk result (λ cell. shown_of cell ≡ outcome_shown image_clock epoch outcome.now) }
+{
+    Ok(Cell {
+        epoch,
+        lost: is_entry(outcome) && is_lost(image_clock, epoch),
+        label: outcome_label(alloc, outcome)?,
+    })
+}
+
+// The epoch of the entry that an outcome names, or the clock that it tells; 0 where it tells none.
+fn told_epoch(report: &Report, outcome: &Outcome) -> Epoch
+    ensures { result ≡ told_epoch report.now.histories outcome.now }
+{
     match outcome {
-        Outcome::At { unit, place } => {
-            let entry = report.histories.get(*unit)?.get(*place)?;
-            Some(entry.epoch)
-        }
-        Outcome::Synced { epoch } | Outcome::Ticked { epoch } => Some(*epoch),
-        _ => None,
+        Outcome::At { unit, place } => epoch_at(report.histories.as_slice(), *unit, *place),
+        Outcome::Synced { epoch } | Outcome::Ticked { epoch } => *epoch,
+        _ => 0,
     }
 }
 
-fn is_entry(outcome: &Outcome) -> bool {
-    matches!(outcome, Outcome::At { .. })
+// The epoch of the entry at a place of a unit's history, 0 where there is none.
+fn epoch_at(histories: &[Sequence<Entry>], unit: u64, place: u64) -> Epoch
+    ensures { result ≡ epoch_in (slice_get histories.now unit) place }
+{
+    match histories.get(unit as usize) {
+        Some(history) => match history.get(place) {
+            Some(entry) => entry.epoch,
+            None => 0,
+        },
+        None => 0,
+    }
 }
 
-// Whether the line was carried out.
-fn is_answer(outcome: &Outcome) -> bool {
-    matches!(
-        outcome,
-        Outcome::At { .. } | Outcome::Synced { .. } | Outcome::Ticked { .. }
-    )
+fn is_entry(outcome: &Outcome) -> bool
+    ensures { result ≡ is_entry outcome.now }
+{
+    matches!(outcome, Outcome::At { .. })
 }

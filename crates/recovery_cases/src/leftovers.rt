@@ -1,0 +1,69 @@
+// What is left of a store that was opened from an image and stopped in its sweep, or behind it.
+ghost use Rattle.std.specs.Prelude.{◌≡◌, ◌<◌, ◌≤◌, ℕ, List, false, IfOk};
+ghost use Rattle.mont_base.specs.Image.{IsPermitted};
+ghost use Rattle.recover.specs.StoppedWords.{HoldsBase};
+ghost use Rattle.recovery_cases.specs.Leftovers.{HoldsSame};
+
+use case_file::Unanswered;
+use mont_base::Fuel;
+use mont_image::{Image, pick};
+use recover::{RecoverRefusal, Recovered, recover};
+use std::alloc::{AllocError, Global};
+use std::thread::Threads;
+
+/// What is left behind a sweep.
+#[derive(Drop)]
+pub struct Left {
+    /// Whether the sweep was cut.
+    pub cut: bool,
+    /// The image that a crash left.
+    pub image: Image,
+}
+
+/// The store of an image that recovery accepts, with one caller.
+pub fn opened(
+    rt: &(impl Threads + Sync),
+    alloc: Global,
+    image: &Image,
+) -> Result<Recovered, Unanswered>
+    requires { image.now.old ≡ false }
+    ensures { IfOk result (λ store. store.heap.opening ≡ record {
+      layout = image.now.layout;
+      words = image.now.words;
+      callers = 1;
+    }) }
+{
+    match recover(rt, alloc, image, 1, 1) {
+        Ok(store) => Ok(store),
+        Err(RecoverRefusal::Memory) => Err(Unanswered::Memory),
+        Err(_) => Err(Unanswered::Unclear { head: "image" }),
+    }
+}
+
+/// What is left of the store of an image behind a sweep with so many steps, as a mask picks it.
+pub fn left_by(
+    rt: &(impl Threads + Sync),
+    alloc: Global,
+    image: &Image,
+    steps: u64,
+    mask: u64,
+) -> Result<Left, Unanswered>
+    requires { image.now.old ≡ false }
+    ensures { IfOk result (λ left. HoldsSame image.now left.image) }
+{
+    let mut store = opened(rt, alloc, image)?;
+    let cut = store.sweep(&mut Fuel::new(steps)).is_err();
+    let image = picked(alloc, store, mask)?;
+    Ok(Left { cut, image })
+}
+
+// The image that a mask picks of the words of a store.
+fn picked(alloc: Global, store: Recovered, mask: u64) -> Result<Image, AllocError>
+    ensures layout { IfOk result (λ image. image.layout ≡ store.heap.opening.layout) }
+    ensures new { IfOk result (λ image. image.old ≡ false) }
+    ensures base { IfOk result (λ image. HoldsBase store.heap.opening.layout
+        store.heap.opening.words image.words) }
+{
+    let words = store.stop(alloc)?;
+    pick(alloc, &words, mask)
+}

@@ -1,0 +1,28 @@
+//! Tries worked cases of recovery: which images are refused, where and why, what others hold, what
+//! a sweep that is cut leaves, and what is left of a store that crashes again and again.
+#![tactic(auto)]
+
+mod asked_image;
+mod chains;
+mod drawn_images;
+mod found_text;
+mod image_part;
+mod image_shape;
+mod leftovers;
+mod now;
+mod plain_records;
+mod plain_store;
+mod record_words;
+mod recovery_answers;
+mod recovery_trial;
+mod slot_line;
+mod sweep_table;
+mod tellings;
+
+use anyhow::Result;
+use recovery_trial::try_all;
+use std::process::ExitCode;
+
+fn main(rt: HostRuntime) -> Result<ExitCode> {
+    try_all(&rt)
+}

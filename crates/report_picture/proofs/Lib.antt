@@ -1,0 +1,7 @@
+pub mod Lists
+pub mod Stacks
+pub mod Epochs
+pub mod Rows
+pub mod Folds
+pub mod Words
+pub mod Held
