@@ -1,5 +1,5 @@
-// The trial of all cases of some files. A case's answer starts threads, which only what is handed the
-// runtime can do, so it is no subject of `case_file`.
+// The trial of all cases of some files. A case's answer starts threads, which only what is handed
+// the runtime can do, so it is no subject of `case_file`.
 use crate::job_answers::answer;
 use anyhow::{Context, Result, anyhow};
 use case_file::{Case, is_wanted, read_cases, said};

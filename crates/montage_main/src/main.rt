@@ -20,8 +20,8 @@ fn main(rt: HostRuntime) -> ExitCode {
     end_process(&rt, words, &mut job, &mut out)
 }
 
-// Answers the words of the process, where it has any, says the status by its line, and ends with its
-// exit status. Where there is no memory for the line, the exit status alone tells it.
+// Answers the words of the process, where it has any, says the status by its line, and ends with
+// its exit status. Where there is no memory for the line, the exit status alone tells it.
 fn end_process<R: AllocGlobal + Files + Threads + Wait + Sync, J: Source, O: Sink>(
     rt: &R,
     words: Result<Vec<String>, Status>,

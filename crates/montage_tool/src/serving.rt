@@ -17,8 +17,8 @@ use std::thread::Threads;
 // How many boxes there are of each kind.
 const PAIRS: usize = 8;
 
-/// Answers the words with these devices, with the files that the words name, and with empty boxes of
-/// two kinds in turn.
+/// Answers the words with these devices, with the files that the words name, and with empty boxes
+/// of two kinds in turn.
 pub fn serve<R: AllocGlobal + Files + Threads + Wait + Sync, J: Source, O: Sink>(
     rt: &R,
     words: &[String],

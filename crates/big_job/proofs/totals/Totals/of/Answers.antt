@@ -12,5 +12,6 @@ returns-in_err-totals c =
     let failed = err_from_is_err_and c.from_residual.result c.from_residual.ensures.1 in
     let items = c.as_slice-state-items.result.now in
     let many = subst (λ s. 2 ^ 64 ≤ things_in c.loop-state.totals + size_of (state_of s)) c.state-item.is c.in_err-totals.ensures in
-    let whole = no_room _ state_of items c.loop-state.state-index _ c.loop-state.totals c.loop-state.invariant c.loop-state-test.true many in
+    let so_far = c.loop-state.totals in
+    let whole = no_room _ state_of items c.loop-state.state-index _ so_far c.loop-state.invariant c.loop-state-test.true many in
     rw failed.1 (subst (λ units. 2 ^ 64 ≤ sum_by size_of (map state_of units)) c.as_slice-state-items.ensures whole)
