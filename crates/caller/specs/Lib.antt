@@ -1,2 +1,3 @@
 pub mod Telling
 pub mod Syncing
+pub mod Continued

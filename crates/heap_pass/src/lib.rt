@@ -9,5 +9,5 @@ mod pass;
 mod tests;
 
 pub use named::{HeapName, Named, OfHeap};
-pub use padding::Padding;
+pub use padding::{Apart, Padding};
 pub use pass::Pass;

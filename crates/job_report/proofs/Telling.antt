@@ -32,7 +32,7 @@ use Rattle.job_text.specs.Causes.{WasCutIn}
 use Rattle.job_text.specs.Faithful.{HasStop, IsFaithful, LegalAt, RunsAt, CutAt, AnsweredAt, AllNamedAt}
 use Rattle.job_text.specs.Outcomes.{names_entry}
 use Rattle.job_text.specs.Report.{Report, lines_of}
-use Rattle.job_worker.specs.Asking.{opened_records}
+use Rattle.caller.specs.Continued.{opened_records}
 use Rattle.heap_rule.specs.SeenEntries.{StandsFirst}
 use Rattle.job_worker.specs.Continuing.{Continues}
 use Rattle.job_worker.specs.Continuing as continuing

@@ -5,7 +5,7 @@ ghost use Rattle.heap_rule.specs.declared.rule.Opening.{Opening};
 ghost use Rattle.heap.specs.HeapShown.{CallerShown};
 ghost use Rattle.job_text.specs.Faithful.{IsFaithful};
 ghost use Rattle.job_text.specs.PlainReport.{report_of};
-ghost use Rattle.job_worker.specs.Asking.{opened_records};
+ghost use Rattle.caller.specs.Continued.{opened_records};
 ghost use Rattle.job_report.specs.FoundRuns.{AreRuns};
 ghost use Rattle.job_report.specs.Reported.{WasRun, report_made};
 

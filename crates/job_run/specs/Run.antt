@@ -10,8 +10,8 @@ use Rattle.job_text.specs.declared.job.Line.{Line}
 use Rattle.job_text.specs.declared.outcome.Outcome.{Outcome}
 use Rattle.job_text.specs.Outcomes.{is_cut}
 use Rattle.job_text.specs.Report.{lines_of}
-use Rattle.job_worker.specs.Continuing.{GoesOn}
-use Rattle.job_worker.specs.Worked.{HasWorked, IsUnanswered}
+use Rattle.caller.specs.Continued.{GoesOn, IsUnanswered}
+use Rattle.job_worker.specs.Worked.{HasWorked}
 
 -- the caller was cut in one of its lines, if they were all carried out
 abbrev pub was_cut_in : Option (List Outcome) → Bool

@@ -1,9 +1,10 @@
 -- When the outcomes of a caller answer the caller's lines.
-use Rattle.std.specs.Prelude.{◌≡◌, ℕ, ◌+◌, ◌<◌, ◌≤◌, true, List, [], length, take, drop, AllPairs, Any, count_by, slice_get, Some, unwrap_or}
+use Rattle.std.specs.Prelude.{◌≡◌, ℕ, ◌+◌, ◌<◌, ◌≤◌, true, List, length, take, drop, AllPairs, Any, count_by, slice_get, Some}
 use Rattle.mont_base.specs.declared.constants.TheConstants.{LAST}
 use Rattle.mont_base.specs.declared.operation.Entry.{Entry}
 use Rattle.mont_base.specs.declared.operation.Op.{Op}
 use Rattle.mont_base.specs.declared.record.Held.{Held}
+use Rattle.mont_base.specs.Counting.{IsAtEnd, records_in}
 use Rattle.mont_base.specs.State.{unit_of_op}
 use Rattle.mont_base.specs.Seen.{IsEntryAt}
 use Rattle.job_text.specs.declared.job.Line.{Line}
@@ -13,7 +14,7 @@ use Rattle.job_text.specs.declared.outcome.Outcome.{Outcome}
 use Rattle.job_text.specs.declared.outcome.Outcome.TheVariants.{At, Synced, Ticked, Stuck, ClockEnd, Full, CountEnd, Halted, CutIn, Cut}
 use Rattle.job_text.specs.Report.{Report}
 use Rattle.job_text.specs.Outcomes.{is_at, is_cut, InOrder}
-use Rattle.job_text.specs.Causes.{SomeMoment, IsFull, MayBeFull, IsAtEnd, IsHalted, IsStuck}
+use Rattle.job_text.specs.Causes.{SomeMoment, IsFull, MayBeFull, IsHalted, IsStuck}
 
 -- an operation has an entry of the caller, of its number among the caller's calls
 pub record IsAnswer (r : Report) (caller call : ℕ) (op : Op) (unit place : ℕ) : Type 0 where
@@ -23,10 +24,6 @@ pub record IsAnswer (r : Report) (caller call : ℕ) (op : Op) (unit place : ℕ
   pub by : entry.caller ≡ caller
   pub number : entry.call ≡ call
   pub asked : entry.op ≡ op
-
--- the records that a unit was opened with
-abbrev pub records_in : List (List Held) → ℕ → List Held
-records_in records unit = unwrap_or (slice_get records unit) []
 
 -- ---- one line
 -- Of a report, and of a caller whose gate may cut or not.

@@ -1,19 +1,12 @@
 -- Why a line wasn't answered as it asked. A report doesn't show at which moment a call was made
 -- that left no entry, so its cause is told of some moment that the caller's other entries allow: of
 -- what the unit held when the store was opened, and of its entries until then.
-use Rattle.std.specs.Prelude.{◌≡◌, ℕ, ◌+◌, ◌<◌, ◌≤◌, true, List, length, take, All, Contains, count_by, slice_get, Option, Some, None}
-use Rattle.mont_base.specs.declared.constants.TheConstants.{LAST}
+use Rattle.std.specs.Prelude.{◌≡◌, ℕ, ◌<◌, ◌≤◌, List, length, take, All, Contains, slice_get, Some}
 use Rattle.mont_base.specs.declared.operation.Entry.{Entry}
 use Rattle.mont_base.specs.declared.operation.Op.{Op}
-use Rattle.mont_base.specs.declared.record.Held.{Held}
-use Rattle.mont_base.specs.declared.record.Object.{Object}
-use Rattle.mont_base.specs.declared.refusal.Which.{Which}
-use Rattle.mont_base.specs.declared.refusal.Which.TheVariants as ends
 use Rattle.mont_base.specs.State.{State, unit_of_op}
-use Rattle.mont_base.specs.Room.{room_of}
-use Rattle.mont_base.specs.Structure.{item_at}
-use Rattle.mont_base.specs.Versions.{live_objects}
-use Rattle.mont_base.specs.Counting.{LacksIdentity, LacksVersions, effects_then, greatest_by, is_enq}
+use Rattle.mont_base.specs.Room.{LacksRoom, room_of}
+use Rattle.mont_base.specs.Counting.{effects_then}
 use Rattle.job_text.specs.declared.outcome.Outcome.{Outcome}
 use Rattle.job_text.specs.declared.outcome.Outcome.TheVariants.{CutIn}
 use Rattle.job_text.specs.Report.{Report}
@@ -43,12 +36,6 @@ pub record SomeMoment (r : Report) (before after : List Outcome) (op : Op)
   pub held : Held unit base (take point history)
 
 -- ---- want of room
--- so many slots were needed, and so many were free, which are fewer
-pub record LacksRoom (needed room need free : ℕ) : Type 0 where
-  pub as_needed : needed ≡ need
-  pub as_free : room ≡ free
-  pub few : free < need
-
 -- a clock that the run may have had
 pub record IsReached (r : Report) (clock : ℕ) : Type 0 where
   pub begun : r.base_clock ≤ clock
@@ -71,26 +58,6 @@ pub record MayBeFull (r : Report) (before after : List Outcome) (op : Op) : Type
   pub lacks :
       SomeMoment r before after op
       (λ unit base h. room_of r.layout.slots base h clock < length (effects_then base h op))
-
--- ---- numbers at their end
-abbrev pub serial_or_none : Option (ℕ × ℕ) → ℕ
-serial_or_none None = 0
-serial_or_none (Some p) = p.0
-
-abbrev pub serial_of : Object → ℕ
-serial_of o = serial_or_none (item_at o)
-
--- The number is at its end, by the records that the unit was opened with and by these entries. The
--- caller had made so many calls.
-abbrev pub IsAtEnd : List Held → ℕ → Which → Op → State → List Entry → Type 0
-IsAtEnd records calls ends.Call op base h = LAST < calls
-IsAtEnd records calls ends.Place op base h = LAST < length h
-IsAtEnd records calls ends.Identity op base h = LacksIdentity records base h op
-IsAtEnd records calls ends.Version op base h = LacksVersions records base h op
-IsAtEnd records calls ends.Serial op base h =
-    (is_enq op ≡ true)
-    × (LAST ≤ greatest_by serial_of (live_objects records)
-    + count_by (λ (e : Entry). is_enq e.op) h)
 
 -- ---- callers that were cut
 -- the caller was cut in the unit

@@ -25,7 +25,8 @@ use Rattle.mont_base.specs.Versions.{live_objects}
 use Rattle.mont_base.specs.Counting.{effects_then}
 use Rattle.heap_rule.specs.SeenEntries.{AreFronts}
 use Rattle.heap_rule.proofs.SeenFronts.{fronts_same}
-use Rattle.job_worker.specs.Asking.{KeepsAnswers, HasContinued, FoundFrom, HasNoRoom, WasHalted, IsCutIn}
+use Rattle.caller.specs.Continued.{HasContinued}
+use Rattle.job_worker.specs.Asking.{KeepsAnswers, FoundFrom, HasNoRoom, WasHalted, IsCutIn}
 use Rattle.job_worker.specs.Alone.{alone_opening, held_alone}
 use Rattle.job_worker.proofs.Fronts.{one_found}
 use Rattle.job_worker.proofs.Later.{keeps_same}

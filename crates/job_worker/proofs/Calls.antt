@@ -7,9 +7,9 @@ use Rattle.mont_base.specs.declared.operation.Entry.{Entry}
 use Rattle.mont_base.specs.declared.operation.Op.{Op}
 use Rattle.mont_base.specs.declared.operation.Receipt.{Receipt}
 use Rattle.mont_base.specs.declared.refusal.Which.{Which}
-use Rattle.mont_base.specs.Counting.{effects_then}
+use Rattle.mont_base.specs.Counting.{effects_then, IsAtEnd, records_in}
 use Rattle.mont_base.specs.Layout.{Shape}
-use Rattle.mont_base.specs.Room.{room_of}
+use Rattle.mont_base.specs.Room.{room_of, LacksRoom}
 use Rattle.mont_base.specs.Seen.{IsEntryAt}
 use Rattle.mont_base.specs.State.{State, unit_of_op}
 use Rattle.heap_rule.specs.declared.rule.Opening.{Opening}
@@ -18,12 +18,12 @@ use Rattle.job_text.specs.declared.job.Deed.{Deed}
 use Rattle.job_text.specs.declared.job.Deed.TheVariants.{Call}
 use Rattle.job_text.specs.declared.outcome.Outcome.{Outcome}
 use Rattle.job_text.specs.declared.outcome.Outcome.TheVariants as outcomes
-use Rattle.job_text.specs.AnsweredLines.{records_in}
-use Rattle.job_text.specs.Causes.{SomeMoment, IsReached, MayBeFull, LacksRoom, IsAtEnd, WasCutIn}
+use Rattle.job_text.specs.Causes.{SomeMoment, IsReached, MayBeFull, WasCutIn}
 use Rattle.job_text.specs.Outcomes.{place_of, HasEpoch, clock_of, tick_of, settled_of, is_at}
 use Rattle.job_text.specs.Report.{Report}
 use Rattle.job_worker.specs.Continuing.{Continues}
-use Rattle.job_worker.specs.Asking.{KeepsAnswers, HasContinued, HasNoRoom, HasEnd, WasHalted, IsCutIn, opened_records}
+use Rattle.caller.specs.Continued.{HasContinued, opened_records}
+use Rattle.job_worker.specs.Asking.{KeepsAnswers, HasNoRoom, HasEnd, WasHalted, IsCutIn}
 use Rattle.job_worker.specs.Ending.{IsBefore, IsAhead, IsSettled, ComesBehind, IsTold, Ends, place_answered, places_named, units_cut}
 use Rattle.job_worker.proofs.Fronts.{one_found, entry_there, one_entry}
 use Rattle.job_worker.proofs.Later.{found_more, some_moment}

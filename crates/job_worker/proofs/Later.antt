@@ -12,7 +12,8 @@ use Rattle.job_text.specs.declared.outcome.Outcome.{Outcome}
 use Rattle.job_text.specs.Causes.{IsPoint, SomeMoment}
 use Rattle.job_text.specs.Outcomes.{is_cut, InOrder}
 use Rattle.job_text.specs.Report.{Report}
-use Rattle.job_worker.specs.Continuing.{GoesOn, Continues}
+use Rattle.caller.specs.Continued.{GoesOn}
+use Rattle.job_worker.specs.Continuing.{Continues}
 use Rattle.job_worker.specs.Asking.{KeepsAnswers, WasFound}
 use Rattle.job_worker.specs.Ending.{IsPassed, IsBefore, IsAhead, ComesBehind}
 use Rattle.heap_rule.proofs.SeenFronts.{fronts_same, fronts_trans}

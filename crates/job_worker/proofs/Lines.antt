@@ -21,10 +21,9 @@ use Rattle.job_text.specs.declared.outcome.Outcome.TheVariants as outcomes
 use Rattle.job_text.specs.AnsweredLines.{Answers}
 use Rattle.job_text.specs.Outcomes.{place_of, is_at, is_cut, InOrder}
 use Rattle.job_text.specs.Report.{Report}
-use Rattle.job_worker.specs.Continuing.{GoesOn}
-use Rattle.job_worker.specs.Asking.{opened_records}
+use Rattle.caller.specs.Continued.{opened_records, GoesOn, IsUnanswered}
 use Rattle.job_worker.specs.Ending.{IsBefore, IsAhead, IsTold, Ends, AreUncut, AreTold, AreEnds, cut_of, places_named, units_cut, place_answered}
-use Rattle.job_worker.specs.Worked.{IsUnanswered, HasWorked}
+use Rattle.job_worker.specs.Worked.{HasWorked}
 use Rattle.job_worker.proofs.Fronts.{one_found}
 use Rattle.job_worker.proofs.Gates.{asked_more}
 use Rattle.job_worker.proofs.Later.{goes_same, goes_trans, continues_before, all_before, all_ahead, in_order}

@@ -21,8 +21,9 @@ use Rattle.job_text.specs.declared.outcome.Outcome.TheVariants as outcomes
 use Rattle.job_text.specs.AnsweredLines.{Answers, EndsWait}
 use Rattle.job_text.specs.Outcomes.{is_at, is_cut}
 use Rattle.job_text.specs.Report.{Report}
-use Rattle.job_worker.specs.Continuing.{GoesOn, Continues}
-use Rattle.job_worker.specs.Asking.{KeepsAnswers, HasContinued, HasLearntWhy, HasNoRoom, HasMoved, HasHeard, HasSynced, LeavesUnsynced, opened_records}
+use Rattle.job_worker.specs.Continuing.{Continues}
+use Rattle.caller.specs.Continued.{HasContinued, opened_records, GoesOn}
+use Rattle.job_worker.specs.Asking.{KeepsAnswers, HasLearntWhy, HasNoRoom, HasMoved, HasHeard, HasSynced, LeavesUnsynced}
 use Rattle.job_worker.specs.Ending.{IsBefore, IsAhead, IsTold, Ends, was_full, outcome_of_call, outcome_of_sync, place_answered, places_named, units_cut}
 use Rattle.job_worker.proofs.Fronts.{one_found}
 use Rattle.job_worker.proofs.Later.{goes_trans, keeps_trans, continues_before, all_before, all_ahead, behind_earlier}

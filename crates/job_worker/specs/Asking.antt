@@ -1,18 +1,15 @@
 -- What a caller has of a call, of a tick and of a sync.
-use Rattle.std.specs.Prelude.{◌≡◌, ℕ, ◌+◌, ◌<◌, ◌≤◌, Bool, true, false, List, [], ◌∷◌, ◌++◌, length, map, slice_get, Some, None, IsSome, Err}
+use Rattle.std.specs.Prelude.{◌≡◌, ℕ, ◌+◌, ◌<◌, ◌≤◌, Bool, true, false, List, [], ◌∷◌, ◌++◌, length, slice_get, Some, None, IsSome, Err}
 use Rattle.std.specs.declared.result.Result.{Result}
-use Rattle.std.specs.List.{range_with_len}
 use Rattle.mont_base.specs.declared.constants.TheConstants.{LAST}
 use Rattle.mont_base.specs.declared.operation.Entry.{Entry}
 use Rattle.mont_base.specs.declared.operation.Op.{Op}
-use Rattle.mont_base.specs.declared.operation.Receipt.{Receipt}
-use Rattle.mont_base.specs.declared.record.Held.{Held}
 use Rattle.mont_base.specs.declared.refusal.CallRefusal.{CallRefusal}
 use Rattle.mont_base.specs.declared.refusal.Which.{Which}
 use Rattle.mont_base.specs.declared.refusal.CallRefusal.TheVariants as calls
-use Rattle.mont_base.specs.Counting.{effects_then}
-use Rattle.mont_base.specs.Image.{clock_of, records_of, IsRecovered}
-use Rattle.mont_base.specs.Layout.{Shape, units_of}
+use Rattle.mont_base.specs.Counting.{effects_then, IsAtEnd, records_in}
+use Rattle.mont_base.specs.Image.{clock_of, IsRecovered}
+use Rattle.mont_base.specs.Layout.{Shape}
 use Rattle.mont_base.specs.Room.{room_of}
 use Rattle.mont_base.specs.State.{State, unit_of_op}
 use Rattle.heap_rule.specs.declared.rule.Opening.{Opening}
@@ -22,19 +19,12 @@ use Rattle.advance.specs.declared.advance_refusal.AdvanceRefusal.TheVariants as 
 use Rattle.caller.specs.declared.sync_refusal.SyncRefusal.{SyncRefusal}
 use Rattle.caller.specs.declared.sync_refusal.SyncRefusal.TheVariants as syncs
 use Rattle.caller.specs.Telling.{has_mark}
-use Rattle.job_text.specs.AnsweredLines.{records_in}
-use Rattle.job_text.specs.Causes.{IsAtEnd}
-use Rattle.job_worker.specs.Continuing.{GoesOn}
+use Rattle.caller.specs.Continued.{GoesOn, opened_records}
 
 -- ---- what may be asked
 -- there is a unit of the operation
 abbrev pub HasUnit : Shape → Op → Type 0
 HasUnit s op = IsSome (unit_of_op s op)
-
--- the records that each unit was opened with
-abbrev pub opened_records : Opening → List (List Held)
-opened_records o =
-    map (records_of o.layout o.words) (range_with_len 0 (units_of o.layout))
 
 -- ---- in every refusal
 -- no answer is lost, and none came
@@ -42,30 +32,6 @@ pub record KeepsAnswers (q r : CallerKnown) : Type 0 where
   pub goes_on : GoesOn q r
   pub calls : r.part.calls ≡ q.part.calls
   pub receipts : r.part.receipts ≡ q.part.receipts
-  pub cuts : r.part.cuts ≡ q.part.cuts
-
--- ---- a call that was answered
--- The call is one entry of the unit's history. The entry stands behind all that the caller had
--- seen, at no epoch below what it had seen or knew to be durable; from then on the caller has seen
--- it, and all entries before it.
-pub record HasContinued (o : Opening) (q r : CallerKnown) (op : Op) (receipt : Receipt)
-    : Type 0 where
-  pub goes_on : GoesOn q r
-  pub of_unit : unit_of_op o.layout op ≡ Some receipt.unit
-  pub by : receipt.entry.caller ≡ q.caller
-  pub number : receipt.entry.call ≡ q.part.calls
-  pub asked : receipt.entry.op ≡ op
-  pub history : List Entry
-  pub place : receipt.place ≡ length history
-  pub seen : slice_get r.entries receipt.unit ≡ Some (history ++ receipt.entry ∷ [])
-  pub behind :
-      (front : List Entry) → slice_get q.entries receipt.unit ≡ Some front
-      → length front ≤ receipt.place
-  pub later : q.part.newest ≤ receipt.entry.epoch
-  pub durable : q.part.durable ≤ receipt.entry.epoch
-  pub newest : r.part.newest ≡ receipt.entry.epoch
-  pub calls : r.part.calls ≡ q.part.calls + 1
-  pub receipts : r.part.receipts ≡ q.part.receipts ++ receipt ∷ []
   pub cuts : r.part.cuts ≡ q.part.cuts
 
 -- ---- a call that was refused

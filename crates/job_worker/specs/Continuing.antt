@@ -1,7 +1,6 @@
--- How what a caller has seen goes on, and when a report continues it.
-use Rattle.std.specs.Prelude.{◌≡◌, ℕ, ◌≤◌, true, List, ◌++◌}
+-- When a report continues what a caller has seen.
+use Rattle.std.specs.Prelude.{◌≡◌, ℕ, ◌≤◌, true}
 use Rattle.mont_base.specs.declared.constants.TheConstants.{LAST}
-use Rattle.mont_base.specs.declared.operation.Receipt.{Receipt}
 use Rattle.mont_base.specs.Image.{clock_of, IsRecovered}
 use Rattle.core_steps.specs.declared.parts.Mark.{Mark}
 use Rattle.core_steps.specs.Notes.{NamesCaller}
@@ -11,18 +10,6 @@ use Rattle.heap_rule.specs.SeenEntries.{AreFronts}
 use Rattle.caller.specs.Telling.{has_mark}
 use Rattle.job_text.specs.Causes.{WasCutIn}
 use Rattle.job_text.specs.Report.{Report}
-
--- ---- a caller, earlier and later
--- It is the same caller. It has lost no receipt, it has forgotten no entry that it saw, no mark and
--- no clock.
-pub record GoesOn (q r : CallerKnown) : Type 0 where
-  pub caller : r.caller ≡ q.caller
-  pub more : List Receipt
-  pub receipts : r.part.receipts ≡ q.part.receipts ++ more
-  pub seen : AreFronts r.entries q.entries
-  pub newest : q.part.newest ≤ r.part.newest
-  pub durable : q.part.durable ≤ r.part.durable
-  pub marks : (m : Mark) → has_mark q.part.marks m ≡ true → has_mark r.part.marks m ≡ true
 
 -- ---- a caller and a report
 -- By the report, a caller was cut in the unit, and it is the one that the mark names, if it names

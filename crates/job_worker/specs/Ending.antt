@@ -20,8 +20,9 @@ use Rattle.job_text.specs.declared.outcome.Outcome.TheVariants as outcomes
 use Rattle.job_text.specs.AnsweredLines.{Answers}
 use Rattle.job_text.specs.Outcomes.{place_of, HasEpoch, clock_of, tick_of, settled_of, is_at, is_cut, InOrder}
 use Rattle.job_text.specs.Report.{Report}
-use Rattle.job_worker.specs.Continuing.{GoesOn, Continues}
-use Rattle.job_worker.specs.Asking.{HasUnit, opened_records}
+use Rattle.job_worker.specs.Continuing.{Continues}
+use Rattle.caller.specs.Continued.{opened_records, GoesOn}
+use Rattle.job_worker.specs.Asking.{HasUnit}
 
 -- the operation of a call line has a unit
 abbrev pub MayBeAsked : Shape → Deed → Type 0

@@ -1,5 +1,5 @@
 -- What a caller of a job leaves, once its lines are carried out.
-use Rattle.std.specs.Prelude.{◌≡◌, Bool, false, List, [], ◌++◌, map, AllPairs, Vec, Ok, Err}
+use Rattle.std.specs.Prelude.{◌≡◌, Bool, false, List, ◌++◌, map, AllPairs, Vec, Ok, Err}
 use Rattle.std.specs.declared.result.Result.{Result}
 use Rattle.std.specs.List.{list_any}
 use Rattle.heap_rule.specs.declared.rule.Opening.{Opening}
@@ -10,13 +10,8 @@ use Rattle.job_text.specs.AnsweredLines.{AnswersLines}
 use Rattle.job_text.specs.Outcomes.{is_cut}
 use Rattle.job_text.specs.Report.{Report}
 use Rattle.job_worker.specs.Continuing.{Continues}
-use Rattle.job_worker.specs.Asking.{opened_records}
+use Rattle.caller.specs.Continued.{opened_records}
 use Rattle.job_worker.specs.Ending.{places_named, units_cut, place_answered}
-
--- the caller wasn't answered yet
-pub record IsUnanswered (q : CallerKnown) : Type 0 where
-  pub calls : q.part.calls ≡ 0
-  pub receipts : q.part.receipts ≡ []
 
 -- Every report that continues what the caller has seen in the end finds its lines answered. The
 -- outcomes name the entries of its receipts, one each and in their order, and the units in which it

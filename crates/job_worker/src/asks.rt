@@ -3,7 +3,8 @@ ghost use Rattle.std.specs.Prelude.{◌≡◌, ℕ, Bool, IfOk, IfErr};
 ghost use Rattle.heap.specs.GateAsked.{IsAskedOften};
 ghost use Rattle.heap_rule.specs.declared.rule.Opening.{Opening};
 ghost use Rattle.heap_rule.specs.declared.views.CallerKnown.{CallerKnown};
-ghost use Rattle.job_worker.specs.Asking.{HasUnit, KeepsAnswers, HasContinued, HasLearntWhy, HasMoved, HasHeard, HasSynced, LeavesUnsynced, call_was_cut, advance_was_cut, sync_was_cut};
+ghost use Rattle.caller.specs.Continued.{HasContinued};
+ghost use Rattle.job_worker.specs.Asking.{HasUnit, KeepsAnswers, HasLearntWhy, HasMoved, HasHeard, HasSynced, LeavesUnsynced, call_was_cut, advance_was_cut, sync_was_cut};
 
 use advance::AdvanceRefusal;
 use caller::SyncRefusal;

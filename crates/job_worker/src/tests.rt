@@ -7,7 +7,7 @@ ghost use Rattle.mont_base.specs.State.State.{QueueOf};
 ghost use Rattle.mont_base.specs.Room.{room_of};
 ghost use Rattle.job_text.specs.declared.job.Line.{Line as LineModel};
 ghost use Rattle.mont_base.specs.Counting.{effects_then};
-ghost use Rattle.job_worker.specs.Asking.{HasContinued};
+ghost use Rattle.caller.specs.Continued.{HasContinued};
 ghost use Rattle.job_worker.specs.Alone.{alone_opening, held_alone, IsAlone};
 ghost use Rattle.job_worker.specs.Ending.{MayBeAsked};
 

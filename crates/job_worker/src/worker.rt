@@ -3,9 +3,9 @@ ghost use Rattle.std.specs.Prelude.{◌≡◌, All, IfOk, OnErr};
 ghost use Rattle.mont_base.specs.Faults.{Rose};
 ghost use Rattle.heap.specs.GateAsked.{IsAskedOften};
 ghost use Rattle.job_text.specs.declared.job.Line.{Line as LineModel};
-ghost use Rattle.job_worker.specs.Continuing.{GoesOn};
+ghost use Rattle.caller.specs.Continued.{GoesOn, IsUnanswered};
 ghost use Rattle.job_worker.specs.Ending.{MayBeAsked};
-ghost use Rattle.job_worker.specs.Worked.{IsUnanswered, HasWorked, was_cut};
+ghost use Rattle.job_worker.specs.Worked.{HasWorked, was_cut};
 
 use crate::asks::Asks;
 use crate::carried_lines::carry_out_line;

@@ -1,6 +1,6 @@
 -- What the entries of a unit did, counted: how far its numbers have come, and which are at their
 -- end.
-use Rattle.std.specs.Prelude.{◌≡◌, ℕ, ◌+◌, ◌≤◌, Bool, true, false, List, [], ◌∷◌, length, fold, max, Any, count_by, Option, Some, None, IsSomeAnd, if◌then◌else◌}
+use Rattle.std.specs.Prelude.{◌≡◌, ℕ, ◌+◌, ◌<◌, ◌≤◌, Bool, true, false, List, [], ◌∷◌, length, fold, max, Any, count_by, slice_get, Option, Some, None, IsSomeAnd, unwrap_or, if◌then◌else◌}
 use Rattle.mont_base.specs.declared.constants.TheConstants.{LAST}
 use Rattle.mont_base.specs.declared.effect.Effect.{Effect}
 use Rattle.mont_base.specs.declared.effect.Effect.TheVariants.{Inserts, Replaces, Removes}
@@ -11,9 +11,11 @@ use Rattle.mont_base.specs.declared.operation.Op.{Op}
 use Rattle.mont_base.specs.declared.operation.Op.TheVariants as ops
 use Rattle.mont_base.specs.declared.record.Held.{Held}
 use Rattle.mont_base.specs.declared.record.Object.{Object}
+use Rattle.mont_base.specs.declared.refusal.Which.{Which}
+use Rattle.mont_base.specs.declared.refusal.Which.TheVariants as ends
 use Rattle.mont_base.specs.State.{State, step}
 use Rattle.mont_base.specs.History.{state_after}
-use Rattle.mont_base.specs.Structure.{has_key, has_vertex, has_edge}
+use Rattle.mont_base.specs.Structure.{has_key, has_vertex, has_edge, item_at}
 use Rattle.mont_base.specs.Versions.{live_objects}
 
 -- ---- operations and their effects
@@ -97,3 +99,28 @@ abbrev pub LacksIdentity : List Held → State → List Entry → Op → Type 0
 LacksIdentity records base h op =
     Any (λ e. is_insertion e ≡ true) (effects_then base h op)
     × (LAST ≤ greatest_by identity_of records + insertions base h)
+
+-- the serial of an item in a queue, and 0 for any other object
+abbrev pub serial_or_none : Option (ℕ × ℕ) → ℕ
+serial_or_none None = 0
+serial_or_none (Some p) = p.0
+
+abbrev pub serial_of : Object → ℕ
+serial_of o = serial_or_none (item_at o)
+
+-- The number is at its end, by the records that the unit was opened with and by these entries. The
+-- caller had made so many calls.
+abbrev pub IsAtEnd : List Held → ℕ → Which → Op → State → List Entry → Type 0
+IsAtEnd records calls ends.Call op base h = LAST < calls
+IsAtEnd records calls ends.Place op base h = LAST < length h
+IsAtEnd records calls ends.Identity op base h = LacksIdentity records base h op
+IsAtEnd records calls ends.Version op base h = LacksVersions records base h op
+IsAtEnd records calls ends.Serial op base h =
+    (is_enq op ≡ true)
+    × (LAST ≤ greatest_by serial_of (live_objects records)
+    + count_by (λ (e : Entry). is_enq e.op) h)
+
+-- ---- records by units
+-- those of a unit, of the records of all units
+abbrev pub records_in : List (List Held) → ℕ → List Held
+records_in records unit = unwrap_or (slice_get records unit) []

@@ -1,5 +1,5 @@
 -- How many slots of a unit are in use, told from its history alone.
-use Rattle.std.specs.Prelude.{ℕ, ◌+◌, ◌-◌, nat_lt, List, [], ◌∷◌, sum_by, if◌then◌else◌}
+use Rattle.std.specs.Prelude.{◌≡◌, ℕ, ◌+◌, ◌-◌, ◌<◌, nat_lt, List, [], ◌∷◌, sum_by, if◌then◌else◌}
 use Rattle.mont_base.specs.declared.operation.Entry.{Entry}
 use Rattle.mont_base.specs.declared.effect.Effect.{Effect}
 use Rattle.mont_base.specs.declared.effect.Effect.TheVariants.{Inserts, Replaces, Removes}
@@ -27,3 +27,9 @@ used_slots base h x = size_of (state_after base h) + retired_late x base h
 -- the slots that are then free
 abbrev pub room_of : ℕ → State → List Entry → ℕ → ℕ
 room_of slots base h x = slots - used_slots base h x
+
+-- so many slots were needed, and so many were free, which are fewer
+pub record LacksRoom (needed room need free : ℕ) : Type 0 where
+  pub as_needed : needed ≡ need
+  pub as_free : room ≡ free
+  pub few : free < need

@@ -8,8 +8,8 @@ use Rattle.mont_base.specs.declared.refusal.Which.{Which}
 use Rattle.mont_base.specs.declared.refusal.Which.TheVariants as ends
 use Rattle.mont_base.specs.State.{State}
 use Rattle.job_text.specs.declared.outcome.Outcome.{Outcome}
-use Rattle.job_text.specs.AnsweredLines.{records_in}
-use Rattle.job_text.specs.Causes.{IsAtEnd, SomeMoment}
+use Rattle.mont_base.specs.Counting.{IsAtEnd, records_in}
+use Rattle.job_text.specs.Causes.{SomeMoment}
 use Rattle.job_text.specs.Outcomes.{is_at}
 use Rattle.job_text.specs.Report.{Report}
 use Rattle.mont_check.specs.declared.cause.Cause.TheVariants.{AtEnd}

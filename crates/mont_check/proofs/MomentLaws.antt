@@ -7,7 +7,7 @@ use Rattle.mont_base.specs.declared.operation.Op.{Op}
 use Rattle.mont_base.specs.declared.record.Held.{Held}
 use Rattle.mont_base.specs.State.{State, unit_of_op}
 use Rattle.job_text.specs.declared.outcome.Outcome.{Outcome}
-use Rattle.job_text.specs.AnsweredLines.{records_in}
+use Rattle.mont_base.specs.Counting.{records_in}
 use Rattle.job_text.specs.Causes.{IsPoint, SomeMoment}
 use Rattle.job_text.specs.Outcomes.{place_of}
 use Rattle.job_text.specs.Report.{Report}

@@ -11,7 +11,7 @@ use Rattle.std.proofs.lemmas.Option.{get_or_from_slice_get, same_Some, slice_get
 use Rattle.mont_base.specs.declared.operation.Entry.{Entry}
 use Rattle.mont_base.specs.declared.record.Held.{Held}
 use Rattle.mont_base.specs.State.{State}
-use Rattle.job_text.specs.AnsweredLines.{records_in}
+use Rattle.mont_base.specs.Counting.{records_in}
 use Rattle.job_text.specs.Report.{Report}
 use Rattle.mont_check.specs.declared.asked.Asked.{Asked}
 use Rattle.mont_check.specs.declared.cause.Case.{Case}

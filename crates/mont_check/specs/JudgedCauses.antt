@@ -9,9 +9,8 @@ use Rattle.mont_base.specs.declared.refusal.Which.{Which}
 use Rattle.mont_base.specs.declared.refusal.Which.TheVariants as ends
 use Rattle.mont_base.specs.State.{step, size_of}
 use Rattle.mont_base.specs.Versions.{live_objects}
-use Rattle.mont_base.specs.Counting.{LacksVersion, greatest_by, identity_of, is_enq, is_insertion}
-use Rattle.job_text.specs.Causes as full
-use Rattle.job_text.specs.Causes.{serial_of}
+use Rattle.mont_base.specs.Counting.{LacksVersion, greatest_by, identity_of, is_enq, is_insertion, serial_of}
+use Rattle.mont_base.specs.Room as full
 use Rattle.mont_check.specs.declared.cause.Case.{Case}
 use Rattle.mont_check.specs.declared.cause.Cause.{Cause}
 use Rattle.mont_check.specs.declared.cause.Cause.TheVariants.{LacksRoom, NeedsMore, AtEnd}

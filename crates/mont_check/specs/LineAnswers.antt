@@ -6,8 +6,9 @@ use Rattle.mont_base.specs.declared.refusal.Which.{Which}
 use Rattle.job_text.specs.declared.job.Job.{Job}
 use Rattle.job_text.specs.declared.job.Line.{Line}
 use Rattle.job_text.specs.declared.outcome.Outcome.{Outcome}
-use Rattle.job_text.specs.AnsweredLines.{Answers, AnswersCall, records_in}
-use Rattle.job_text.specs.Causes.{IsAtEnd, IsFull, MayBeFull, SomeMoment}
+use Rattle.job_text.specs.AnsweredLines.{Answers, AnswersCall}
+use Rattle.mont_base.specs.Counting.{IsAtEnd, records_in}
+use Rattle.job_text.specs.Causes.{IsFull, MayBeFull, SomeMoment}
 use Rattle.job_text.specs.Faithful.{HasStop}
 use Rattle.job_text.specs.Outcomes.{is_at}
 use Rattle.job_text.specs.Report.{Report}

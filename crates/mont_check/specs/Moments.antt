@@ -11,7 +11,7 @@ use Rattle.job_text.specs.declared.job.Deed.{Deed}
 use Rattle.job_text.specs.declared.job.Deed.TheVariants.{Call, Tick, Sync}
 use Rattle.job_text.specs.declared.outcome.Outcome.{Outcome}
 use Rattle.job_text.specs.Report.{Report}
-use Rattle.job_text.specs.AnsweredLines.{records_in}
+use Rattle.mont_base.specs.Counting.{records_in}
 use Rattle.mont_check.specs.declared.cause.Case.{Case}
 use Rattle.mont_check.specs.declared.cause.Cause.{Cause}
 use Rattle.mont_check.specs.declared.moments.Span.{Span}

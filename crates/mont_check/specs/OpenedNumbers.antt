@@ -2,8 +2,7 @@
 use Rattle.std.specs.Prelude.{◌≡◌, List}
 use Rattle.mont_base.specs.declared.record.Held.{Held}
 use Rattle.mont_base.specs.Versions.{live_objects}
-use Rattle.mont_base.specs.Counting.{greatest_by, identity_of}
-use Rattle.job_text.specs.Causes.{serial_of}
+use Rattle.mont_base.specs.Counting.{greatest_by, identity_of, serial_of}
 use Rattle.mont_check.specs.declared.opened_numbers.Opening.{Opening}
 
 pub record IsOpening (records : List Held) (o : Opening) : Type 0 where

@@ -2,10 +2,9 @@
 ghost use Rattle.std.specs.Prelude.{◌≡◌, ◌↔◌, ◌+◌, ◌≤◌, IsTrue, Any};
 ghost use Rattle.std.specs.Ordering.{eq_by_cmp};
 ghost use Rattle.mont_base.specs.declared.constants.TheConstants.{LAST};
-ghost use Rattle.mont_base.specs.Counting.{LacksVersion, greatest_by, identity_of, is_insertion, is_version_of, renewed, version_among, version_if};
+ghost use Rattle.mont_base.specs.Counting.{LacksVersion, greatest_by, identity_of, is_insertion, is_version_of, renewed, version_among, version_if, serial_of};
 ghost use Rattle.mont_base.specs.State.{key_cmp};
 ghost use Rattle.mont_base.specs.Structure.{has_edge, has_key, has_vertex};
-ghost use Rattle.job_text.specs.Causes.{serial_of};
 
 use mont_base::{Effect, Held, LAST, Object, Text, Thing};
 use payload::{edge_in, item_in, pair_in, vertex_in};

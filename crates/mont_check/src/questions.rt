@@ -2,7 +2,7 @@
 ghost use Rattle.std.specs.Prelude.{◌≡◌, ◌↔◌, ◌+◌, ◌++◌, ◌==◌, All, IsTrue, IfOk, MatchOption, OnOk, filter, length};
 ghost use Rattle.std.specs.List.Sorted.{IsNonDecreasingBy};
 ghost use Rattle.plain.specs.States.{state_of};
-ghost use Rattle.job_text.specs.AnsweredLines.{records_in};
+ghost use Rattle.mont_base.specs.Counting.{records_in};
 ghost use Rattle.job_text.specs.PlainReport.{report_of};
 ghost use Rattle.mont_check.specs.Moments.{IsMet, SomePoint};
 ghost use Rattle.mont_check.specs.Points.{EpochsRise, PointsRise};

@@ -18,7 +18,8 @@ use Rattle.heap_rule.proofs.SeenFronts.{fronts_same, fronts_heard}
 use Rattle.heap.specs.HeapShown.{HeapShown, CallerShown}
 use Rattle.caller.specs.Telling.{has_mark}
 use Rattle.caller.proofs.TakenNotes.{joined_has, or_left}
-use Rattle.job_worker.specs.Asking.{KeepsAnswers, HasContinued, WasFound, IsCutIn, HasLearntWhy}
+use Rattle.caller.specs.Continued.{HasContinued}
+use Rattle.job_worker.specs.Asking.{KeepsAnswers, WasFound, IsCutIn, HasLearntWhy}
 use Rattle.job_worker.proofs.Later.{keeps_same}
 use Rattle.montage.specs.Store.{IsWholePass}
 use Rattle.montage.specs.StoreCalls.{HasLearntCause, IsAnswered, WasLeft, IsRefused}

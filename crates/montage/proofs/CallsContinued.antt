@@ -15,8 +15,7 @@ use Rattle.heap_rule.proofs.SeenFronts.{fronts_answered}
 use Rattle.heap.specs.HeapShown.{HeapShown, CallerShown}
 use Rattle.slots.specs.Books.{RegionShown}
 use Rattle.structure_call.specs.Calling.{HasAnsweredCall}
-use Rattle.job_worker.specs.Continuing.{GoesOn}
-use Rattle.job_worker.specs.Asking.{HasContinued}
+use Rattle.caller.specs.Continued.{HasContinued, GoesOn}
 
 -- ---- a caller that goes on
 module _ (q r : CallerShown) (h : UnitKnown) (seen : IsNotBeyond q.known h) where

@@ -20,21 +20,19 @@ use Rattle.mont_base.specs.declared.record.ObjectFault.{ObjectFault}
 use Rattle.mont_base.specs.declared.refusal.Which.{Which}
 use Rattle.mont_base.specs.declared.refusal.Which.TheVariants as ends
 use Rattle.mont_base.specs.Bodies.{is_clean}
-use Rattle.mont_base.specs.Counting.{effects_then, enqueued, greatest_by, is_enq, is_enqueuing}
+use Rattle.mont_base.specs.Counting.{effects_then, enqueued, greatest_by, is_enq, is_enqueuing, IsAtEnd, serial_or_none, records_in}
 use Rattle.mont_base.specs.History.{state_after}
 use Rattle.mont_base.specs.Image.{records_of, IsRecovered}
 use Rattle.mont_base.specs.Layout.{Shape, kind_of, units_of}
 use Rattle.mont_base.specs.State.{State, QueueOf, step, queue_step}
 use Rattle.mont_base.specs.Structure.{IsStructure, first_fault, queue_fault, item_fault, object_fault, or_else, at_slot, structure_of, items_of}
-use Rattle.job_text.specs.AnsweredLines.{records_in}
-use Rattle.job_text.specs.Causes as causes
-use Rattle.job_text.specs.Causes.{IsAtEnd, serial_or_none}
+use Rattle.mont_base.specs.Counting as causes
 use Rattle.core_steps.specs.declared.parts.CallerPart.{CallerPart}
 use Rattle.heap.specs.HeapShown.{HeapShown}
 use Rattle.slots.specs.RegionBeginning.{greatest, serial_of}
 use Rattle.slots.specs.Books.{RegionShown}
 use Rattle.structure_call.specs.CountedNumbers.{LacksSerial, LacksNumber, records_opened, objects_opened, opened_with}
-use Rattle.job_worker.specs.Asking.{opened_records}
+use Rattle.caller.specs.Continued.{opened_records}
 use Rattle.montage.specs.UnitAt.{IsSeated}
 
 -- ---- serials

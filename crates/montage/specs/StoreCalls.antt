@@ -8,14 +8,12 @@ use Rattle.mont_base.specs.declared.operation.Reply.{Reply}
 use Rattle.mont_base.specs.declared.refusal.CallRefusal.{CallRefusal}
 use Rattle.mont_base.specs.declared.refusal.CallRefusal.TheVariants.{Halted, CountEnd, Memory, Full, Cut}
 use Rattle.mont_base.specs.declared.refusal.Which.{Which}
-use Rattle.mont_base.specs.Counting.{effects_then}
+use Rattle.mont_base.specs.Counting.{effects_then, IsAtEnd, records_in}
 use Rattle.mont_base.specs.History.{state_after}
 use Rattle.mont_base.specs.Image.{clock_of, IsRecovered}
-use Rattle.mont_base.specs.Room.{room_of}
+use Rattle.mont_base.specs.Room.{room_of, LacksRoom}
 use Rattle.mont_base.specs.Seen.{ContinuesView}
 use Rattle.mont_base.specs.State.{State, step, unit_of_op}
-use Rattle.job_text.specs.AnsweredLines.{records_in}
-use Rattle.job_text.specs.Causes.{IsAtEnd, LacksRoom}
 use Rattle.core_steps.specs.declared.parts.Mark.{Mark}
 use Rattle.core_steps.specs.CallerClauses.{view_of}
 use Rattle.core_steps.specs.Opened.{opened_at}
@@ -29,7 +27,7 @@ use Rattle.structure_call.specs.Calling.{HasAnsweredCall, LeavesCall, was_checke
 use Rattle.structure_call.specs.Checking.{MayBeCalled}
 use Rattle.structure_call.specs.Standing.{IsStanding}
 use Rattle.caller.specs.Telling.{has_mark}
-use Rattle.job_worker.specs.Asking.{HasContinued, opened_records}
+use Rattle.caller.specs.Continued.{HasContinued, opened_records}
 use Rattle.montage.specs.UnitAt.{IsSeated}
 
 -- This holds of what the unit held when the store was opened, by whatever states recovery gives.

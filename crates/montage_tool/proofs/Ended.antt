@@ -23,7 +23,7 @@ use Rattle.job_text.specs.declared.outcome.Outcome.{Outcome}
 use Rattle.job_text.specs.Faithful.{IsFaithful}
 use Rattle.job_text.specs.Grammar.{head_of, IsJob, IsLine, HasUnit}
 use Rattle.job_text.specs.Report.{Report}
-use Rattle.job_worker.specs.Asking.{opened_records}
+use Rattle.caller.specs.Continued.{opened_records}
 use Rattle.job_worker.specs.Ending.{MayBeAsked}
 use Rattle.job_run.specs.declared.run.Ran.{Ran}
 use Rattle.job_run.specs.Run.{AreWorked}

@@ -11,7 +11,7 @@ use Rattle.core_steps.specs.declared.parts.UnitPart.{UnitPart}
 use Rattle.core_steps.specs.Fresh.{fresh_words}
 use Rattle.heap.specs.FreshOpening.{fresh_opening}
 use Rattle.heap.proofs.EmptyStores.{nothing_recovered, opens_empty}
-use Rattle.job_worker.specs.Asking.{opened_records}
+use Rattle.caller.specs.Continued.{opened_records}
 use Rattle.store_stop.specs.Headline.{IsBaseOf}
 use Rattle.store_stop.proofs.Items.{same_items}
 

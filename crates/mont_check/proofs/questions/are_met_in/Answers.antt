@@ -6,7 +6,7 @@ use Rattle.std.proofs.lemmas.Option.{slice_get-map}
 use Rattle.plain.specs.States.{state_of}
 use Rattle.mont_base.specs.declared.operation.Entry.{Entry}
 use Rattle.mont_base.specs.declared.record.Held.{Held}
-use Rattle.job_text.specs.AnsweredLines.{records_in}
+use Rattle.mont_base.specs.Counting.{records_in}
 use Rattle.job_text.specs.PlainReport.{report_of}
 use Rattle.mont_check.specs.declared.moments.Question.{Question}
 use Rattle.mont_check.specs.Moments.{SomePoint}

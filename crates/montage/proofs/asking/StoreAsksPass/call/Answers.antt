@@ -1,7 +1,8 @@
 use Rattle.std.proofs.Common.{sym, subst}
 use Rattle.std.specs.Prelude.{IfOk, IfErr}
 use Rattle.heap.specs.HeapShown.{HeapShown}
-use Rattle.job_worker.specs.Asking.{HasContinued, HasLearntWhy}
+use Rattle.caller.specs.Continued.{HasContinued}
+use Rattle.job_worker.specs.Asking.{HasLearntWhy}
 use Rattle.montage.specs.Store.{IsWholePass}
 use Rattle.montage.proofs.CallsAsked.{if_continued, if_learnt_why, stays_whole}
 use Rattle.montage.proofs.asking.StoreAsksPass.call.Goals as goal
