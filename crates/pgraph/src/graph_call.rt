@@ -1,5 +1,5 @@
 // A call of a graph unit.
-ghost use Rattle.std.specs.Prelude.{◌≡◌, ◌≤◌, true, [], ◌∷◌, ◌++◌, None, Some, All, IfOk, OnOk, IfErr, OnErr};
+ghost use Rattle.std.specs.Prelude.{◌≡◌, ◌≤◌, true, false, [], ◌∷◌, ◌++◌, None, Some, All, IfOk, OnOk, IfErr, OnErr};
 ghost use Rattle.std.specs.Option.{option_copied};
 ghost use Rattle.mont_base.specs.declared.kinds.UnitKind.TheVariants as kinds;
 ghost use Rattle.mont_base.specs.declared.refusal.CallRefusal.TheVariants.{Memory};
@@ -9,8 +9,9 @@ ghost use Rattle.heap.specs.GateAsked.{IsAskedOften};
 ghost use Rattle.heap_pass.specs.Spare.{spare_of};
 ghost use Rattle.slots.specs.Books.{Agrees};
 ghost use Rattle.slots.specs.WrittenRecords.{NamesLive};
-ghost use Rattle.structure_call.specs.Calling.{HasAnsweredCall, LeavesCall, was_cut, was_checked};
+ghost use Rattle.structure_call.specs.Calling.{HasAnsweredCall, LeavesCall, was_asked, was_checked, was_cut};
 ghost use Rattle.structure_call.specs.Checking.{EndsCount, MayBeCalled};
+ghost use Rattle.structure_call.specs.KeptReceipt.{KeepsReceipt};
 ghost use Rattle.structure_call.specs.Planning.{first_at_end};
 ghost use Rattle.structure_call.specs.Standing.{IsStanding};
 ghost use Rattle.pgraph.specs.GraphEdit.{Fits, changes_of, prepared, node_by, nodes_behind, nodes_with};
@@ -28,7 +29,7 @@ use heap_pass::Pass;
 use mont_base::{CallRefusal, Change, Gate, Held, Op, Receipt, Slot};
 use slots::Region;
 use std::sync::Wait;
-use structure_call::{carry_out, check_numbers, check_running};
+use structure_call::{carry_out, check_numbers, check_running, last_receipt};
 
 impl PGraph {
     /// Carries an operation of the unit out, answers it with one entry, and keeps the receipt in
@@ -36,21 +37,21 @@ impl PGraph {
     ///
     /// Memory is taken before the first step; a refusal for want of it leaves all as it was but for
     /// spare room.
-    pub fn apply<R: Wait, G: Gate>(
+    pub fn perform<R: Wait, G: Gate>(
         &mut self,
         rt: &R,
         heap: &Heap,
         pass: &mut Pass<G>,
         op: &Op,
-    ) -> Result<Receipt, CallRefusal>
+    ) -> Result<(), CallRefusal>
         requires stands { IsStanding heap.now self.old.region }
         requires pass { pass.old.ticket.table ≡ heap.now.table }
         requires op { IsOpOf heap.now.opening.layout self.old.region.books.unit op.now }
         ensures gate { IsAskedOften G.cuts G.endless pass.old.gate pass.new.gate (was_cut result) }
-        ensures answered { IfOk result (λ receipt. HasAnsweredCall heap.now self.old.region
-            self.new.region pass.old.ticket pass.new.ticket op.now receipt) }
-        ensures receipts { IfOk result (λ receipt. pass.new.receipts.items
-            ≡ pass.old.receipts.items ++ receipt ∷ []) }
+        ensures unasked { was_asked result ≡ false → pass.new.gate ≡ pass.old.gate }
+        ensures answered { OnOk result (KeepsReceipt pass.old.receipts.items
+            pass.new.receipts.items (HasAnsweredCall heap.now self.old.region self.new.region
+            pass.old.ticket pass.new.ticket op.now)) }
         ensures kept { OnErr result (pass.new.receipts.items ≡ pass.old.receipts.items) }
         ensures refused { IfErr result (λ why. LeavesCall heap.now self.old.region self.new.region
             pass.old.ticket pass.new.ticket op.now why) }
@@ -64,15 +65,44 @@ impl PGraph {
         check_edit(heap, &mut self.region, pass, &self.index, &edit)?;
         take_memory(&mut self.index, &mut self.changes, pass, &edit)?;
         match carry_out(rt, heap, &mut self.region, pass, op, &reply, &self.changes) {
-            Ok(carried) => {
-                follow(&self.region, &mut self.index, &edit, carried.slot);
-                Ok(carried.receipt)
+            Ok(slot) => {
+                follow(&self.region, &mut self.index, &edit, slot);
+                Ok(())
             }
             Err(why) => {
                 take_back(&mut self.index, &edit);
                 Err(why)
             }
         }
+    }
+
+    /// The same as `perform`, and answers a copy of the receipt.
+    pub fn apply<R: Wait, G: Gate>(
+        &mut self,
+        rt: &R,
+        heap: &Heap,
+        pass: &mut Pass<G>,
+        op: &Op,
+    ) -> Result<Receipt, CallRefusal>
+        requires stands { IsStanding heap.now self.old.region }
+        requires pass { pass.old.ticket.table ≡ heap.now.table }
+        requires op { IsOpOf heap.now.opening.layout self.old.region.books.unit op.now }
+        ensures gate { IsAskedOften G.cuts G.endless pass.old.gate pass.new.gate (was_cut result) }
+        ensures unasked { was_asked result ≡ false → pass.new.gate ≡ pass.old.gate }
+        ensures answered { IfOk result (λ receipt. HasAnsweredCall heap.now self.old.region
+            self.new.region pass.old.ticket pass.new.ticket op.now receipt) }
+        ensures receipts { IfOk result (λ receipt. pass.new.receipts.items
+            ≡ pass.old.receipts.items ++ receipt ∷ []) }
+        ensures kept { OnErr result (pass.new.receipts.items ≡ pass.old.receipts.items) }
+        ensures refused { IfErr result (λ why. LeavesCall heap.now self.old.region self.new.region
+            pass.old.ticket pass.new.ticket op.now why) }
+        ensures checked { was_checked result ≡ true
+            → MayBeCalled pass.old.ticket self.old.region op.now }
+        ensures stands { IsStanding heap.now self.new.region }
+        ensures unit { IsGraphUnit self.new.region self.new.nodes }
+    {
+        self.perform(rt, heap, pass, op)?;
+        Ok(last_receipt(&pass.receipts))
     }
 }
 

@@ -1,5 +1,5 @@
 // An ordered unit of a store.
-ghost use Rattle.std.specs.Prelude.{◌≡◌, ℕ, true, [], ◌∷◌, ◌++◌, Some, None, IfOk, IfErr, OnErr};
+ghost use Rattle.std.specs.Prelude.{◌≡◌, ℕ, true, false, [], ◌∷◌, ◌++◌, Some, None, IfOk, OnOk, IfErr, OnErr};
 ghost use Rattle.mont_base.specs.declared.kinds.UnitKind.TheVariants.{Ordered};
 ghost use Rattle.mont_base.specs.Layout.{kind_of};
 ghost use Rattle.mont_base.specs.State.{State};
@@ -9,8 +9,9 @@ ghost use Rattle.mont_laws.specs.Effects.{IsOpOf};
 ghost use Rattle.mont_laws.specs.Records.{live_of};
 ghost use Rattle.heap.specs.GateAsked.{IsAskedOften};
 ghost use Rattle.slots.specs.Books.{Agrees};
-ghost use Rattle.structure_call.specs.Calling.{HasAnsweredCall, LeavesCall, was_cut, was_checked};
+ghost use Rattle.structure_call.specs.Calling.{HasAnsweredCall, LeavesCall, was_asked, was_checked, was_cut};
 ghost use Rattle.structure_call.specs.Checking.{MayBeCalled};
+ghost use Rattle.structure_call.specs.KeptReceipt.{KeepsReceipt};
 ghost use Rattle.structure_call.specs.Standing.{IsStanding};
 ghost use Rattle.shard_map.specs.MapShard.{IsMapUnit};
 
@@ -24,6 +25,7 @@ use slots::Region;
 use std::alloc::{AllocError, Global};
 use std::marker::Model;
 use std::sync::Wait;
+use structure_call::last_receipt;
 
 /// An ordered unit: the pairs stand in the records of its region, and an index keeps the live keys
 /// in order, each with the slot of its record.
@@ -91,6 +93,36 @@ impl POrdered {
     ///
     /// Memory is taken before the first step; a refusal for want of it leaves all as it was but for
     /// spare room.
+    pub fn perform<R: Wait, G: Gate>(
+        &mut self,
+        rt: &R,
+        heap: &Heap,
+        pass: &mut Pass<G>,
+        op: &Op,
+    ) -> Result<(), CallRefusal>
+        requires stands { IsStanding heap.now self.old.region }
+        requires pass { pass.old.ticket.table ≡ heap.now.table }
+        requires op { IsOpOf heap.now.opening.layout self.old.region.books.unit op.now }
+        ensures gate { IsAskedOften G.cuts G.endless pass.old.gate pass.new.gate (was_cut result) }
+        ensures unasked { was_asked result ≡ false → pass.new.gate ≡ pass.old.gate }
+        ensures answered { OnOk result (KeepsReceipt pass.old.receipts.items
+            pass.new.receipts.items (HasAnsweredCall heap.now self.old.region self.new.region
+            pass.old.ticket pass.new.ticket op.now)) }
+        ensures kept { OnErr result (pass.new.receipts.items ≡ pass.old.receipts.items) }
+        ensures refused { IfErr result (λ why. LeavesCall heap.now self.old.region self.new.region
+            pass.old.ticket pass.new.ticket op.now why) }
+        ensures checked { was_checked result ≡ true
+            → MayBeCalled pass.old.ticket self.old.region op.now }
+        ensures stands { IsStanding heap.now self.new.region }
+        ensures unit { IsMapUnit self.new.region self.new.places }
+    {
+        match answer_of(&self.unit, op) {
+            Some(reply) => self.unit.answer(heap, pass, op, &reply),
+            None => self.unit.perform(rt, heap, pass, op),
+        }
+    }
+
+    /// The same as `perform`, and answers a copy of the receipt.
     pub fn apply<R: Wait, G: Gate>(
         &mut self,
         rt: &R,
@@ -102,6 +134,7 @@ impl POrdered {
         requires pass { pass.old.ticket.table ≡ heap.now.table }
         requires op { IsOpOf heap.now.opening.layout self.old.region.books.unit op.now }
         ensures gate { IsAskedOften G.cuts G.endless pass.old.gate pass.new.gate (was_cut result) }
+        ensures unasked { was_asked result ≡ false → pass.new.gate ≡ pass.old.gate }
         ensures answered { IfOk result (λ receipt. HasAnsweredCall heap.now self.old.region
             self.new.region pass.old.ticket pass.new.ticket op.now receipt) }
         ensures receipts { IfOk result (λ receipt. pass.new.receipts.items
@@ -114,10 +147,8 @@ impl POrdered {
         ensures stands { IsStanding heap.now self.new.region }
         ensures unit { IsMapUnit self.new.region self.new.places }
     {
-        match answer_of(&self.unit, op) {
-            Some(reply) => self.unit.answer(rt, heap, pass, op, &reply),
-            None => self.unit.apply(rt, heap, pass, op),
-        }
+        self.perform(rt, heap, pass, op)?;
+        Ok(last_receipt(&pass.receipts))
     }
 
     /// The unit's region.

@@ -1,5 +1,5 @@
 // A queue as a unit of a store.
-ghost use Rattle.std.specs.Prelude.{◌≡◌, ◌+◌, ◌<◌, ◌≤◌, [], ◌∷◌, ◌++◌, true, IsTrue, IfOk, OnOk, IfErr, OnErr};
+ghost use Rattle.std.specs.Prelude.{◌≡◌, ◌+◌, ◌<◌, ◌≤◌, [], ◌∷◌, ◌++◌, true, false, IsTrue, IfOk, OnOk, IfErr, OnErr};
 ghost use Rattle.std.specs.VecDeque.{deque_len, deque_capacity};
 ghost use Rattle.mont_base.specs.declared.refusal.CallRefusal.TheVariants.{Memory};
 ghost use Rattle.mont_laws.specs.Effects.{IsOpOf};
@@ -8,7 +8,8 @@ ghost use Rattle.heap_pass.specs.Spare.{spare_of};
 ghost use Rattle.slots.specs.Books.{Agrees};
 ghost use Rattle.structure_call.specs.Standing.{IsStanding};
 ghost use Rattle.structure_call.specs.Checking.{MayBeCalled};
-ghost use Rattle.structure_call.specs.Calling.{HasAnsweredCall, LeavesCall, was_cut, was_checked};
+ghost use Rattle.structure_call.specs.Calling.{HasAnsweredCall, LeavesCall, was_asked, was_checked, was_cut};
+ghost use Rattle.structure_call.specs.KeptReceipt.{KeepsReceipt};
 ghost use Rattle.pqueue.specs.PQueue.{IsOfQueue, HasNoneLive, HoldsItems, serials_taken};
 
 use crate::queue_plan::{QueuePlan, adds_item, follow, plan};
@@ -21,7 +22,7 @@ use std::alloc::{AllocError, Global};
 use std::collections::VecDeque;
 use std::marker::Model;
 use std::sync::Wait;
-use structure_call::{carry_out, check_numbers, check_running};
+use structure_call::{carry_out, check_numbers, check_running, last_receipt};
 
 /// A queue as a unit of a store.
 ///
@@ -69,6 +70,44 @@ impl PQueue {
     /// Carries an operation out, as one entry of the unit, and keeps its receipt in the pass.
     ///
     /// It may wait for the clock to stand still.
+    pub fn perform<R: Wait, G: Gate>(
+        &mut self,
+        rt: &R,
+        heap: &Heap,
+        pass: &mut Pass<G>,
+        op: &Op,
+    ) -> Result<(), CallRefusal>
+        requires stands { IsStanding heap.now self.old.region }
+        requires pass { pass.old.ticket.table ≡ heap.now.table }
+        requires op { IsOpOf heap.now.opening.layout self.old.region.books.unit op.now }
+        ensures gate { IsAskedOften G.cuts G.endless pass.old.gate pass.new.gate
+            (was_cut result) }
+        ensures unasked { was_asked result ≡ false → pass.new.gate ≡ pass.old.gate }
+        ensures answered { OnOk result (KeepsReceipt pass.old.receipts.items
+            pass.new.receipts.items (HasAnsweredCall heap.now self.old.region self.new.region
+            pass.old.ticket pass.new.ticket op.now)) }
+        ensures kept { OnErr result (pass.new.receipts.items ≡ pass.old.receipts.items) }
+        ensures refused { IfErr result (λ why. LeavesCall heap.now self.old.region
+            self.new.region pass.old.ticket pass.new.ticket op.now why) }
+        ensures checked { was_checked result ≡ true
+            → MayBeCalled pass.old.ticket self.old.region op.now }
+        ensures stands { IsStanding heap.now self.new.region }
+        ensures items { HoldsItems self.new.region self.new.items }
+        ensures serial { OnOk result (self.new.region.books.serial
+            ≡ self.old.region.books.serial + serials_taken op.now) }
+    {
+        check_running(heap, &mut self.region, pass)?;
+        let QueuePlan { reply, change } = plan(&self.region, &self.items, op);
+        let adds = adds_item(&change);
+        let changes = change.as_slice();
+        check_numbers(heap, &mut self.region, pass, changes, adds)?;
+        reserve(adds, &mut self.items, pass)?;
+        let slot = carry_out(rt, heap, &mut self.region, pass, op, &reply, changes)?;
+        follow(&self.region, &mut self.items, &change, slot);
+        Ok(())
+    }
+
+    /// The same as `perform`, and answers a copy of the receipt.
     pub fn apply<R: Wait, G: Gate>(
         &mut self,
         rt: &R,
@@ -81,6 +120,7 @@ impl PQueue {
         requires op { IsOpOf heap.now.opening.layout self.old.region.books.unit op.now }
         ensures gate { IsAskedOften G.cuts G.endless pass.old.gate pass.new.gate
             (was_cut result) }
+        ensures unasked { was_asked result ≡ false → pass.new.gate ≡ pass.old.gate }
         ensures answered { IfOk result (λ receipt. HasAnsweredCall heap.now self.old.region
             self.new.region pass.old.ticket pass.new.ticket op.now receipt) }
         ensures receipts { IfOk result (λ receipt. pass.new.receipts.items
@@ -95,22 +135,8 @@ impl PQueue {
         ensures serial { OnOk result (self.new.region.books.serial
             ≡ self.old.region.books.serial + serials_taken op.now) }
     {
-        check_running(heap, &mut self.region, pass)?;
-        let QueuePlan { reply, change } = plan(&self.region, &self.items, op);
-        let adds = adds_item(&change);
-        check_numbers(heap, &mut self.region, pass, change.as_slice(), adds)?;
-        reserve(adds, &mut self.items, pass)?;
-        let carried = carry_out(
-            rt,
-            heap,
-            &mut self.region,
-            pass,
-            op,
-            &reply,
-            change.as_slice(),
-        )?;
-        follow(&self.region, &mut self.items, &change, carried.slot);
-        Ok(carried.receipt)
+        self.perform(rt, heap, pass, op)?;
+        Ok(last_receipt(&pass.receipts))
     }
 
     /// The region of the unit.

@@ -7,10 +7,10 @@ use Rattle.heap.specs.HeapShown.{HeapShown, CallerShown}
 use Rattle.index_kit.specs.Index.{Places}
 use Rattle.op_guard.specs.Regions.{IsReady, KeepsUnit, WasHalted}
 use Rattle.slots.specs.Books.{RegionShown, IsRegionOf}
-use Rattle.structure_call.specs.declared.carrying.Carried.{Carried}
 use Rattle.structure_call.specs.Standing.{IsStanding}
 use Rattle.structure_call.proofs.Stands.{ready_stands, halted_stands}
 use Rattle.xfer.specs.Pairs.{WereHalted}
+use Rattle.shard_map.specs.declared.pair_carrying.CarriedOne.{CarriedOne}
 use Rattle.shard_map.specs.declared.pair_carrying.PlannedChange.{PlannedChange}
 use Rattle.shard_map.specs.declared.pair_carrying.PairUncarried.{PairUncarried}
 use Rattle.shard_map.specs.declared.pair_carrying.PairUncarried.TheVariants.{Full, Cut}
@@ -51,7 +51,7 @@ module _ (heap : HeapShown) (old new : RegionShown) (places : Places) (called : 
   }
 
   -- its index has followed
-  pub unit_carried : (q r : CallerShown) (plan : PlannedChange) (carried : Carried) → IsPlanned old plan
+  pub unit_carried : (q r : CallerShown) (plan : PlannedChange) (carried : CarriedOne) → IsPlanned old plan
       → HasCarriedOne heap old new q r plan carried → IsMapUnit new (places_behind places plan.op carried.slot)
   unit_carried q r plan carried planned k =
       unit_behind heap old new places called q r plan.op carried.receipt k.answered plan.reply (plan.change ∷ []) carried.slot planned

@@ -20,12 +20,12 @@ use Rattle.heap.specs.HeapShown.{HeapShown, CallerShown}
 use Rattle.op_guard.specs.Regions.{WasHalted}
 use Rattle.slots.specs.Books.{RegionShown}
 use Rattle.slots.specs.WrittenRecords.{first_end}
-use Rattle.structure_call.specs.declared.carrying.Carried.{Carried}
 use Rattle.structure_call.specs.Calling.{HasAnsweredCall}
 use Rattle.structure_call.specs.Checking.{WasNoted}
 use Rattle.structure_call.specs.Planning.{adds_item}
 use Rattle.structure_call.specs.Standing.{IsStanding}
 use Rattle.xfer.specs.PairBeginning.{WereCutIn}
+use Rattle.shard_map.specs.declared.pair_carrying.CarriedOne.{CarriedOne}
 use Rattle.shard_map.specs.declared.pair_carrying.PlannedChange.{PlannedChange}
 use Rattle.shard_map.specs.declared.pair_carrying.PairUncarried.{PairUncarried}
 use Rattle.shard_map.specs.declared.pair_carrying.PairUncarried.TheVariants as uncarried
@@ -242,7 +242,7 @@ LeavesShift heap up low low_now high high_now q r from to amount why =
 abbrev pub refusal_of : PairUncarried → ShiftRefusal
 refusal_of (uncarried.Full unit need free clock) = Full unit need free clock
 refusal_of (uncarried.Cut unit first) =
-    Cut unit (option_map (λ (c : Carried). c.receipt) first)
+    Cut unit (option_map (λ (c : CarriedOne). c.receipt) first)
 
 -- the places of the lower unit's index where its operation was carried out alone, or wasn't
 abbrev pub places_left : Places → Op → PairUncarried → Places

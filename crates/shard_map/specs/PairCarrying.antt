@@ -7,7 +7,6 @@ use Rattle.slots.specs.declared.books.Written.{Written}
 use Rattle.slots.specs.Books.{RegionShown}
 use Rattle.op_guard.specs.Guarding.{IsFull}
 use Rattle.op_guard.specs.Regions.{WasHalted}
-use Rattle.structure_call.specs.declared.carrying.Carried.{Carried}
 use Rattle.structure_call.specs.Calling.{HasAnsweredCall}
 use Rattle.structure_call.specs.Carrying.{HasCarried}
 use Rattle.structure_call.specs.Checking.{WasNoted}
@@ -15,6 +14,7 @@ use Rattle.structure_call.specs.Planning.{IsPlan}
 use Rattle.xfer.specs.declared.pair_guard.PairRefusal.{PairRefusal}
 use Rattle.xfer.specs.declared.pair_guard.PairRefusal.TheVariants as pairs
 use Rattle.xfer.specs.PairBeginning.{HasRoomIn, WereCutIn}
+use Rattle.shard_map.specs.declared.pair_carrying.CarriedOne.{CarriedOne}
 use Rattle.shard_map.specs.declared.pair_carrying.CarriedPair.{CarriedPair}
 use Rattle.shard_map.specs.declared.pair_carrying.PlannedChange.{PlannedChange}
 use Rattle.shard_map.specs.declared.pair_carrying.PairUncarried.{PairUncarried}
@@ -35,7 +35,7 @@ slot_first ws = slot_written (slice_get ws 0)
 -- one of the operations: an entry of the unit, and the record of its change
 pub record HasCarriedOne
     (heap : HeapShown) (old new : RegionShown) (q r : CallerShown) (plan : PlannedChange)
-    (carried : Carried) : Type 0 where
+    (carried : CarriedOne) : Type 0 where
   pub answered : HasAnsweredCall heap old new q r plan.op carried.receipt
   pub op : carried.receipt.entry.op ≡ plan.op
   pub reply : carried.receipt.entry.reply ≡ plan.reply
@@ -74,7 +74,7 @@ pub record IsHighFull
 -- of its entry, as the caller keeps.
 pub record WasCarriedAlone
     (heap : HeapShown) (low low_now high high_now : RegionShown) (q r : CallerShown)
-    (plan : PlannedChange) (carried : Carried) : Type 0 where
+    (plan : PlannedChange) (carried : CarriedOne) : Type 0 where
   pub between : CallerShown
   pub lower : HasCarriedOne heap low low_now q between plan carried
   pub higher : WasHalted heap high high_now between r
@@ -121,7 +121,7 @@ TellsUnbegun heap low low_now high high_now q r (pairs.Cut unit) why =
 -- the receipts that are kept all the same
 abbrev pub receipts_kept : PairUncarried → List Receipt
 receipts_kept (Full unit need free clock) = []
-receipts_kept (Cut unit first) = option_to_list (option_map (λ (c : Carried). c.receipt) first)
+receipts_kept (Cut unit first) = option_to_list (option_map (λ (c : CarriedOne). c.receipt) first)
 
 abbrev pub was_cut : {T : Type 0} → Result T PairUncarried → Bool
 was_cut (Err (Cut unit first)) = true

@@ -1,8 +1,9 @@
-// A call of a map unit, or of an ordered unit, that changes nothing, and whose reply was found before.
-ghost use Rattle.std.specs.Prelude.{◌≡◌, true, [], ◌∷◌, ◌++◌, None, IfOk, IfErr, OnErr};
+// A call of a map unit, or of an ordered unit, that changes nothing. Its reply was found before.
+ghost use Rattle.std.specs.Prelude.{◌≡◌, true, false, [], None, OnOk, IfErr, OnErr};
 ghost use Rattle.heap.specs.GateAsked.{IsAskedOften};
-ghost use Rattle.structure_call.specs.Calling.{HasAnsweredCall, LeavesCall, was_cut, was_checked};
+ghost use Rattle.structure_call.specs.Calling.{HasAnsweredCall, LeavesCall, was_asked, was_checked, was_cut};
 ghost use Rattle.structure_call.specs.Checking.{MayBeCalled};
+ghost use Rattle.structure_call.specs.KeptReceipt.{KeepsReceipt};
 ghost use Rattle.structure_call.specs.Planning.{IsPlan};
 ghost use Rattle.structure_call.specs.Standing.{IsStanding};
 ghost use Rattle.shard_map.specs.MapShard.{IsMapUnit};
@@ -11,33 +12,31 @@ use crate::map_shard::MapShard;
 use heap::Heap;
 use heap_pass::Pass;
 use index_kit::Index;
-use mont_base::{CallRefusal, Gate, Op, Receipt, Reply};
-use std::sync::Wait;
-use structure_call::{carry_out, check_numbers, check_running};
+use mont_base::{CallRefusal, Gate, Op, Reply};
+use structure_call::{answer, check_numbers, check_running};
 
 impl<I: Index> MapShard<I> {
     /// Answers an operation that changes nothing with one entry, and keeps the receipt in the pass.
-    /// The caller has found the reply: an index that keeps the keys in order tells what an operation
-    /// that wants their order is answered.
+    /// The caller has found the reply: an index that keeps the keys in order tells what an
+    /// operation that wants their order is answered.
     ///
-    /// Memory is taken before the first step, as by `apply`.
-    pub fn answer<R: Wait, G: Gate>(
+    /// Memory is taken before the first step, as by `perform`.
+    pub fn answer<G: Gate>(
         &mut self,
-        rt: &R,
         heap: &Heap,
         pass: &mut Pass<G>,
         op: &Op,
         reply: &Reply,
-    ) -> Result<Receipt, CallRefusal>
+    ) -> Result<(), CallRefusal>
         requires stands { IsStanding heap.now self.old.region }
         requires pass { pass.old.ticket.table ≡ heap.now.table }
         requires plan { self.old.region.books.halted ≡ None
             → IsPlan self.old.region op.now reply.now [] }
         ensures gate { IsAskedOften G.cuts G.endless pass.old.gate pass.new.gate (was_cut result) }
-        ensures answered { IfOk result (λ receipt. HasAnsweredCall heap.now self.old.region
-            self.new.region pass.old.ticket pass.new.ticket op.now receipt) }
-        ensures receipts { IfOk result (λ receipt. pass.new.receipts.items
-            ≡ pass.old.receipts.items ++ receipt ∷ []) }
+        ensures unasked { was_asked result ≡ false → pass.new.gate ≡ pass.old.gate }
+        ensures answered { OnOk result (KeepsReceipt pass.old.receipts.items
+            pass.new.receipts.items (HasAnsweredCall heap.now self.old.region self.new.region
+            pass.old.ticket pass.new.ticket op.now)) }
         ensures kept { OnErr result (pass.new.receipts.items ≡ pass.old.receipts.items) }
         ensures refused { IfErr result (λ why. LeavesCall heap.now self.old.region self.new.region
             pass.old.ticket pass.new.ticket op.now why) }
@@ -52,7 +51,7 @@ impl<I: Index> MapShard<I> {
         let Ok(()) = pass.reserve() else {
             return Err(CallRefusal::Memory);
         };
-        let carried = carry_out(rt, heap, &mut self.region, pass, op, reply, &[])?;
-        Ok(carried.receipt)
+        answer(heap, &mut self.region, pass, op, reply)?;
+        Ok(())
     }
 }

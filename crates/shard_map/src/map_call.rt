@@ -1,10 +1,11 @@
 // A call of a map unit, or one on a key of an ordered unit.
-ghost use Rattle.std.specs.Prelude.{◌≡◌, ◌≤◌, true, [], ◌∷◌, ◌++◌, None, IsTrue, IfOk, OnOk, IfErr, OnErr};
+ghost use Rattle.std.specs.Prelude.{◌≡◌, ◌≤◌, true, false, [], ◌∷◌, ◌++◌, None, IsTrue, IfOk, OnOk, IfErr, OnErr};
 ghost use Rattle.heap.specs.GateAsked.{IsAskedOften};
 ghost use Rattle.mont_laws.specs.Effects.{IsOpOf};
 ghost use Rattle.heap_pass.specs.Spare.{spare_of};
-ghost use Rattle.structure_call.specs.Calling.{HasAnsweredCall, LeavesCall, was_cut, was_checked};
+ghost use Rattle.structure_call.specs.Calling.{HasAnsweredCall, LeavesCall, was_asked, was_checked, was_cut};
 ghost use Rattle.structure_call.specs.Checking.{MayBeCalled};
+ghost use Rattle.structure_call.specs.KeptReceipt.{KeepsReceipt};
 ghost use Rattle.structure_call.specs.Standing.{IsStanding};
 ghost use Rattle.shard_map.specs.MapCall.{places_behind, AsksKey, HasRoomFor, AddsKey};
 ghost use Rattle.shard_map.specs.MapShard.{IsMapUnit};
@@ -17,7 +18,7 @@ use index_kit::Index;
 use mont_base::{CallRefusal, Change, Gate, Op, Receipt, Slot};
 use std::alloc::AllocError;
 use std::sync::Wait;
-use structure_call::{carry_out, check_numbers, check_running};
+use structure_call::{carry_out, check_numbers, check_running, last_receipt};
 
 impl<I: Index> MapShard<I> {
     /// Carries an operation on a key of the unit out, answers it with one entry, and keeps the
@@ -25,22 +26,22 @@ impl<I: Index> MapShard<I> {
     ///
     /// Memory is taken before the first step; a refusal for want of it leaves all as it was but for
     /// spare room.
-    pub fn apply<R: Wait, G: Gate>(
+    pub fn perform<R: Wait, G: Gate>(
         &mut self,
         rt: &R,
         heap: &Heap,
         pass: &mut Pass<G>,
         op: &Op,
-    ) -> Result<Receipt, CallRefusal>
+    ) -> Result<(), CallRefusal>
         requires stands { IsStanding heap.now self.old.region }
         requires pass { pass.old.ticket.table ≡ heap.now.table }
         requires op { IsOpOf heap.now.opening.layout self.old.region.books.unit op.now }
         requires key { AsksKey op.now }
         ensures gate { IsAskedOften G.cuts G.endless pass.old.gate pass.new.gate (was_cut result) }
-        ensures answered { IfOk result (λ receipt. HasAnsweredCall heap.now self.old.region
-            self.new.region pass.old.ticket pass.new.ticket op.now receipt) }
-        ensures receipts { IfOk result (λ receipt. pass.new.receipts.items
-            ≡ pass.old.receipts.items ++ receipt ∷ []) }
+        ensures unasked { was_asked result ≡ false → pass.new.gate ≡ pass.old.gate }
+        ensures answered { OnOk result (KeepsReceipt pass.old.receipts.items
+            pass.new.receipts.items (HasAnsweredCall heap.now self.old.region self.new.region
+            pass.old.ticket pass.new.ticket op.now)) }
         ensures kept { OnErr result (pass.new.receipts.items ≡ pass.old.receipts.items) }
         ensures refused { IfErr result (λ why. LeavesCall heap.now self.old.region self.new.region
             pass.old.ticket pass.new.ticket op.now why) }
@@ -56,17 +57,40 @@ impl<I: Index> MapShard<I> {
         let Ok(()) = make_room(&mut self.index, pass, &planned.change) else {
             return Err(CallRefusal::Memory);
         };
-        let carried = carry_out(
-            rt,
-            heap,
-            &mut self.region,
-            pass,
-            op,
-            &planned.reply,
-            changes,
-        )?;
-        follow(&mut self.index, op, carried.slot);
-        Ok(carried.receipt)
+        let reply = &planned.reply;
+        let slot = carry_out(rt, heap, &mut self.region, pass, op, reply, changes)?;
+        follow(&mut self.index, op, slot);
+        Ok(())
+    }
+
+    /// The same as `perform`, and answers a copy of the receipt.
+    pub fn apply<R: Wait, G: Gate>(
+        &mut self,
+        rt: &R,
+        heap: &Heap,
+        pass: &mut Pass<G>,
+        op: &Op,
+    ) -> Result<Receipt, CallRefusal>
+        requires stands { IsStanding heap.now self.old.region }
+        requires pass { pass.old.ticket.table ≡ heap.now.table }
+        requires op { IsOpOf heap.now.opening.layout self.old.region.books.unit op.now }
+        requires key { AsksKey op.now }
+        ensures gate { IsAskedOften G.cuts G.endless pass.old.gate pass.new.gate (was_cut result) }
+        ensures unasked { was_asked result ≡ false → pass.new.gate ≡ pass.old.gate }
+        ensures answered { IfOk result (λ receipt. HasAnsweredCall heap.now self.old.region
+            self.new.region pass.old.ticket pass.new.ticket op.now receipt) }
+        ensures receipts { IfOk result (λ receipt. pass.new.receipts.items
+            ≡ pass.old.receipts.items ++ receipt ∷ []) }
+        ensures kept { OnErr result (pass.new.receipts.items ≡ pass.old.receipts.items) }
+        ensures refused { IfErr result (λ why. LeavesCall heap.now self.old.region self.new.region
+            pass.old.ticket pass.new.ticket op.now why) }
+        ensures checked { was_checked result ≡ true
+            → MayBeCalled pass.old.ticket self.old.region op.now }
+        ensures stands { IsStanding heap.now self.new.region }
+        ensures unit { IsMapUnit self.new.region self.new.places }
+    {
+        self.perform(rt, heap, pass, op)?;
+        Ok(last_receipt(&pass.receipts))
     }
 }
 

@@ -15,7 +15,7 @@ use heap_pass::Pass;
 use mont_base::{Change, Epoch, Gate, Op, Receipt, Reply, Slot, Unit};
 use slots::Region;
 use std::sync::Wait;
-use structure_call::{Carried, take_note};
+use structure_call::take_note;
 use xfer::{PairGuard, PairReceipt, PairRefusal, begin_pair, commit_pair, write_pair};
 
 // An operation that changes one record, what it is answered, and the change.
@@ -26,11 +26,18 @@ pub(crate) struct PlannedChange {
     pub(crate) change: Change,
 }
 
+// An operation that was carried out, and the slot of its record, if there is one.
+#[derive(Clone, Copy)]
+pub(crate) struct CarriedOne {
+    pub(crate) receipt: Receipt,
+    pub(crate) slot: Option<Slot>,
+}
+
 // Both operations were carried out.
 #[derive(Clone, Copy)]
 pub(crate) struct CarriedPair {
-    pub(crate) low: Carried,
-    pub(crate) high: Carried,
+    pub(crate) low: CarriedOne,
+    pub(crate) high: CarriedOne,
 }
 
 // Why one of them wasn't.
@@ -46,7 +53,7 @@ pub(crate) enum PairUncarried {
     // In this unit, where that of the lower unit was carried out first or wasn't.
     Cut {
         unit: Unit,
-        first: Option<Carried>,
+        first: Option<CarriedOne>,
     },
 }
 
@@ -165,7 +172,7 @@ fn cut_behind(first: Option<Receipt>, low: Unit, high: Unit, slot: Option<Slot>)
         },
         Some(receipt) => PairUncarried::Cut {
             unit: high,
-            first: Some(Carried { receipt, slot }),
+            first: Some(CarriedOne { receipt, slot }),
         },
     }
 }
@@ -188,11 +195,11 @@ fn carried(receipts: PairReceipt, low: Option<Slot>, high: Option<Slot>) -> Carr
     } }
 {
     CarriedPair {
-        low: Carried {
+        low: CarriedOne {
             receipt: receipts.low,
             slot: low,
         },
-        high: Carried {
+        high: CarriedOne {
             receipt: receipts.high,
             slot: high,
         },

@@ -1,5 +1,5 @@
 -- What a call of a structure leaves, whatever its kind.
-use Rattle.std.specs.Prelude.{◌≡◌, ℕ, ◌+◌, Bool, true, false, List, [], ◌∷◌, ◌++◌, All, count_by, length, None, Err}
+use Rattle.std.specs.Prelude.{◌≡◌, ℕ, ◌+◌, Bool, true, false, List, [], ◌∷◌, ◌++◌, All, count_by, length, Option, None, Err}
 use Rattle.std.specs.declared.result.Result.{Result}
 use Rattle.mont_base.specs.declared.effect.Effect.{Effect}
 use Rattle.mont_base.specs.declared.operation.Op.{Op}
@@ -26,7 +26,7 @@ use Rattle.slots.specs.Reclaiming.{IsSound}
 use Rattle.structure_call.specs.Standing.{ShowsHistory}
 use Rattle.structure_call.specs.Planning.{IsPlan}
 use Rattle.structure_call.specs.Checking.{WasHaltedBefore, EndsCount}
-use Rattle.structure_call.specs.Carrying.{LeavesUncarried}
+use Rattle.structure_call.specs.Carrying.{HasCarried, LeavesUncarried}
 
 -- Behind records of which the same are live as before stand those that the effects write, each
 -- with the entry's epoch.
@@ -71,6 +71,15 @@ pub record HasAnsweredCall
   pub ready : IsReady heap new
   pub sound : IsSound heap new
 
+-- A planned operation was carried out: it is answered so, and its changes are written, the last one
+-- into this slot.
+pub record HasCarriedOut
+    (heap : HeapShown) (old new : RegionShown) (q r : CallerShown) (op : Op) (reply : Reply)
+    (changes : List Change) (slot : Option ℕ) (receipt : Receipt) : Type 0 where
+  pub answered : HasAnsweredCall heap old new q r op receipt
+  pub replied : receipt.entry.reply ≡ reply
+  pub carried : HasCarried old new changes receipt slot
+
 -- ---- refusals
 -- no caller was cut in the unit, and a number is at its end for the changes of the operation
 pub record HasEnd
@@ -114,3 +123,10 @@ abbrev pub was_checked : {T : Type 0} → Result T CallRefusal → Bool
 was_checked (Err (Halted unit by)) = false
 was_checked (Err (CountEnd which)) = false
 was_checked _ = true
+
+-- it wasn't refused before the first step, which asks the gate
+abbrev pub was_asked : {T : Type 0} → Result T CallRefusal → Bool
+was_asked (Err (Halted unit by)) = false
+was_asked (Err (CountEnd which)) = false
+was_asked (Err Memory) = false
+was_asked _ = true

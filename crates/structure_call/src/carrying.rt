@@ -1,32 +1,26 @@
 // How a planned operation is carried out: one step where it changes nothing, else the steps of a
 // guard.
-ghost use Rattle.std.specs.Prelude.{◌≡◌, ◌≤◌, ◌+◌, [], ◌∷◌, ◌++◌, length, None, IfOk, OnOk, IfErr, OnErr, is_err};
+ghost use Rattle.std.specs.Prelude.{◌≡◌, ◌≤◌, ◌+◌, [], length, None, IfOk, OnOk, IfErr, OnErr, is_err};
 ghost use Rattle.heap.specs.GateAsked.{IsAskedOften};
 ghost use Rattle.heap_pass.specs.Spare.{spare_of};
 ghost use Rattle.slots.specs.Books.{Agrees};
 ghost use Rattle.op_guard.specs.Regions.{IsReady, IsUnderWay, WasHalted};
 ghost use Rattle.structure_call.specs.Planning.{IsPlan, first_at_end};
 ghost use Rattle.structure_call.specs.Standing.{IsStanding};
-ghost use Rattle.structure_call.specs.Carrying.{CanPutAll, HasWrittenAll, HasCarried, LeavesUncarried};
-ghost use Rattle.structure_call.specs.Calling.{HasAnsweredCall, was_cut};
+ghost use Rattle.structure_call.specs.KeptReceipt.{KeepsReceipt};
+ghost use Rattle.structure_call.specs.Carrying.{CanPutAll, HasWrittenAll, LeavesUncarried};
+ghost use Rattle.structure_call.specs.Calling.{HasCarriedOut, was_cut};
 
 use crate::refusing::{or_cut, or_refused};
 use heap::Heap;
 use heap_pass::Pass;
-use mont_base::{CallRefusal, Change, Cut, Gate, Op, Receipt, Reply, Slot};
+use mont_base::{CallRefusal, Change, Cut, Gate, Op, Reply, Slot};
 use op_guard::{Guard, begin, change, commit, read};
 use slots::Region;
 use std::sync::Wait;
 
-/// An operation that was carried out.
-#[derive(Clone, Copy, Debug, PartialEq, Eq)]
-pub struct Carried {
-    pub receipt: Receipt,
-    /// The slot of the last change, if there was one.
-    pub slot: Option<Slot>,
-}
-
-/// Carries a planned operation out, and keeps the receipt in the pass.
+/// Carries a planned operation out, keeps the receipt in the pass, and answers the slot of the last
+/// change, if there was one.
 ///
 /// It may wait for the clock to stand still.
 pub fn carry_out<R: Wait, G: Gate>(
@@ -37,20 +31,16 @@ pub fn carry_out<R: Wait, G: Gate>(
     op: &Op,
     reply: &Reply,
     changes: &[Change],
-) -> Result<Carried, CallRefusal>
+) -> Result<Option<Slot>, CallRefusal>
     requires ready { IsReady heap.now region.old }
     requires pass { pass.old.ticket.table ≡ heap.now.table }
     requires spare { 1 ≤ spare_of pass.old.receipts }
     requires plan { IsPlan region.old op.now reply.now changes.now }
     requires numbers { first_at_end pass.old.ticket.known.part region.old changes.now ≡ None }
     ensures gate { IsAskedOften G.cuts G.endless pass.old.gate pass.new.gate (was_cut result) }
-    ensures answered { IfOk result (λ carried. HasAnsweredCall heap.now region.old region.new
-        pass.old.ticket pass.new.ticket op.now carried.receipt) }
-    ensures replies { IfOk result (λ carried. carried.receipt.entry.reply ≡ reply.now) }
-    ensures carried { IfOk result (λ carried. HasCarried region.old region.new changes.now
-        carried.receipt carried.slot) }
-    ensures receipts { IfOk result (λ carried. pass.new.receipts.items
-        ≡ pass.old.receipts.items ++ carried.receipt ∷ []) }
+    ensures carried { IfOk result (λ slot. KeepsReceipt pass.old.receipts.items
+        pass.new.receipts.items (HasCarriedOut heap.now region.old region.new pass.old.ticket
+        pass.new.ticket op.now reply.now changes.now slot)) }
     ensures spare { OnOk result (spare_of pass.new.receipts + 1 ≡ spare_of pass.old.receipts) }
     ensures kept { OnErr result (pass.new.receipts ≡ pass.old.receipts) }
     ensures refused { IfErr result (λ why. LeavesUncarried heap.now region.old region.new
@@ -58,22 +48,52 @@ pub fn carry_out<R: Wait, G: Gate>(
     ensures agrees { Agrees region.new }
     ensures stands { IsStanding heap.now region.new }
 {
-    let unit = region.unit();
     if changes.is_empty() {
-        let answered = read(heap, region, pass, op, reply);
-        let receipt = or_cut(answered, unit)?;
-        return Ok(Carried {
-            receipt,
-            slot: None,
-        });
+        answer(heap, region, pass, op, reply)?;
+        return Ok(None);
     }
+    let unit = region.unit();
     let begun = begin(rt, heap, region, changes.len() as u64, pass);
     let guard = or_refused(begun, unit)?;
     let written = write_all(guard, heap, region, changes, pass);
     let (guard, slot) = or_cut(written, unit)?;
-    let committed = commit(guard, heap, region, pass, op, reply);
-    let receipt = or_cut(committed, unit)?;
-    Ok(Carried { receipt, slot })
+    match commit(guard, heap, region, pass, op, reply) {
+        Ok(_) => Ok(slot),
+        Err(_) => Err(CallRefusal::Cut { unit }),
+    }
+}
+
+/// Carries a planned operation out that changes nothing, as one step, and keeps the receipt in the
+/// pass.
+pub fn answer<G: Gate>(
+    heap: &Heap,
+    region: &mut Region,
+    pass: &mut Pass<G>,
+    op: &Op,
+    reply: &Reply,
+) -> Result<(), CallRefusal>
+    requires ready { IsReady heap.now region.old }
+    requires pass { pass.old.ticket.table ≡ heap.now.table }
+    requires spare { 1 ≤ spare_of pass.old.receipts }
+    requires plan { IsPlan region.old op.now reply.now [] }
+    requires numbers { first_at_end pass.old.ticket.known.part region.old [] ≡ None }
+    ensures gate { IsAskedOften G.cuts G.endless pass.old.gate pass.new.gate (was_cut result) }
+    ensures carried { OnOk result (KeepsReceipt pass.old.receipts.items pass.new.receipts.items
+        (HasCarriedOut heap.now region.old region.new pass.old.ticket pass.new.ticket op.now
+        reply.now [] None)) }
+    ensures spare { OnOk result (spare_of pass.new.receipts + 1 ≡ spare_of pass.old.receipts) }
+    ensures kept { OnErr result (pass.new.receipts ≡ pass.old.receipts) }
+    ensures refused { IfErr result (λ why. LeavesUncarried heap.now region.old region.new
+        pass.old.ticket pass.new.ticket 0 why) }
+    ensures agrees { Agrees region.new }
+    ensures stands { IsStanding heap.now region.new }
+{
+    match read(heap, region, pass, op, reply) {
+        Ok(_) => Ok(()),
+        Err(_) => Err(CallRefusal::Cut {
+            unit: region.unit(),
+        }),
+    }
 }
 
 // Writes the record of each change, in their order, and answers the slot of the last one with the

@@ -5,11 +5,13 @@
 mod carrying;
 mod checking;
 mod counting;
+mod kept_receipt;
 mod refusing;
 
-pub use carrying::{Carried, carry_out};
+pub use carrying::{answer, carry_out};
 pub use checking::{check_numbers, check_running, take_note};
 pub use counting::{
     answers_are_counted, fresh_units_are_counted, numbers_end, recovered_units_are_counted,
     refusals_are_counted,
 };
+pub use kept_receipt::last_receipt;

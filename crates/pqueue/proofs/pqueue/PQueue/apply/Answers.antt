@@ -1,55 +1,13 @@
-use Rattle.std.proofs.Common.{sym, ◌∙◌, subst}
-use Rattle.slots.specs.Books.{IsRegionOf}
-use Rattle.structure_call.specs.Standing.{IsStanding}
-use Rattle.pqueue.specs.PQueue.{PQueueShown}
-use Rattle.pqueue.proofs.Applies.{as_list, plan_names, uncarried_unit, answered_unit}
+use Rattle.structure_call.proofs.KeptReceipts.{some_given, last_kept, last_holds}
 use Rattle.pqueue.proofs.pqueue.PQueue.apply.Goals as goal
 
-pub check_numbers-requires-clause-named : goal.check_numbers-requires-clause-named
-check_numbers-requires-clause-named g c =
-    plan_names c.check_running.new.region c.args.op.now c.plan-reply.result.reply _ c.as_slice.result.now c.plan-reply.ensures.plan
-    (as_list c.plan-reply.result.change c.as_slice.result.now c.as_slice.ensures)
+pub last_receipt-requires : goal.last_receipt-requires
+last_receipt-requires g c = record { some = some_given c.in_ok-perform.ensures.answered c.deref.result.now c.deref.ensures.value }
 
-pub invariant_of-self-in_err-carried : goal.invariant_of-self-in_err-carried
-invariant_of-self-in_err-carried g c = uncarried_unit c.args.heap.now c.self.inside.region c.check_numbers.new.region
-    c.carry_out.new.region _ _ _ _ c.self.inside.items.items c.reserve.new.items.items c.self.invariant
-    (c.in_ok-check_numbers.ensures.ok.1 ∙ c.in_ok-check_running.ensures.ok.1)
-    (subst (λ (x : PQueueShown). IsRegionOf c.args.heap.now x.region) (sym c.self.view_is) c.requires.stands.of_heap)
-    c.in_ok-check_running.ensures.ok.0 c.in_ok-reserve.ensures.items c.carry_out.ensures.stands c.carry_out.ensures.agrees
-    c.in_err-carried.ensures.refused
+pub returns-clause-answered : goal.returns-clause-answered
+returns-clause-answered g c =
+    last_holds c.in_ok-perform.ensures.answered c.deref.result.now c.deref.ensures.value c.last_receipt.result c.last_receipt.ensures
 
-pub returns-in_err-carried-clause-items : goal.returns-in_err-carried-clause-items
-returns-in_err-carried-clause-items g c = (uncarried_unit c.args.heap.now c.self.inside.region c.check_numbers.new.region
-    c.carry_out.new.region _ _ _ _ c.self.inside.items.items c.reserve.new.items.items c.self.invariant
-    (c.in_ok-check_numbers.ensures.ok.1 ∙ c.in_ok-check_running.ensures.ok.1)
-    (subst (λ (x : PQueueShown). IsRegionOf c.args.heap.now x.region) (sym c.self.view_is) c.requires.stands.of_heap)
-    c.in_ok-check_running.ensures.ok.0 c.in_ok-reserve.ensures.items c.carry_out.ensures.stands c.carry_out.ensures.agrees
-    c.in_err-carried.ensures.refused).holds
-
-pub invariant_of-self-2 : goal.invariant_of-self-2
-invariant_of-self-2 g c = answered_unit c.args.heap.now c.self.inside.region c.carry_out.new.region
-    c.self.inside.items.items c.plan-reply.result.change c.self.invariant c.in_ok-check_running.ensures.ok.0
-    (subst (λ (x : PQueueShown). IsStanding c.args.heap.now x.region) (sym c.self.view_is) c.requires.stands)
-    c.carry_out.ensures.stands c.carry_out.ensures.agrees c.check_running.new.region c.check_numbers.new.region _ _
-    c.check_running.new.pass.ticket.known.part _
-    c.in_ok-carried.carried.receipt c.in_ok-carried.carried.slot c.as_slice.result.now c.as_slice-2.result.now
-    c.reserve.new.items.items c.follow.new.items.items c.in_ok-check_running.ensures.ok.1
-    (c.in_ok-check_numbers.ensures.ok.1 ∙ c.in_ok-check_running.ensures.ok.1)
-    (as_list c.plan-reply.result.change c.as_slice.result.now c.as_slice.ensures)
-    (as_list c.plan-reply.result.change c.as_slice-2.result.now c.as_slice-2.ensures)
-    c.plan-reply.ensures.change c.in_ok-check_numbers.ensures.ok.0 c.in_ok-carried.ensures.answered c.in_ok-carried.ensures.carried
-    c.in_ok-reserve.ensures.items c.follow.ensures
-
-pub returns-clause-items : goal.returns-clause-items
-returns-clause-items g c = (answered_unit c.args.heap.now c.self.inside.region c.carry_out.new.region
-    c.self.inside.items.items c.plan-reply.result.change c.self.invariant c.in_ok-check_running.ensures.ok.0
-    (subst (λ (x : PQueueShown). IsStanding c.args.heap.now x.region) (sym c.self.view_is) c.requires.stands)
-    c.carry_out.ensures.stands c.carry_out.ensures.agrees c.check_running.new.region c.check_numbers.new.region _ _
-    c.check_running.new.pass.ticket.known.part _
-    c.in_ok-carried.carried.receipt c.in_ok-carried.carried.slot c.as_slice.result.now c.as_slice-2.result.now
-    c.reserve.new.items.items c.follow.new.items.items c.in_ok-check_running.ensures.ok.1
-    (c.in_ok-check_numbers.ensures.ok.1 ∙ c.in_ok-check_running.ensures.ok.1)
-    (as_list c.plan-reply.result.change c.as_slice.result.now c.as_slice.ensures)
-    (as_list c.plan-reply.result.change c.as_slice-2.result.now c.as_slice-2.ensures)
-    c.plan-reply.ensures.change c.in_ok-check_numbers.ensures.ok.0 c.in_ok-carried.ensures.answered c.in_ok-carried.ensures.carried
-    c.in_ok-reserve.ensures.items c.follow.ensures).holds
+pub returns-clause-receipts : goal.returns-clause-receipts
+returns-clause-receipts g c =
+    last_kept c.in_ok-perform.ensures.answered c.deref.result.now c.deref.ensures.value c.last_receipt.result c.last_receipt.ensures

@@ -1,0 +1,74 @@
+-- The last receipt that a pass keeps is the one of which its call tells.
+use Rattle.std.proofs.Common.{◌≡◌, ℕ, false, ◌+◌, ◌-◌, ◌≤◌, List, [], ◌∷◌, ◌++◌, length, sym, ap, ◌∙◌, subst, arith}
+use Rattle.std.specs.Prelude.{Option, Some, Result, Ok, Err, slice_get}
+use Rattle.std.specs.Result.{IsErrAnd}
+use Rattle.std.proofs.lemmas.List.{length_push}
+use Rattle.std.proofs.lemmas.Option.{same_Some}
+use Rattle.mont_base.specs.declared.operation.Receipt.{Receipt}
+use Rattle.mont_base.specs.declared.operation.Op.{Op}
+use Rattle.mont_base.specs.declared.operation.Reply.{Reply}
+use Rattle.mont_base.specs.declared.record.Change.{Change}
+use Rattle.mont_base.specs.declared.refusal.CallRefusal.{CallRefusal}
+use Rattle.mont_base.specs.declared.refusal.CallRefusal.TheVariants.{Full, Cut}
+use Rattle.core_steps.proofs.RowFacts.{row_last}
+use Rattle.heap.specs.HeapShown.{HeapShown, CallerShown}
+use Rattle.slots.specs.Books.{RegionShown}
+use Rattle.structure_call.specs.Calling.{HasAnsweredCall, HasCarriedOut, was_asked}
+use Rattle.structure_call.specs.Carrying.{LeavesUncarried}
+use Rattle.structure_call.specs.KeptReceipt.{KeepsReceipt}
+
+module _ {old new : List Receipt} {Holds : Receipt → Type 0} (k : KeepsReceipt old new Holds) where
+  longer : length new ≡ length old + 1
+  longer = ap length k.kept ∙ length_push old k.receipt
+
+  at_end : slice_get new (length new - 1) ≡ Some k.receipt
+  at_end =
+      let place : length new - 1 ≡ length old = let e = longer in omega (arith, e) in
+      ap (slice_get new) place ∙ ap (λ (rs : List Receipt). slice_get rs (length old)) k.kept ∙ row_last old k.receipt
+
+  -- where these are given to be looked at
+  module _ (given : List Receipt) (all : given ≡ new) where
+    pub some_given : 1 ≤ length given
+    some_given = let e = longer in let f = ap length all in omega (arith, e, f)
+
+    module _ (last : Receipt) (is : slice_get given (length given - 1) ≡ Some last) where
+      same : k.receipt ≡ last
+      same = same_Some k.receipt last (sym at_end ∙ ap (λ (rs : List Receipt). slice_get rs (length rs - 1)) (sym all) ∙ is)
+
+      pub last_kept : new ≡ old ++ last ∷ []
+      last_kept = k.kept ∙ ap (λ (r : Receipt). old ++ r ∷ []) same
+
+      pub last_holds : Holds last
+      last_holds = subst Holds same k.holds
+
+-- behind another list that is the same, what holds of it may be told otherwise
+pub kept_so : {old mid new : List Receipt} {Holds Tells : Receipt → Type 0} → mid ≡ old → ((r : Receipt) → Holds r → Tells r)
+    → KeepsReceipt mid new Holds → KeepsReceipt old new Tells
+kept_so same tells k = record {
+  receipt = k.receipt;
+  kept = k.kept ∙ ap (λ (rs : List Receipt). rs ++ k.receipt ∷ []) same;
+  holds = tells k.receipt k.holds;
+}
+
+-- ---- an operation that was carried out behind the checks, which left the region, the caller and its receipts as they were
+pub answered_since : {heap : HeapShown} {first old new : RegionShown} {p q r : CallerShown} {op : Op} {reply : Reply}
+    {changes : List Change} {slot : Option ℕ} {before mid after : List Receipt} → old ≡ first → q ≡ p → mid ≡ before
+    → KeepsReceipt mid after (HasCarriedOut heap old new q r op reply changes slot)
+    → KeepsReceipt before after (HasAnsweredCall heap first new p r op)
+answered_since {heap = heap} {new = new} {r = r} {op = op} same_region same_caller same k = kept_so same
+    (λ receipt h. subst (λ (x : RegionShown × CallerShown). HasAnsweredCall heap x.0 new x.1 r op receipt)
+    (λ i. (same_region i, same_caller i)) h.answered) k
+
+-- one that couldn't be carried out asked the gate, also where the refusal is handed on
+pub uncarried_asks : (T : Type 0) (heap : HeapShown) (old new : RegionShown) (q r : CallerShown) (many : ℕ) (why : CallRefusal)
+    → LeavesUncarried heap old new q r many why → was_asked {T = T} (Err why) ≡ false → ⊥
+uncarried_asks T heap old new q r many (Full need free clock) h e = cc
+uncarried_asks T heap old new q r many (Cut unit) h e = cc
+uncarried_asks T heap old new q r many _ h e = h
+
+pub handed_asks : (T : Type 0) (heap : HeapShown) (old new : RegionShown) (q r : CallerShown) (many : ℕ) (why : CallRefusal)
+    (result : Result T CallRefusal) → IsErrAnd result (λ (d : CallRefusal). d ≡ why) → LeavesUncarried heap old new q r many why
+    → was_asked result ≡ false → ⊥
+handed_asks T heap old new q r many why (Err d) is h e =
+    uncarried_asks T heap old new q r many d (subst (LeavesUncarried heap old new q r many) (sym is) h) e
+handed_asks T heap old new q r many why (Ok value) is h e = is
