@@ -152,7 +152,7 @@ module _ (o : Opening) (units : List UnitShown) (advancer : AdvShown) (callers :
         at_place = r.2.at_place;
       }
 
-  tell_all : TellAll (map receipts_of (parts_shown callers)) histories
+  pub tell_all : TellAll (map receipts_of (parts_shown callers)) histories
   tell_all unit h at = record {
     stand = all_at (All (HoldsEntryOf unit h)) (map receipts_of (parts_shown callers))
         (λ k rs of_caller. all_at (HoldsEntryOf unit h) rs
@@ -251,7 +251,25 @@ module _ (o : Opening) (units : List UnitShown) (advancer : AdvShown) (callers :
       not_behind = subst (λ (ws : List ℕ). clock_of image ≤ clock_of ws) (sym stops.current) holds.not_behind;
     }
 
-  -- ---- so the store is stopped as its headline says, with the histories that the receipts tell
+  -- ---- so the store is stopped as its headline says, with the histories that the seats showed
+  pub stopped_with : IsStopped o.layout base_clock contents callers
+      (record { words = words; base_clock = base_clock; base = contents; histories = histories })
+  stopped_with = record {
+    layout = stops.layout.0;
+    words = all_words;
+    base_clock = refl;
+    base_is = refl;
+    legal = legal;
+    order = order;
+    seen = seen;
+    clocks = clocks;
+    reached = reached;
+    held_back = held_back;
+    marks = marks;
+    images = holds_histories;
+  }
+
+  -- and with those that the receipts of all callers tell
   pub is_stopped : (count : ℕ) (receipts : List (List Receipt)) (told : List (List Entry)) → count ≡ units_of o.layout
       → receipts ≡ map receipts_of (parts_shown callers)
       → ((hs : List (List Entry)) → length hs ≡ count → TellAll receipts hs → told ≡ hs)
@@ -261,18 +279,4 @@ module _ (o : Opening) (units : List UnitShown) (advancer : AdvShown) (callers :
       let is : told ≡ histories = tells histories (unit_count ∙ sym many)
       (subst (λ (rows : List (List Receipt)). TellAll rows histories) (sym given) tell_all) in
       subst (λ (hs : List (List Entry)). IsStopped o.layout base_clock contents callers
-      (record { words = words; base_clock = base_clock; base = contents; histories = hs })) (sym is)
-      (record {
-        layout = stops.layout.0;
-        words = all_words;
-        base_clock = refl;
-        base_is = refl;
-        legal = legal;
-        order = order;
-        seen = seen;
-        clocks = clocks;
-        reached = reached;
-        held_back = held_back;
-        marks = marks;
-        images = holds_histories;
-      })
+      (record { words = words; base_clock = base_clock; base = contents; histories = hs })) (sym is) stopped_with

@@ -1,3 +1,4 @@
 pub mod Headline
 pub mod ReadStores
 pub mod ToldHistories
+pub mod ClosedStores

@@ -3,6 +3,7 @@
 //! image that a crash then permits holds one cut of these histories.
 #![tactic(auto)]
 
+mod closed_stores;
 mod headline;
 #[cfg(test)]
 mod read_stores;
@@ -10,4 +11,5 @@ mod read_stores;
 mod tests;
 mod told_histories;
 
+pub use closed_stores::close_store;
 pub use headline::{Stopped, are_whole, stop_store, stopped_stores_outlive_crashes};

@@ -2,3 +2,4 @@ mod Balance
 mod Named
 mod Rebuilt
 mod Settled
+mod Standing

@@ -1,3 +1,4 @@
 pub mod MapBooks
 pub mod Naming
 pub mod Transfers
+pub mod Together
