@@ -8,6 +8,3 @@ mod shifts;
 
 pub use bank::{ATTEMPTS, CALLERS, bank_layout, opening_puts};
 pub use shifts::{SHIFTS, Shift, shift_of, shifts_of_caller};
-
-#[cfg(test)]
-mod tests;

@@ -14,6 +14,3 @@ mod totals;
 
 pub use generated::big_job;
 pub use summary::big_summary;
-
-#[cfg(test)]
-mod tests;

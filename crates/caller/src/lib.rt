@@ -5,8 +5,6 @@
 mod sync_refusal;
 mod syncing;
 mod telling;
-#[cfg(test)]
-mod tests;
 
 pub use sync_refusal::SyncRefusal;
 pub use syncing::sync;

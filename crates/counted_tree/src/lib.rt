@@ -7,6 +7,3 @@ mod order;
 mod tree;
 
 pub use tree::Tree;
-
-#[cfg(test)]
-mod tests;

@@ -5,8 +5,6 @@
 mod named;
 mod padding;
 mod pass;
-#[cfg(test)]
-mod tests;
 
 pub use named::{HeapName, Named, OfHeap};
 pub use padding::{Apart, Padding};

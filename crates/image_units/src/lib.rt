@@ -8,8 +8,6 @@ mod found_versions;
 mod image_fault;
 mod recovery_refusal;
 mod refusal_laws;
-#[cfg(test)]
-mod tests;
 mod unit_search;
 mod unit_slots;
 

@@ -13,6 +13,3 @@ mod table;
 pub use index::Index;
 pub use probe_index::ProbeIndex;
 pub use sorted_index::SortedIndex;
-
-#[cfg(test)]
-mod tests;

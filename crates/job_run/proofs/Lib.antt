@@ -1,2 +1,1 @@
-mod Guests
 mod Worked

@@ -8,8 +8,6 @@
 mod advances;
 mod desks;
 mod run;
-#[cfg(test)]
-mod tests;
 
 pub use advances::Advances;
 pub use run::{Ran, run_job};

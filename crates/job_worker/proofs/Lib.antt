@@ -4,4 +4,3 @@ pub mod Later
 pub mod Calls
 pub mod Waits
 pub mod Lines
-pub mod Alone

@@ -2,4 +2,3 @@ pub mod Continuing
 pub mod Asking
 pub mod Ending
 pub mod Worked
-pub mod Alone

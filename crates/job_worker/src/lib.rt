@@ -7,8 +7,6 @@
 mod asks;
 mod carried_lines;
 mod outcomes;
-#[cfg(test)]
-mod tests;
 mod worker;
 
 pub use asks::Asks;

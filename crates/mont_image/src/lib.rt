@@ -11,8 +11,6 @@ mod image_text;
 mod image_writer;
 mod picking;
 mod stored_image;
-#[cfg(test)]
-mod tests;
 
 pub use image_reader::read_image;
 pub use image_refusal::ImageRefusal;

@@ -5,8 +5,6 @@
 mod migration;
 mod old_records;
 mod renewal;
-#[cfg(test)]
-mod tests;
 mod widening;
 
 pub use migration::{migrate, refused_old_images_are_malformed};

@@ -7,6 +7,3 @@ mod stretch;
 
 pub use order_index::OrderIndex;
 pub use stretch::Stretch;
-
-#[cfg(test)]
-mod tests;

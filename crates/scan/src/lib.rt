@@ -4,8 +4,6 @@
 
 mod scanned;
 mod slots;
-#[cfg(test)]
-mod tests;
 mod workers;
 
 pub use scanned::{Scan, ScanRefusal};

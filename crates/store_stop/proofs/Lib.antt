@@ -4,4 +4,3 @@ pub mod CutStates
 pub mod StoppedStores
 pub mod ClosedStores
 pub mod Outliving
-pub mod ReadStores

@@ -1,4 +1,3 @@
 pub mod Headline
-pub mod ReadStores
 pub mod ToldHistories
 pub mod ClosedStores

@@ -5,10 +5,6 @@
 
 mod closed_stores;
 mod headline;
-#[cfg(test)]
-mod read_stores;
-#[cfg(test)]
-mod tests;
 mod told_histories;
 
 pub use closed_stores::close_store;

@@ -1,20 +1,16 @@
 -- The last receipt that a pass keeps is the one of which its call tells.
-use Rattle.std.proofs.Common.{◌≡◌, ℕ, false, ◌+◌, ◌-◌, ◌≤◌, List, [], ◌∷◌, ◌++◌, length, sym, ap, ◌∙◌, subst, arith}
-use Rattle.std.specs.Prelude.{Option, Some, Result, Ok, Err, slice_get}
-use Rattle.std.specs.Result.{IsErrAnd}
+use Rattle.std.proofs.Common.{◌≡◌, ℕ, ◌+◌, ◌-◌, ◌≤◌, List, [], ◌∷◌, ◌++◌, length, sym, ap, ◌∙◌, subst, arith}
+use Rattle.std.specs.Prelude.{Option, Some, slice_get}
 use Rattle.std.proofs.lemmas.List.{length_push}
 use Rattle.std.proofs.lemmas.Option.{same_Some}
 use Rattle.mont_base.specs.declared.operation.Receipt.{Receipt}
 use Rattle.mont_base.specs.declared.operation.Op.{Op}
 use Rattle.mont_base.specs.declared.operation.Reply.{Reply}
 use Rattle.mont_base.specs.declared.record.Change.{Change}
-use Rattle.mont_base.specs.declared.refusal.CallRefusal.{CallRefusal}
-use Rattle.mont_base.specs.declared.refusal.CallRefusal.TheVariants.{Full, Cut}
 use Rattle.core_steps.proofs.RowFacts.{row_last}
 use Rattle.heap.specs.HeapShown.{HeapShown, CallerShown}
 use Rattle.slots.specs.Books.{RegionShown}
-use Rattle.structure_call.specs.Calling.{HasAnsweredCall, HasCarriedOut, was_asked}
-use Rattle.structure_call.specs.Carrying.{LeavesUncarried}
+use Rattle.structure_call.specs.Calling.{HasAnsweredCall, HasCarriedOut}
 use Rattle.structure_call.specs.KeptReceipt.{KeepsReceipt}
 
 module _ {old new : List Receipt} {Holds : Receipt → Type 0} (k : KeepsReceipt old new Holds) where
@@ -58,17 +54,3 @@ pub answered_since : {heap : HeapShown} {first old new : RegionShown} {p q r : C
 answered_since {heap = heap} {new = new} {r = r} {op = op} same_region same_caller same k = kept_so same
     (λ receipt h. subst (λ (x : RegionShown × CallerShown). HasAnsweredCall heap x.0 new x.1 r op receipt)
     (λ i. (same_region i, same_caller i)) h.answered) k
-
--- one that couldn't be carried out asked the gate, also where the refusal is handed on
-pub uncarried_asks : (T : Type 0) (heap : HeapShown) (old new : RegionShown) (q r : CallerShown) (many : ℕ) (why : CallRefusal)
-    → LeavesUncarried heap old new q r many why → was_asked {T = T} (Err why) ≡ false → ⊥
-uncarried_asks T heap old new q r many (Full need free clock) h e = cc
-uncarried_asks T heap old new q r many (Cut unit) h e = cc
-uncarried_asks T heap old new q r many _ h e = h
-
-pub handed_asks : (T : Type 0) (heap : HeapShown) (old new : RegionShown) (q r : CallerShown) (many : ℕ) (why : CallRefusal)
-    (result : Result T CallRefusal) → IsErrAnd result (λ (d : CallRefusal). d ≡ why) → LeavesUncarried heap old new q r many why
-    → was_asked result ≡ false → ⊥
-handed_asks T heap old new q r many why (Err d) is h e =
-    uncarried_asks T heap old new q r many d (subst (LeavesUncarried heap old new q r many) (sym is) h) e
-handed_asks T heap old new q r many why (Ok value) is h e = is
