@@ -1,5 +1,0 @@
-use Rattle.engine_tests.specs.Working.{IsOperating}
-use Rattle.engine_tests.proofs.operating.write_all.Given as goal
-
-abbrev pub invariant-loop-one : goal.invariant-loop-one
-invariant-loop-one l = IsOperating l.guard l.engine

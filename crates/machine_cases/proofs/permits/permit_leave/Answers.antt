@@ -1,0 +1,12 @@
+use Rattle.std.specs.Prelude.{IsTrue}
+use Rattle.machine_cases.proofs.Permitted.{leave_permitted, on_ok}
+use Rattle.machine_cases.proofs.permits.permit_leave.Goals as goal
+
+pub returns : goal.returns
+returns c =
+    on_ok c.permitted.result
+    (λ (may : IsTrue c.in_ok-can_leave.field-0). leave_permitted c.args.guard.now c.args.engine.now c.layout-layout.result
+    c.unit-unit.result c.in_ok-part.part c.caller_of-caller.result c.args.op.now c.args.reply.now c.layout-layout.ensures
+    c.unit-unit.ensures c.requires
+    c.in_ok-part.ensures c.caller_of-caller.ensures.calls c.caller_of-caller.ensures.newest (c.in_ok-can_leave.ensures.0 may))
+    c.permitted.ensures

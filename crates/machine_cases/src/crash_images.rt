@@ -1,0 +1,182 @@
+// The images that a crash permits of a core, and what recovery makes of them.
+use crate::answer_words::op_of;
+use crate::line_fault::LineFault;
+use crate::word_row::WordRow;
+use core_steps::Core;
+use mont_base::{Layout, Op, Reply, Text};
+use plain::{Contents, is_well_formed, recover};
+use std::alloc::{AllocError, Global};
+
+/// How many images have a clock and give a unit this answer, told for each run of such images.
+pub fn show_images(
+    alloc: Global,
+    core: &Core,
+    words: &mut WordRow<'_>,
+) -> Result<String, LineFault> {
+    let unit = words.number()?;
+    let op = op_of(words)?;
+    let images = images_of(alloc, core)?;
+    let mut text = String::new(alloc);
+    let mut last = String::new(alloc);
+    let mut count = 0u64;
+    for image in images.as_slice() {
+        let answer = answer_of(alloc, core.layout, image.as_slice(), unit, &op)?;
+        if answer.as_str() != last.as_str() {
+            add_count(&mut text, count, last.as_str())?;
+            last = answer;
+            count = 0;
+        }
+        count = count.saturating_add(1);
+    }
+    add_count(&mut text, count, last.as_str())?;
+    Ok(text)
+}
+
+/// What a unit answers in the image that a mask picks, behind the image's clock. Words are current
+/// where the mask has a 1 at their number modulo 64.
+pub fn show_picked(
+    alloc: Global,
+    core: &Core,
+    words: &mut WordRow<'_>,
+) -> Result<String, LineFault> {
+    let mask = mask_in(words.word())?;
+    let unit = words.number()?;
+    let op = op_of(words)?;
+    let image = picked(alloc, core, mask)?;
+    answer_of(alloc, core.layout, &image, unit, &op)
+}
+
+// The mask that a word spells by hexadecimal digits.
+fn mask_in(word: &str) -> Result<u64, LineFault> {
+    match u64::from_str_radix(word, 16) {
+        Ok(mask) => Ok(mask),
+        Err(_) => Err(LineFault::Unclear),
+    }
+}
+
+fn picked(alloc: Global, core: &Core, mask: u64) -> Result<Vec<u64>, AllocError> {
+    let mut image = Vec::new(alloc);
+    let durable = core.dur.as_slice().iter();
+    for (at, (current, durable)) in core.cur.as_slice().iter().zip(durable).enumerate() {
+        let word = if mask >> (at % 64) & 1 == 1 {
+            current
+        } else {
+            durable
+        };
+        image.push(*word)?;
+    }
+    Ok(image)
+}
+
+fn add_count(text: &mut String, count: u64, answer: &str) -> Result<(), AllocError> {
+    if count == 0 {
+        return Ok(());
+    }
+    if !text.is_empty() {
+        text.push_str(", ")?;
+    }
+    write!(text, "{count} at {answer}")
+}
+
+// The durable words, with every choice of current ones among those that differ. The choice of the
+// clock varies slowest.
+fn images_of(alloc: Global, core: &Core) -> Result<Vec<Vec<u64>>, AllocError> {
+    let mut images = Vec::new(alloc);
+    let mut first = Vec::new(alloc);
+    first.extend_from_slice(core.dur.as_slice())?;
+    images.push(first)?;
+    let len = core.cur.len();
+    for back in 1..=len {
+        let place = len - back;
+        let current = core.cur.get(place).copied();
+        if let Some(word) = current
+            && current != core.dur.get(place).copied()
+        {
+            double(alloc, &mut images, place as usize, word)?;
+        }
+    }
+    Ok(images)
+}
+
+// Adds each image with another word in its place.
+fn double(
+    alloc: Global,
+    images: &mut Vec<Vec<u64>>,
+    place: usize,
+    word: u64,
+) -> Result<(), AllocError> {
+    let mut others = Vec::new(alloc);
+    for image in images.as_slice() {
+        others.push(with_word(alloc, image.as_slice(), place, word)?)?;
+    }
+    for other in others {
+        images.push(other)?;
+    }
+    Ok(())
+}
+
+fn with_word(
+    alloc: Global,
+    image: &[u64],
+    place: usize,
+    word: u64,
+) -> Result<Vec<u64>, AllocError> {
+    let mut other = Vec::new(alloc);
+    other.extend_from_slice(image)?;
+    if place < other.len() {
+        other[place] = word;
+    }
+    Ok(other)
+}
+
+// The clock of an image, and what the unit that recovery rebuilds of it answers.
+fn answer_of(
+    alloc: Global,
+    layout: Layout,
+    image: &[u64],
+    unit: u64,
+    op: &Op,
+) -> Result<String, LineFault> {
+    let clock = image.first().copied().unwrap_or(0);
+    if is_well_formed(alloc, layout, image)? {
+        let mut contents = recover(alloc, layout, image)?;
+        let reply = replied(&mut contents, unit, op)?;
+        Ok(spelled(alloc, clock, &reply)?)
+    } else {
+        Ok(String::from_str(alloc, "refused")?)
+    }
+}
+
+fn replied(contents: &mut Contents, unit: u64, op: &Op) -> Result<Reply, LineFault> {
+    if unit >= contents.units.len() {
+        return Err(LineFault::Unclear);
+    }
+    Ok(contents.units.item_mut(unit).apply(op)?)
+}
+
+fn spelled(alloc: Global, clock: u64, reply: &Reply) -> Result<String, AllocError> {
+    match reply {
+        Reply::WasText { value } => {
+            let mut text = format!(in alloc; "{clock} was ")?;
+            add_text(&mut text, value)?;
+            Ok(text)
+        }
+        Reply::Was { value } => format!(in alloc; "{clock} was {value}"),
+        Reply::Count { number } => format!(in alloc; "{clock} count {number}"),
+        Reply::Nothing => format!(in alloc; "{clock} none"),
+        Reply::NoEnds => format!(in alloc; "{clock} noends"),
+        Reply::Key { key } => {
+            let mut text = format!(in alloc; "{clock} key ")?;
+            add_text(&mut text, key)?;
+            Ok(text)
+        }
+        Reply::Pairs { number } => format!(in alloc; "{clock} pairs {number}"),
+    }
+}
+
+fn add_text(text: &mut String, value: &Text) -> Result<(), AllocError> {
+    for at in 0..value.len() {
+        text.push(char::from(value.byte(at)))?;
+    }
+    Ok(())
+}

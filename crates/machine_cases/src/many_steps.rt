@@ -1,0 +1,104 @@
+// Lines that stand for many steps: a record that is written whole, and an advance of the clock.
+use crate::line_fault::LineFault;
+use crate::run::{Run, make};
+use crate::word_row::WordRow;
+use core_steps::{AdvPart, Core, Event, UnitStage};
+use mont_base::FIELDS;
+use std::alloc::Global;
+
+// An advance has no more steps.
+const MOST_STEPS: u64 = 100_000;
+
+/// The twelve stores of a record, of the epoch in which the unit is registered:
+/// `UNIT SLOT KIND IDENTITY VERSION` and the words of its body.
+pub fn write(alloc: Global, run: &mut Run, words: &mut WordRow<'_>) -> Result<(), LineFault> {
+    let unit = words.number()?;
+    let slot = words.number()?;
+    let epoch = epoch_of(&run.core, unit);
+    let record = record_words(epoch, unit, words)?;
+    for field in 1..=FIELDS {
+        let field = field % FIELDS;
+        let store = Event::Store {
+            unit,
+            slot,
+            field: field as u64,
+            value: record[field],
+        };
+        make(alloc, run, &store)?;
+    }
+    Ok(())
+}
+
+fn epoch_of(core: &Core, unit: u64) -> u64 {
+    match core.units.get(unit) {
+        Some(part) => match part.stage {
+            UnitStage::Within { epoch } => epoch,
+            _ => 0,
+        },
+        None => 0,
+    }
+}
+
+/// The words of a record: kind, identity, version and body are told, and zeros behind them aren't.
+pub fn record_words(
+    epoch: u64,
+    unit: u64,
+    words: &mut WordRow<'_>,
+) -> Result<[u64; FIELDS], LineFault> {
+    let mut record = [0; FIELDS];
+    record[0] = epoch;
+    record[1] = kind_word(words.word())?.saturating_add(unit);
+    for word in record[2..].iter_mut() {
+        *word = words.number_or_zero()?;
+    }
+    Ok(record)
+}
+
+// The kind's part of a label's second word.
+fn kind_word(name: &str) -> Result<u64, LineFault> {
+    match name {
+        "new" => Ok(256),
+        "copy" => Ok(512),
+        "delete" => Ok(768),
+        _ => Err(LineFault::Unclear),
+    }
+}
+
+/// All that the advancer writes back at this clock.
+pub fn flush(alloc: Global, run: &mut Run) -> Result<(), LineFault> {
+    for _word in 0..MOST_STEPS {
+        match make(alloc, run, &Event::LoadWord) {
+            Ok(()) => make(alloc, run, &Event::PersistWord)?,
+            Err(LineFault::NotAllowed) => return Ok(()),
+            Err(fault) => return Err(fault),
+        }
+    }
+    Ok(())
+}
+
+/// The advancer's steps until it rests again, or isn't let on.
+pub fn advance(alloc: Global, run: &mut Run) -> Result<(), LineFault> {
+    for _step in 0..MOST_STEPS {
+        let before = run.core.advancer;
+        advance_once(alloc, run)?;
+        if run.core.advancer == AdvPart::Rest {
+            return Ok(());
+        }
+        if run.core.advancer == before {
+            return Err(LineFault::Held);
+        }
+    }
+    Ok(())
+}
+
+fn advance_once(alloc: Global, run: &mut Run) -> Result<(), LineFault> {
+    match run.core.advancer {
+        AdvPart::Rest | AdvPart::Checking { .. } => make(alloc, run, &Event::Check),
+        AdvPart::Flushing { .. } => match make(alloc, run, &Event::LoadWord) {
+            Err(LineFault::NotAllowed) => make(alloc, run, &Event::SetClock),
+            other => other,
+        },
+        AdvPart::Holding { .. } => make(alloc, run, &Event::PersistWord),
+        AdvPart::Clocked => make(alloc, run, &Event::PersistClock),
+    }
+}
