@@ -17,7 +17,7 @@ use Rattle.job_worker.specs.Ending.{MayBeAsked}
 use Rattle.store_stop.specs.declared.headline.Stopped.{Stopped}
 use Rattle.store_stop.specs.Headline.{IsStopped}
 use Rattle.store_stop.proofs.Items.{all_gives}
-use Rattle.montage.specs.FreshStore.{IsFreshHeap}
+use Rattle.store.specs.FreshStore.{IsFreshHeap}
 use Rattle.jobs_worked.specs.Stopped.{WasStopped}
 
 is_some : {A : Type 0} (x : Option A) → x ≢ None → IsSome x

@@ -13,7 +13,7 @@ use job_text::{Job, Outcome, Report, read_job};
 use mont_base::{FIRST_CLOCK, Gate, MemSource, Sequence, Steady};
 use mont_check::is_faithful;
 use mont_image::pick;
-use montage::{Ran, Store, run, serves_all};
+use montage::{Ran, Store, run};
 use plain::{Contents, recover};
 use std::alloc::{AllocError, Global};
 use std::marker::Brand;
@@ -95,9 +95,6 @@ fn run_on<R: Threads + Wait + Sync, N: HeapName + Send + Sync, G: Gate + Drop + 
     requires job { IsJob job.now }
     ensures { IfOk result (λ e. WasStopped job.now.layout e.stopped) }
 {
-    if !serves_all(&heap.layout()) {
-        return Err(Fail::new("a unit of a kind that no store serves"));
-    }
     let boxes = boxes_for(alloc, job)?;
     let (store, mut passes) = Store::<N, SortedIndex>::fresh(alloc, heap, seats, gates, boxes)?;
     let ran = run(rt, alloc, &store, job, &mut passes, &mut gate);

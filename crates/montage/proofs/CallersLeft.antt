@@ -12,7 +12,7 @@ use Rattle.heap_pass.specs.Kept.{IsWhole}
 use Rattle.job_text.specs.declared.job.Job.{Job}
 use Rattle.job_text.specs.declared.outcome.Outcome.{Outcome}
 use Rattle.job_run.specs.Run.{AreWorked}
-use Rattle.montage.specs.Store.{AreAllCallers, IsWholePass}
+use Rattle.store.specs.Store.{AreAllCallers, IsWholePass}
 
 module _ {P : Type 0} (heap : HeapShown) (ticket : P → CallerShown) (receipts : P → List Receipt) (cuts : P → ℕ) (endless : P → Bool)
     (job : Job) (olds news : List P) where

@@ -13,7 +13,7 @@ use Rattle.caller.specs.Telling.{has_mark}
 use Rattle.caller.specs.Syncing.{KeepsSeen}
 use Rattle.caller.proofs.TakenNotes.{joined_has, or_left, greater_none}
 use Rattle.job_worker.specs.Asking.{KeepsAnswers}
-use Rattle.montage.specs.Ticking.{HasTicked}
+use Rattle.store.specs.Ticking.{HasTicked}
 
 -- ---- a caller that has seen no more entries
 pub keeps_answers : (q r : CallerShown) → KeepsSeen q r → KeepsAnswers q.known r.known

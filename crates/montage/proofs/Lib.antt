@@ -1,16 +1,4 @@
-mod FirstSeats
-mod BoxesGiven
-mod NumbersAtEnd
-mod CallsContinued
-mod CallsShown
-mod UnitStands
-mod Ticks
 mod CallsAsked
 mod ClocksAsked
 mod CallersLeft
-mod SeatsTaken
-mod KeptBases
-mod UnitOps
-mod Passed
-mod StructuresOpened
-mod Served
+mod Attempted

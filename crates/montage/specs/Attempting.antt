@@ -7,7 +7,7 @@ use Rattle.heap_pass.specs.OfHeap.{IsAdvancerOf}
 use Rattle.advance.specs.declared.advance_refusal.AdvanceRefusal.{AdvanceRefusal}
 use Rattle.advance.specs.declared.advance_refusal.AdvanceRefusal.TheVariants.{ClockEnd}
 use Rattle.advance.specs.Advance.{IsSameSeat, IsAtEnd}
-use Rattle.montage.specs.Ticking.{Advances}
+use Rattle.store.specs.Ticking.{Advances}
 
 -- The advance of the heap's advancer was begun or gone on with, and came to this answer.
 pub record HasAdvanced (heap : HeapShown) (answer : Result ℕ AdvanceRefusal) : Type 0 where

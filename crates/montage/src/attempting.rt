@@ -1,5 +1,5 @@
 // The advancer of a store moves the clock on beside its callers.
-use crate::store::Store;
+use crate::asked_store::AskedStore;
 use advance::AdvanceRefusal;
 use heap_pass::HeapName;
 use index_kit::Index;
@@ -7,7 +7,7 @@ use job_run::Advances;
 use mont_base::{Epoch, Gate};
 use std::sync::Wait;
 
-impl<N: HeapName, I: Index, A: Gate> Advances<A> for Store<N, I> {
+impl<'a, N: HeapName, I: Index, A: Gate> Advances<A> for AskedStore<'a, N, I> {
     ghost gate_cuts = { A.cuts };
 
     ghost gate_endless = { A.endless };
@@ -16,10 +16,11 @@ impl<N: HeapName, I: Index, A: Gate> Advances<A> for Store<N, I> {
 
     ghost tried = { λ _ _ _ answer. HasAdvanced N.heap answer };
 
-    #[tactic(auto, using(crate::proofs::Ticks::attempted))]
+    #[tactic(auto, using(crate::proofs::Attempted::attempted))]
     fn attempt<R: Wait>(&self, rt: &R, gate: &mut A) -> Result<Epoch, AdvanceRefusal> {
-        let mut guard = self.advancer.lock(rt);
+        let heap = self.store.heap();
+        let mut guard = self.store.advancer().lock(rt);
         let named = &mut *guard;
-        named.part.advance(&self.heap, gate)
+        named.part.advance(heap, gate)
     }
 }

@@ -5,12 +5,12 @@ ghost use Rattle.heap_pass.specs.Kept.{IsWhole};
 ghost use Rattle.job_text.specs.declared.job.Line.{Line as LineModel};
 ghost use Rattle.job_text.specs.declared.outcome.Outcome.{Outcome as OutcomeModel};
 ghost use Rattle.job_worker.specs.Ending.{MayBeAsked};
-ghost use Rattle.job_run.specs.Run.{IsFresh, AreWorked};
+ghost use Rattle.job_run.specs.Run.{AreWorked};
 ghost use Rattle.job_run.specs.Tries.{HasTried};
 ghost use Rattle.montage.specs.Attempting.{HasAdvanced};
-ghost use Rattle.montage.specs.Store.{AreAllCallers, IsWholePass};
+ghost use Rattle.store.specs.Store.{AreAllCallers, IsFirstPass, IsWholePass};
 
-use crate::store::Store;
+use crate::asked_store::AskedStore;
 use heap_pass::{HeapName, Pass};
 use index_kit::Index;
 use job_run::{Ran, run_job};
@@ -19,6 +19,7 @@ use mont_base::Gate;
 use std::alloc::{AllocError, Global};
 use std::sync::Wait;
 use std::thread::Threads;
+use store::Store;
 
 /// Carries a job out on a store, with a pass for each caller. Each caller's lines have a thread of
 /// their own, and so have the attempts to move the clock on, by a gate of their own.
@@ -33,8 +34,7 @@ pub fn run<R: Threads + Wait + Sync, N: HeapName + Send, I: Index + Send, G: Gat
     passes: &mut Vec<Pass<G>>,
     gate: &mut G,
 ) -> Result<Ran, AllocError>
-    requires passes { All (IsFresh (λ p. IsWholePass N.heap p.ticket p.receipts.items)
-        (λ p. p.ticket.known)) passes.old.items }
+    requires passes { All (IsFirstPass N.heap) passes.old.items }
     requires lines { All (λ (l : LineModel). MayBeAsked N.heap.opening.layout l.deed)
         job.now.lines }
     ensures callers { AreAllCallers N.heap (map (λ p. p.ticket) passes.old.items)
@@ -58,5 +58,6 @@ pub fn run<R: Threads + Wait + Sync, N: HeapName + Send, I: Index + Send, G: Gat
         cut)) }
 {
     let _heap = store.heap();
-    run_job(rt, alloc, store, job, passes, gate)
+    let asked = AskedStore { store };
+    run_job(rt, alloc, &asked, job, passes, gate)
 }

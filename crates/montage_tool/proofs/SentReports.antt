@@ -1,5 +1,5 @@
 -- A job that was read, and a report that was sent, make a run of the job.
-use Rattle.std.proofs.Common.{◌≡◌, ◌⊎◌, ℕ, ◌<◌, Bool, true, false, List, [], ◌++◌, length, take, take-append-drop, length-take, inl, inr, refl, sym, ap, ◌∙◌, subst, arith}
+use Rattle.std.proofs.Common.{◌≡◌, ◌⊎◌, ℕ, ◌<◌, List, [], ◌++◌, length, take, take-append-drop, length-take, inl, inr, refl, sym, ap, ◌∙◌, subst, arith}
 use Rattle.std.specs.Prelude.{Option, Some, None, IfSome, Result, Ok, Err, OnOk, OnErr}
 use Rattle.std.specs.Io.KnownBytes.{Appends, IsAtEnd}
 use Rattle.std.proofs.lemmas.List.{take_all}
@@ -18,8 +18,7 @@ use Rattle.job_text.specs.declared.job_refusal.JobRefusal.{JobRefusal}
 use Rattle.job_text.specs.declared.job_refusal.JobRefusal.TheVariants as refusals
 use Rattle.job_text.specs.Refused.{IsOutside}
 use Rattle.job_text.specs.Taken.{HasLostSome, IsTaken, TellsFaults}
-use Rattle.montage.specs.FreshStore.{serves_all}
-use Rattle.montage.specs.MapBoxes.{keys_for, HaveEmptyBoxes, IsFirstLack}
+use Rattle.store.specs.MapBoxes.{keys_for, HaveEmptyBoxes, IsFirstLack}
 use Rattle.mont_base.specs.Delivery.{AppendsFront}
 use Rattle.montage_tool.specs.declared.status.Status.{Status}
 use Rattle.montage_tool.specs.declared.status.Status.TheVariants.{Done, BadWords, BadJob, ReadFault, WriteFault, Memory, BadIndex}
@@ -29,7 +28,7 @@ use Rattle.montage_tool.specs.declared.status.SinkName.{SinkName}
 use Rattle.montage_tool.specs.declared.status.SinkName.TheVariants as sinks
 use Rattle.montage_tool.specs.ReportedRun.{IsRun}
 use Rattle.montage_tool.specs.Program.{IsSaid}
-use Rattle.montage_tool.specs.Montage.{IsJobOf, IsUnserved, Reports, IsSent, RefusesBoxes, IsReported, RunsJob, status_of_refusal}
+use Rattle.montage_tool.specs.Montage.{IsJobOf, Reports, IsSent, RefusesBoxes, IsReported, RunsJob, status_of_refusal}
 
 -- what has lost its first bytes has lost some of them
 pub lost_some : (most : ℕ) (old new : Option (List ℕ)) → LosesFirst most old new → LosesAtMost most old new
@@ -83,15 +82,15 @@ module _
     few = has.few;
     words = λ e. absurd (cc);
     bad_job = λ line fault e. absurd (cc);
-    accepted = λ i line fault is text kinds e. absurd (cc);
+    accepted = λ i line fault is text e. absurd (cc);
     bad_index = λ unit len e. absurd (cc);
-    lacks_box = λ i unit len is text kinds lack a. inr refl;
+    lacks_box = λ i unit len is text lack a. inr refl;
     read_fault = λ which e. absurd (cc);
     read_kept = λ others. has.kept;
     write_fault = λ which e. absurd (cc);
     write_kept = λ others. λ i. write_faults (same i);
     quiet = λ a b. same;
-    complete = λ i is text kinds boxed a b. inr refl;
+    complete = λ i is text boxed a b. inr refl;
   }
 
   abbrev unit_of : Status → ℕ
@@ -109,20 +108,20 @@ module _
     few = has.few;
     words = λ e. absurd (cc);
     bad_job = λ line fault e. absurd (cc);
-    accepted = λ i line fault is text kinds e. absurd (cc);
+    accepted = λ i line fault is text e. absurd (cc);
     bad_index = λ other more e. (
       j,
       has.of_job,
       subst (λ (x : ℕ × Option ℕ). IsFirstLack j.layout boxes x.0 x.1) (λ i. (ap unit_of e i, ap keys_of e i)) lack,
     );
-    lacks_box = λ i other more is text kinds also a.
+    lacks_box = λ i other more is text also a.
         inl (same_lack i.layout boxes unit other len more (lack_of i unit len (has.same i is text) lack) also);
     read_fault = λ which e. absurd (cc);
     read_kept = λ others. has.kept;
     write_fault = λ which e. absurd (cc);
     write_kept = λ others. λ i. write_faults (same i);
     quiet = λ a b. same;
-    complete = λ i is text kinds boxed a b.
+    complete = λ i is text boxed a b.
         absurd (boxed_lacks_none i.layout boxes unit len boxed (lack_of i unit len (has.same i is text) lack));
   }
 
@@ -143,15 +142,15 @@ module _
       few = has.few;
       words = λ e. absurd (cc);
       bad_job = λ line fault e. absurd (cc);
-      accepted = λ i line fault is text kinds e. absurd (cc);
+      accepted = λ i line fault is text e. absurd (cc);
       bad_index = λ unit len e. absurd (cc);
-      lacks_box = λ i unit len is text kinds lack a. none_lacks i unit len is text lack;
+      lacks_box = λ i unit len is text lack a. none_lacks i unit len is text lack;
       read_fault = λ which e. absurd (cc);
       read_kept = λ others. has.kept;
       write_fault = λ which e. absurd (cc);
       write_kept = λ others. sent.1;
       quiet = λ a b. absurd (a refl);
-      complete = λ i is text kinds boxed a b. inl refl;
+      complete = λ i is text boxed a b. inl refl;
     }
     run_sent (WriteFault which) sent = record {
       done = λ e. absurd (cc);
@@ -159,15 +158,15 @@ module _
       few = has.few;
       words = λ e. absurd (cc);
       bad_job = λ line fault e. absurd (cc);
-      accepted = λ i line fault is text kinds e. absurd (cc);
+      accepted = λ i line fault is text e. absurd (cc);
       bad_index = λ unit len e. absurd (cc);
-      lacks_box = λ i unit len is text kinds lack a. none_lacks i unit len is text lack;
+      lacks_box = λ i unit len is text lack a. none_lacks i unit len is text lack;
       read_fault = λ other e. absurd (cc);
       read_kept = λ others. has.kept;
       write_fault = λ other e. (same_sink other e, sent.1, (report_text report, reports, sent.2));
       write_kept = λ others. absurd (others which refl);
       quiet = λ a b. absurd (b which refl);
-      complete = λ i is text kinds boxed a b. absurd (b sent.1);
+      complete = λ i is text boxed a b. absurd (b sent.1);
     }
       where
         sink_of : Status → SinkName
@@ -191,70 +190,14 @@ module _
   run_refused (ReadFault which) lack same = absurd lack
   run_refused (WriteFault which) lack same = absurd lack
 
-  -- a job with a unit that no store serves
-  pub run_unserved : serves_all j.layout ≡ false → written ≡ out → Runs (BadJob 1 faults.Header)
-  run_unserved none same = record {
-    done = λ e. absurd (cc);
-    whole = λ e. absurd (cc);
-    few = has.few;
-    words = λ e. absurd (cc);
-    bad_job = λ line fault e. told line fault e (left job) has.of_job.spelled;
-    accepted = λ i line fault is text kinds e. absurd (unserved i is text kinds);
-    bad_index = λ unit len e. absurd (cc);
-    lacks_box = λ i unit len is text kinds lack a. absurd (unserved i is text kinds);
-    read_fault = λ which e. absurd (cc);
-    read_kept = λ others. has.kept;
-    write_fault = λ which e. absurd (cc);
-    write_kept = λ others. λ i. write_faults (same i);
-    quiet = λ a b. same;
-    complete = λ i is text kinds boxed a b. absurd (unserved i is text kinds);
-  }
-    where
-      unserved : (i : Job) → IsJob i → left job ≡ Some (job_text i) → serves_all i.layout ≡ true → ⊥
-      unserved i is text kinds = let same_kinds = ap (λ (k : Job). serves_all k.layout) (has.same i is text) in cc
-
-      line_of : Status → ℕ
-      line_of (BadJob line fault) = line
-      line_of _ = 0
-
-      fault_of : Status → JobFault
-      fault_of (BadJob line fault) = fault
-      fault_of _ = faults.Header
-
-      told : (line : ℕ) (fault : JobFault) → BadJob 1 faults.Header ≡ BadJob line fault → (o : Option (List ℕ))
-          → IfSome o (λ text. text ≡ job_text j)
-          → IfSome o (λ text. IsFirstRefused text line fault ⊎ IsUnserved text line fault)
-      told line fault e None h = h
-      told line fault e (Some text) h = inr (record {
-        job = j;
-        is_job = has.of_job.is_job;
-        spelled = h;
-        unserved = none;
-        at_header = sym (ap line_of e);
-        is_header = sym (ap fault_of e);
-      })
-
   pub run_reported : (status : Status) → IsReported taken write_faults boxes out written j status → Runs status
   run_reported status (inl refused) = run_refused status refused.0 refused.1
   run_reported status (inr sent) = run_sent sent.0 sent.1.0 sent.1.1 status sent.1.2
-
-  -- a job whose units a store serves or not
-  pub run_served : (status : Status) → (serves_all j.layout ≡ true → IsReported taken write_faults boxes out written j status)
-      → (serves_all j.layout ≡ false → (status ≡ BadJob 1 faults.Header) × (written ≡ out)) → Runs status
-  run_served status served unserved = by (serves_all j.layout) refl
-    where
-      by : (b : Bool) → serves_all j.layout ≡ b → Runs status
-      by true is = run_reported status (served is)
-      by false is = let k = unserved is in subst Runs (sym k.0) (run_unserved is k.1)
 
 -- ---- no job was read
 module _
     {J O : Type 0} (left : J → Option (List ℕ)) (read_faults : J → ℕ) (taken : O → Option (List ℕ)) (write_faults : O → ℕ) (boxes : List ℕ)
     (job read : J) (out : O) where
-  weaker : (P Q : List ℕ → Type 0) (o : Option (List ℕ)) → IfSome o P → IfSome o (λ text. P text ⊎ Q text)
-  weaker P Q None h = h
-  weaker P Q (Some text) h = inl h
-
   line_in : Status → ℕ
   line_in (BadJob line fault) = line
   line_in _ = 0
@@ -280,16 +223,16 @@ module _
     whole = λ e. absurd (cc);
     few = lost_some READ_BYTES (left job) (left read) took;
     words = λ e. absurd (cc);
-    bad_job = λ l f e. weaker _ _ (left job) (refused l f (λ i. refusals.Text (ap line_in e i) (ap fault_in e i)));
-    accepted = λ i l f is text kinds e. absurd (outside i is text);
+    bad_job = λ l f e. refused l f (λ i. refusals.Text (ap line_in e i) (ap fault_in e i));
+    accepted = λ i l f is text e. absurd (outside i is text);
     bad_index = λ unit len e. absurd (cc);
-    lacks_box = λ i unit len is text kinds lack a. absurd (outside i is text);
+    lacks_box = λ i unit len is text lack a. absurd (outside i is text);
     read_fault = λ which e. absurd (cc);
     read_kept = λ others. cause;
     write_fault = λ which e. absurd (cc);
     write_kept = λ others. refl;
     quiet = λ a b. refl;
-    complete = λ i is text kinds boxed a b. absurd (outside i is text);
+    complete = λ i is text boxed a b. absurd (outside i is text);
   }
   run_unread refusals.Read refused outside took cause = record {
     done = λ e. absurd (cc);
@@ -297,15 +240,15 @@ module _
     few = took;
     words = λ e. absurd (cc);
     bad_job = λ l f e. absurd (cc);
-    accepted = λ i l f is text kinds e. absurd (cc);
+    accepted = λ i l f is text e. absurd (cc);
     bad_index = λ unit len e. absurd (cc);
-    lacks_box = λ i unit len is text kinds lack a. absurd (a cause.1);
+    lacks_box = λ i unit len is text lack a. absurd (a cause.1);
     read_fault = λ which e. (sym (ap source_in e), cause.1);
     read_kept = λ others. absurd (others sources.Job refl);
     write_fault = λ which e. absurd (cc);
     write_kept = λ others. refl;
     quiet = λ a b. refl;
-    complete = λ i is text kinds boxed a b. absurd (a cause.1);
+    complete = λ i is text boxed a b. absurd (a cause.1);
   }
   run_unread refusals.Memory refused outside took cause = record {
     done = λ e. absurd (cc);
@@ -313,15 +256,15 @@ module _
     few = took;
     words = λ e. absurd (cc);
     bad_job = λ l f e. absurd (cc);
-    accepted = λ i l f is text kinds e. absurd (cc);
+    accepted = λ i l f is text e. absurd (cc);
     bad_index = λ unit len e. absurd (cc);
-    lacks_box = λ i unit len is text kinds lack a. inr refl;
+    lacks_box = λ i unit len is text lack a. inr refl;
     read_fault = λ which e. absurd (cc);
     read_kept = λ others. cause;
     write_fault = λ which e. absurd (cc);
     write_kept = λ others. refl;
     quiet = λ a b. refl;
-    complete = λ i is text kinds boxed a b. inr refl;
+    complete = λ i is text boxed a b. inr refl;
   }
 
 -- ---- a line that is told

@@ -1,10 +1,9 @@
 -- What the tool answers, and with what cause.
-use Rattle.std.specs.Prelude.{◌≡◌, ◌≢◌, ◌⊎◌, ℕ, true, false, List, Option, Some, IfSome}
+use Rattle.std.specs.Prelude.{◌≡◌, ◌≢◌, ◌⊎◌, ℕ, List, Option, Some, IfSome}
 use Rattle.std.specs.Io.KnownBytes.{Appends, IsAtEnd}
 use Rattle.mont_base.specs.Faults.{Rose}
 use Rattle.job_text.specs.declared.job.Job.{Job}
 use Rattle.job_text.specs.declared.job.JobFault.{JobFault}
-use Rattle.job_text.specs.declared.job.JobFault.TheVariants as faults
 use Rattle.job_text.specs.declared.job_refusal.JobRefusal.{JobRefusal}
 use Rattle.job_text.specs.declared.job_refusal.JobRefusal.TheVariants as refusals
 use Rattle.job_text.specs.Grammar.{IsJob}
@@ -12,10 +11,9 @@ use Rattle.job_text.specs.JobText.{IsFirstRefused, job_text}
 use Rattle.job_text.specs.Report.{Report}
 use Rattle.job_text.specs.ReportText.{report_text}
 use Rattle.job_text.specs.Taken.{HasLostSome}
-use Rattle.montage.specs.declared.open_refusal.OpenRefusal.{OpenRefusal}
-use Rattle.montage.specs.declared.open_refusal.OpenRefusal.TheVariants as openings
-use Rattle.montage.specs.FreshStore.{serves_all}
-use Rattle.montage.specs.MapBoxes.{HaveEmptyBoxes, IsFirstLack}
+use Rattle.store.specs.declared.open_refusal.OpenRefusal.{OpenRefusal}
+use Rattle.store.specs.declared.open_refusal.OpenRefusal.TheVariants as openings
+use Rattle.store.specs.MapBoxes.{HaveEmptyBoxes, IsFirstLack}
 use Rattle.mont_base.specs.Delivery.{AppendsFront}
 use Rattle.montage_tool.specs.declared.status.Status.{Status}
 use Rattle.montage_tool.specs.declared.status.Status.TheVariants.{Done, BadWords, BadJob, ReadFault, WriteFault, Memory, BadIndex}
@@ -29,15 +27,6 @@ use Rattle.montage_tool.specs.ReportedRun.{IsRun}
 pub record IsJobOf (left : Option (List ℕ)) (job : Job) : Type 0 where
   pub is_job : IsJob job
   pub spelled : IfSome left (λ text. text ≡ job_text job)
-
--- A text of a job with a unit of a kind that no store serves yet is refused in its header.
-pub record IsUnserved (text : List ℕ) (line : ℕ) (fault : JobFault) : Type 0 where
-  pub job : Job
-  pub is_job : IsJob job
-  pub spelled : text ≡ job_text job
-  pub unserved : serves_all job.layout ≡ false
-  pub at_header : line ≡ 1
-  pub is_header : fault ≡ faults.Header
 
 -- The text of a faithful report of the job that a source had left, for the map units of which
 -- there were empty boxes among those with so many keys.
@@ -108,15 +97,13 @@ pub record RunsJob {J O : Type 0} (left : J → Option (List ℕ)) (read_faults 
   pub whole : status ≡ Done → IsAtEnd (left read)
   pub few : HasLostSome (left job) (left read)
   pub words : status ≢ BadWords
-  -- only a text that is no job's is refused, at its first refused line, or that of a job with a
-  -- unit that no store serves
+  -- only a text that is no job's is refused, at its first refused line
   pub bad_job :
       (line : ℕ) (fault : JobFault) → status ≡ BadJob line fault
-      → IfSome (left job) (λ text.
-      IsFirstRefused text line fault ⊎ IsUnserved text line fault)
+      → IfSome (left job) (λ text. IsFirstRefused text line fault)
   pub accepted :
       (j : Job) (line : ℕ) (fault : JobFault) → IsJob j → left job ≡ Some (job_text j)
-      → serves_all j.layout ≡ true → status ≢ BadJob line fault
+      → status ≢ BadJob line fault
   -- a map unit that has no empty box is told where it is the lowest of the job, and that is told
   -- unless the source fails or memory runs out
   pub bad_index :
@@ -124,7 +111,7 @@ pub record RunsJob {J O : Type 0} (left : J → Option (List ℕ)) (read_faults 
       → (j : Job) × IsJobOf (left job) j × IsFirstLack j.layout boxes unit len
   pub lacks_box :
       (j : Job) (unit : ℕ) (len : Option ℕ) → IsJob j → left job ≡ Some (job_text j)
-      → serves_all j.layout ≡ true → IsFirstLack j.layout boxes unit len
+      → IsFirstLack j.layout boxes unit len
       → ¬ Rose (read_faults job) (read_faults read)
       → (status ≡ BadIndex unit len) ⊎ (status ≡ Memory)
   -- the source failed where that is said, and else it didn't
@@ -148,7 +135,7 @@ pub record RunsJob {J O : Type 0} (left : J → Option (List ℕ)) (read_faults 
   -- a job on devices that don't fail, with an empty box for each map unit, is done, unless memory
   -- runs out
   pub complete :
-      (j : Job) → IsJob j → left job ≡ Some (job_text j) → serves_all j.layout ≡ true
+      (j : Job) → IsJob j → left job ≡ Some (job_text j)
       → HaveEmptyBoxes j.layout boxes → ¬ Rose (read_faults job) (read_faults read)
       → ¬ Rose (write_faults out) (write_faults written)
       → (status ≡ Done) ⊎ (status ≡ Memory)

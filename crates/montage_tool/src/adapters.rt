@@ -4,9 +4,6 @@ ghost use Rattle.std.specs.Prelude.{◌≡◌, ◌<◌, ◌≤◌, ℕ, None, Er
 ghost use Rattle.std.specs.Io.KnownBytes.{ReadConsumes, WriteAppends};
 ghost use Rattle.mont_base.specs.Faults.{HasCause, CountsFaults};
 
-#[cfg(test)]
-mod tests;
-
 use mont_base::{Failed, Sink, Source};
 use std::fs;
 use std::io::{Read, Write};

@@ -7,14 +7,10 @@ mod adapters;
 mod command_line;
 mod forms;
 mod gates;
-#[cfg(test)]
-mod meeting;
 mod program;
 mod reported_run;
 mod serving;
 mod status;
-#[cfg(test)]
-mod tests;
 mod top_call;
 
 pub use about::{HELP, VERSION};

@@ -4,8 +4,7 @@ ghost use Rattle.std.specs.FinMap as finite;
 ghost use Rattle.heap.specs.Opens.{Opens};
 ghost use Rattle.job_text.specs.Grammar.{IsJob};
 ghost use Rattle.job_text.specs.PlainReport.{report_of};
-ghost use Rattle.montage.specs.FreshStore.{serves_all};
-ghost use Rattle.montage.specs.MapBoxes.{HaveEmptyBoxes, LacksBox};
+ghost use Rattle.store.specs.MapBoxes.{HaveEmptyBoxes, LacksBox};
 ghost use Rattle.montage_tool.specs.RunGates.{AreGates};
 ghost use Rattle.montage_tool.specs.ReportedRun.{opening_of, HasEnded, IsPickOf, IsRun};
 
@@ -35,7 +34,6 @@ pub(crate) fn run_for_report<R: Threads + Wait + Sync, I: Index + Send>(
     indexes: Vec<I>,
 ) -> Result<Report, OpenRefusal>
     requires job { IsJob job.now }
-    requires kinds { serves_all job.now.layout ≡ true }
     ensures run { IfOk result (λ report. IsRun job.now (report_of report)) }
     ensures boxes { OnOk result (HaveEmptyBoxes job.now.layout
         (map (λ b. finite.len (I.places b)) indexes.items)) }
@@ -70,7 +68,6 @@ fn run_on<R: Threads + Wait + Sync, N: HeapName + Send + Sync, I: Index + Send>(
         seats.callers.items }
     requires gates { AreGates job.now.stops job.now.callers gates.items }
     requires job { IsJob job.now }
-    requires kinds { serves_all job.now.layout ≡ true }
     ensures ended { IfOk result (λ e. HasEnded job.now e.outcomes e.stopped) }
     ensures boxes { OnOk result (HaveEmptyBoxes job.now.layout
         (map (λ b. finite.len (I.places b)) indexes.items)) }

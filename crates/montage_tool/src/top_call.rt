@@ -1,11 +1,10 @@
 // The top call, which does all that the program does.
-ghost use Rattle.std.specs.Prelude.{◌≡◌, ◌↔◌, true, false, IfOk, IfErr, OnOk, map, string_bytes};
+ghost use Rattle.std.specs.Prelude.{◌≡◌, ◌↔◌, true, IfOk, IfErr, OnOk, map, string_bytes};
 ghost use Rattle.std.specs.FinMap as finite;
 ghost use Rattle.job_text.specs.Grammar.{IsJob};
 ghost use Rattle.job_text.specs.Report.{Report};
 ghost use Rattle.job_text.specs.ReportText.{report_text};
-ghost use Rattle.montage.specs.FreshStore.{serves_all};
-ghost use Rattle.montage.specs.MapBoxes.{HaveEmptyBoxes, LacksBox};
+ghost use Rattle.store.specs.MapBoxes.{HaveEmptyBoxes, LacksBox};
 ghost use Rattle.montage_tool.specs.Montage.{IsSent, IsReported, RunsJob, status_of_refusal, status_of_opening};
 ghost use Rattle.montage_tool.specs.ReportedRun.{IsRun};
 ghost use Rattle.montage_tool.specs.Forms.{AreRun};
@@ -14,9 +13,9 @@ use crate::forms::{Form, form_of};
 use crate::reported_run::run_for_report;
 use crate::status::{SinkName, SourceName, Status};
 use index_kit::Index;
-use job_text::{Job, JobFault, JobRefusal, read_job, write_report};
+use job_text::{Job, JobRefusal, read_job, write_report};
 use mont_base::{Sink, Source, deliver};
-use montage::{OpenRefusal, serves_all};
+use montage::OpenRefusal;
 use std::alloc::Global;
 use std::sync::Wait;
 use std::thread::Threads;
@@ -63,7 +62,7 @@ fn read_and_run<R: AllocGlobal + Threads + Wait + Sync, J: Source, O: Sink, B: I
         (map (λ b. finite.len (B.places b)) indexes.items) job.old job.new out.old out.new result }
 {
     match read_job(rt.alloc(), job) {
-        Ok(job) => serve_job(rt, rt.alloc(), &job, indexes, out),
+        Ok(job) => report_job(rt, rt.alloc(), &job, indexes, out),
         Err(refusal) => status_of(refusal),
     }
 }
@@ -81,31 +80,6 @@ fn status_of(refusal: JobRefusal) -> Status
     }
 }
 
-// Runs a job whose units a store serves, and writes its report. Until a store serves ordered units,
-// a job with one is refused in its header.
-fn serve_job<R: Threads + Wait + Sync, O: Sink, B: Index + Send>(
-    rt: &R,
-    alloc: Global,
-    job: &Job,
-    indexes: Vec<B>,
-    out: &mut O,
-) -> Status
-    requires { IsJob job.now }
-    ensures served { serves_all job.now.layout ≡ true → IsReported O.taken O.faults
-        (map (λ b. finite.len (B.places b)) indexes.items) out.old out.new job.now result }
-    ensures unserved { serves_all job.now.layout ≡ false
-        → (result ≡ Status.BadJob 1 JobFault.Header) × (out.new ≡ out.old) }
-{
-    if serves_all(&job.layout) {
-        report_job(rt, alloc, job, indexes, out)
-    } else {
-        Status::BadJob {
-            line: 1,
-            fault: JobFault::Header,
-        }
-    }
-}
-
 // Runs a job, and writes its report.
 fn report_job<R: Threads + Wait + Sync, O: Sink, B: Index + Send>(
     rt: &R,
@@ -114,8 +88,7 @@ fn report_job<R: Threads + Wait + Sync, O: Sink, B: Index + Send>(
     indexes: Vec<B>,
     out: &mut O,
 ) -> Status
-    requires job { IsJob job.now }
-    requires kinds { serves_all job.now.layout ≡ true }
+    requires { IsJob job.now }
     ensures { IsReported O.taken O.faults (map (λ b. finite.len (B.places b)) indexes.items)
         out.old out.new job.now result }
 {
@@ -143,7 +116,6 @@ fn report_of_job<R: Threads + Wait + Sync, B: Index + Send>(
     indexes: Vec<B>,
 ) -> Result<Vec<u8>, OpenRefusal>
     requires job { IsJob job.now }
-    requires kinds { serves_all job.now.layout ≡ true }
     ensures reported { IfOk result (λ bytes.
         (report : Report) × IsRun job.now report × (bytes.items ≡ report_text report)) }
     ensures boxes { OnOk result (HaveEmptyBoxes job.now.layout

@@ -1,6 +1,6 @@
 // A store that was stopped.
 ghost use Rattle.std.specs.Prelude.{◌≡◌, map, vec_len, IfOk};
-ghost use Rattle.montage.specs.Store.{AreAllCallers};
+ghost use Rattle.store.specs.Store.{AreAllCallers};
 
 use crate::worked_callers::Caller;
 use heap_pass::{HeapName, Pass};

@@ -26,8 +26,6 @@ mod permitted_images;
 #[cfg(test)]
 mod playing;
 #[cfg(test)]
-mod structure_calls;
-#[cfg(test)]
 mod syncs;
 #[cfg(test)]
 mod worked_callers;

@@ -1,7 +1,7 @@
 // A store that was never used, and its callers.
 ghost use Rattle.std.specs.Prelude.{◌≡◌, ◌≤◌, [], map, vec_len, vec_capacity, IfOk};
 ghost use Rattle.heap.specs.Stops.{AreCallersOf};
-ghost use Rattle.montage.specs.FreshStore.{IsFreshHeap};
+ghost use Rattle.store.specs.FreshStore.{IsFreshHeap};
 ghost use Rattle.montage_worked.specs.OpenedStores.{IsNewHeap};
 
 use crate::worked_callers::Caller;
@@ -9,7 +9,7 @@ use heap::{Heap, Seats};
 use heap_pass::{HeapName, Pass};
 use index_kit::{Index, SortedIndex};
 use mont_base::{Gate, Kinds, Layout};
-use montage::{Store, serves_all};
+use montage::Store;
 use std::alloc::Global;
 use std::test::Fail;
 
@@ -50,9 +50,6 @@ pub(crate) fn open<N: HeapName, I: Index, G: Gate + Drop>(
         seats.callers.items }
     ensures { IfOk result (λ r. vec_len r.1 ≡ N.heap.opening.callers) }
 {
-    if !serves_all(&heap.layout()) {
-        return Err(Fail::new("a unit of a kind that no store serves"));
-    }
     let room = Vec::with_capacity(alloc, gates.len())?;
     let (store, passes) = Store::<N, I>::fresh(alloc, heap, seats, gates, indexes)?;
     Ok((store, callers_of(passes, room)))

@@ -4,7 +4,6 @@ ghost use Rattle.heap.specs.Stops.{IsSeatOfCaller};
 ghost use Rattle.heap_rule.specs.Views.{note_of_caller};
 ghost use Rattle.montage_worked.specs.WorkedCallers.{once};
 
-use crate::structure_calls::{NoSuchCall, carry_out_call};
 use advance::AdvanceRefusal;
 use caller::{SyncRefusal, hear, tell};
 use heap::News;
@@ -15,6 +14,10 @@ use montage::Store;
 use std::alloc::{AllocError, Global};
 use std::marker::PhantomData;
 use std::sync::Wait;
+
+// The store has no unit for an operation.
+#[derive(Clone, Copy, Debug, PartialEq, Eq)]
+pub(crate) struct NoSuchCall;
 
 // A caller of the heap that N names: its number and its pass.
 #[derive(Drop)]
@@ -66,7 +69,7 @@ impl<N: HeapName, G: Gate> Caller<N, G> {
         pass
     }
 
-    // Calls the structure of the operation. It fails where the store has none.
+    // Carries an operation out. It fails where the store has no unit for it.
     pub(crate) fn call<R: Wait, I: Index>(
         &mut self,
         rt: &R,
@@ -75,7 +78,10 @@ impl<N: HeapName, G: Gate> Caller<N, G> {
     ) -> Result<Result<Receipt, CallRefusal>, NoSuchCall>
         ensures { self.new.number ≡ self.old.number }
     {
-        carry_out_call(rt, store, &mut self.pass, op)
+        let Some(_unit) = op.unit(store.heap().layout()) else {
+            return Err(NoSuchCall);
+        };
+        Ok(store.apply(rt, &mut self.pass, op))
     }
 
     // Advances the clock.

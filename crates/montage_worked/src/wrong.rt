@@ -1,6 +1,6 @@
 // What goes otherwise than it is to.
 
-use crate::structure_calls::NoSuchCall;
+use crate::worked_callers::NoSuchCall;
 use mont_base::CallRefusal;
 use std::alloc::AllocError;
 

@@ -1,2 +1,1 @@
-pub mod ExampleCallers
 pub mod Outlived

@@ -4,25 +4,26 @@
 #![tactic(auto)]
 
 ghost use Rattle.std.specs.Prelude.{IfOk};
-ghost use Rattle.store_example.specs.ExampleCallers.{IsForTwo};
+ghost use Rattle.plain.specs.States.{states_of};
+ghost use Rattle.store_example.specs.Outlived.{OutlivesStop};
 
 mod crash;
-mod example_run;
+mod pair;
 
-use example_run::put_on_threads;
-use heap::{Heap, Seats};
+use crash::recover_after_crash;
 use index_kit::SortedIndex;
-use mont_base::{Kinds, Layout, Text};
-use montage::serves_all;
+use mont_base::{Kinds, Layout, Steady, Text};
+use pair::PutsPair;
 use plain::{Contents, UnitState};
-use std::alloc::{AllocError, Global};
 use std::io;
-use std::marker::Brand;
 use std::sync::Wait;
 use std::thread::Threads;
+use store::StoreRefusal;
+use store_door::with_fresh;
+use store_stop::Stopped;
 
 fn main(rt: HostRuntime) -> io::Result<()> {
-    let Some(contents) = contents_after_crash(&rt) else {
+    let Ok((_stopped, contents)) = stop_and_recover(&rt) else {
         return println!(rt; "no store could be opened");
     };
     for caller in 0..2 {
@@ -36,24 +37,21 @@ fn main(rt: HostRuntime) -> io::Result<()> {
     Ok(())
 }
 
-// What recovery rebuilds of a store of a map, a queue and a graph on which two callers worked.
-fn contents_after_crash<R: AllocGlobal + Threads + Wait + Sync>(rt: &R) -> Option<Contents> {
-    let alloc = rt.alloc();
-    let layout = Layout::new(Kinds::of_letters(b"mqg").ok()?, 8).ok()?;
-    let (heap, seats) = heap_for_two(alloc, layout).ok()?;
-    if !serves_all(&heap.layout()) {
-        return None;
-    }
-    let mut boxes = Vec::new(alloc);
-    boxes.push(SortedIndex::new(alloc)).ok()?;
-    put_on_threads::<_, Brand>(rt, alloc, heap, seats, boxes).ok()
-}
-
-// A heap of these units for two callers.
-fn heap_for_two(alloc: Global, layout: Layout) -> Result<(Heap, Seats), AllocError>
-    ensures { IfOk result (λ r. IsForTwo r.0 r.1.units.items r.1.advancer r.1.callers.items) }
+// A store of a map, a queue and a graph on which two callers worked, and what recovery rebuilds of
+// it after a crash.
+fn stop_and_recover<R: AllocGlobal + Threads + Wait + Sync>(
+    rt: &R,
+) -> Result<(Stopped, Contents), StoreRefusal>
+    ensures { IfOk result (λ r. OutlivesStop r.0 (states_of r.1)) }
 {
-    Heap::fresh(alloc, layout, 2)
+    let alloc = rt.alloc();
+    let layout = Layout::new(Kinds::of_letters(b"mqg")?, 8)?;
+    let gates = vec![in alloc; Steady, Steady]?;
+    let indexes = vec![in alloc; SortedIndex::new(alloc)]?;
+    let works = vec![in alloc; PutsPair { durable: None }, PutsPair { durable: None }]?;
+    let (stopped, _works) = with_fresh(rt, alloc, layout, gates, indexes, works)?;
+    let contents = recover_after_crash(alloc, &stopped)?;
+    Ok((stopped, contents))
 }
 
 // Whether the map has the pair of a caller.

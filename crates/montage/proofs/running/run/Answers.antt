@@ -1,11 +1,16 @@
+use denote.Param.Send.{sendable}
 use Rattle.std.proofs.Common.{◌≡◌, List, map, subst}
 use Rattle.std.specs.Prelude.{Option, Some, IfOk, OnErr}
 use Rattle.job_text.specs.declared.outcome.Outcome.{Outcome}
 use Rattle.heap.specs.HeapShown.{HeapShown}
 use Rattle.job_run.specs.Run.{AreWorked}
-use Rattle.montage.specs.Store.{AreAllCallers, IsWholePass}
+use Rattle.store.specs.Store.{AreAllCallers, IsWholePass}
+use Rattle.store_sharing.proofs.Sharing.{store_shared}
 use Rattle.montage.proofs.CallersLeft.{all_left, whole_left}
 use Rattle.montage.proofs.running.run.Goals as goal
+
+pub run_job-requires-sync-S : goal.run_job-requires-sync-S
+run_job-requires-sync-S g c κs = search (sendable, store_shared) depth 40
 
 pub returns-clause-worked : goal.returns-clause-worked
 returns-clause-worked g c =

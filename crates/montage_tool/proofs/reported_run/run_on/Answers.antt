@@ -1,4 +1,4 @@
-use Rattle.montage.specs.Store.{IsWholePass}
+use Rattle.store.specs.Store.{IsWholePass}
 use Rattle.montage_tool.proofs.Ended.{ended_of}
 use Rattle.montage_tool.proofs.reported_run.run_on.Goals as goal
 

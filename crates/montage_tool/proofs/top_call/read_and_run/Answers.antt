@@ -2,14 +2,14 @@ use Rattle.std.proofs.Common.{ap, subst, sym}
 use Rattle.std.specs.Prelude.{Err}
 use Rattle.job_text.specs.declared.limits.TheConstants.{READ_BYTES}
 use Rattle.montage_tool.specs.Montage.{RunsJob}
-use Rattle.montage_tool.proofs.SentReports.{lost_some, run_served, run_unread}
+use Rattle.montage_tool.proofs.SentReports.{lost_some, run_reported, run_unread}
 use Rattle.montage_tool.proofs.top_call.read_and_run.Goals as goal
 
 pub returns-in-Ok : goal.returns-in-Ok
 returns-in-Ok g c =
     let read = c.in-Ok.ensures in
-    run_served g.J.Source.left g.J.Source.faults g.O.Sink.taken g.O.Sink.faults _ c.args.job.now c.read_job.new.source c.args.out.now
-    c.serve_job.new.out c.in-Ok.job
+    run_reported g.J.Source.left g.J.Source.faults g.O.Sink.taken g.O.Sink.faults _ c.args.job.now c.read_job.new.source c.args.out.now
+    c.report_job.new.out c.in-Ok.job
     (record {
       of_job = record { is_job = read.spelled.0; spelled = read.spelled.1 };
       same = λ i is text. read.accepted i is text;
@@ -17,7 +17,7 @@ returns-in-Ok g c =
       ended = read.taken.1;
       kept = read.cause;
     })
-    c.serve_job.result c.serve_job.ensures.served c.serve_job.ensures.unserved
+    c.report_job.result c.report_job.ensures
 
 pub returns-in-Err : goal.returns-in-Err
 returns-in-Err g c =

@@ -1,0 +1,10 @@
+pub mod UnitAt
+pub mod StoreCalls
+pub mod Store
+pub mod MapBoxes
+pub mod FreshStore
+pub mod Ticking
+pub mod SeatsBack
+pub mod Resuming
+pub mod Shifting
+pub mod Closing

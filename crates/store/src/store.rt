@@ -1,0 +1,67 @@
+// The store: what its callers share.
+ghost use Rattle.std.specs.Prelude.{◌≡◌};
+
+use crate::unit_at::UnitAt;
+use advance::Advancer;
+use heap::Heap;
+use heap_pass::{Apart, HeapName, Named};
+use index_kit::Index;
+use mont_base::Epoch;
+use plain::Contents;
+use std::marker::Model;
+use std::sync::Mutex;
+
+/// The structures of a store, each behind a lock of its own, with the heap and the advancer.
+///
+/// Callers share it, each with a pass of its own. A call locks the unit of its operation, and no
+/// other; the lock of one unit stands in no cache line of another's. Contracts see of which heap it
+/// is: the one that N names.
+#[derive(Drop)]
+pub struct Store<N: HeapName, I: Index = Box<dyn Index + Send>> {
+    pub(crate) heap: Heap,
+    pub(crate) unit_0: Apart<Mutex<UnitAt<0, N, I>>>,
+    pub(crate) unit_1: Apart<Mutex<UnitAt<1, N, I>>>,
+    pub(crate) unit_2: Apart<Mutex<UnitAt<2, N, I>>>,
+    pub(crate) unit_3: Apart<Mutex<UnitAt<3, N, I>>>,
+    pub(crate) unit_4: Apart<Mutex<UnitAt<4, N, I>>>,
+    pub(crate) unit_5: Apart<Mutex<UnitAt<5, N, I>>>,
+    pub(crate) unit_6: Apart<Mutex<UnitAt<6, N, I>>>,
+    pub(crate) unit_7: Apart<Mutex<UnitAt<7, N, I>>>,
+    pub(crate) unit_8: Apart<Mutex<UnitAt<8, N, I>>>,
+    pub(crate) unit_9: Apart<Mutex<UnitAt<9, N, I>>>,
+    pub(crate) unit_10: Apart<Mutex<UnitAt<10, N, I>>>,
+    pub(crate) unit_11: Apart<Mutex<UnitAt<11, N, I>>>,
+    pub(crate) unit_12: Apart<Mutex<UnitAt<12, N, I>>>,
+    pub(crate) unit_13: Apart<Mutex<UnitAt<13, N, I>>>,
+    pub(crate) unit_14: Apart<Mutex<UnitAt<14, N, I>>>,
+    pub(crate) unit_15: Apart<Mutex<UnitAt<15, N, I>>>,
+    pub(crate) advancer: Mutex<Named<N, Advancer>>,
+    pub(crate) base_clock: Epoch,
+    pub(crate) base: Contents,
+}
+
+impl<N: HeapName, I: Index> Model for Store<N, I> {
+    ghost use Rattle.heap.specs.HeapShown.{HeapShown};
+    ghost use Rattle.store.specs.Store.{IsStoreOf};
+
+    ghost Value = { HeapShown };
+
+    ghost view = { λ s. s.heap };
+
+    ghost invariant = { λ s. IsStoreOf N.heap s.heap s.base_clock s.base };
+}
+
+impl<N: HeapName, I: Index> Store<N, I> {
+    /// The heap that N names.
+    pub fn heap(&self) -> &Heap
+        ensures named { self.now ≡ N.heap }
+        ensures heap { result.now ≡ N.heap }
+    {
+        &self.heap
+    }
+
+    /// The advancer, behind its lock.
+    pub fn advancer(&self) -> &Mutex<Named<N, Advancer>> {
+        &self.advancer
+    }
+}

@@ -1,0 +1,81 @@
+// The locks of the units. A call locks the operation's unit, and no other.
+ghost use Rattle.std.specs.Prelude.{◌≡◌, ◌<◌};
+ghost use Rattle.mont_laws.specs.Effects.{IsOpOf};
+ghost use Rattle.store.specs.StoreCalls.{HasCalled};
+
+use crate::store::Store;
+use crate::unit_at::UnitAt;
+use heap::Heap;
+use heap_pass::{HeapName, Pass};
+use index_kit::Index;
+use mont_base::{CallRefusal, Gate, Op, Receipt, Unit};
+use std::sync::{Mutex, Wait};
+use structure_call::last_receipt;
+
+impl<N: HeapName, I: Index> Store<N, I> {
+    // Carries an operation of the unit out, under the unit's lock.
+    pub(crate) fn call_unit<R: Wait, G: Gate>(
+        &self,
+        rt: &R,
+        pass: &mut Pass<G>,
+        unit: Unit,
+        op: &Op,
+    ) -> Result<Receipt, CallRefusal>
+        requires pass { pass.old.ticket.table ≡ N.heap.table }
+        requires op { IsOpOf N.heap.opening.layout unit op.now }
+        ensures { HasCalled N.heap G.cuts G.endless pass.old pass.new op.now result }
+    {
+        let heap = &self.heap;
+        match self.lock_of(unit, op) {
+            0 => call_at(rt, heap, &self.unit_0.part, pass, unit, op),
+            1 => call_at(rt, heap, &self.unit_1.part, pass, unit, op),
+            2 => call_at(rt, heap, &self.unit_2.part, pass, unit, op),
+            3 => call_at(rt, heap, &self.unit_3.part, pass, unit, op),
+            4 => call_at(rt, heap, &self.unit_4.part, pass, unit, op),
+            5 => call_at(rt, heap, &self.unit_5.part, pass, unit, op),
+            6 => call_at(rt, heap, &self.unit_6.part, pass, unit, op),
+            7 => call_at(rt, heap, &self.unit_7.part, pass, unit, op),
+            8 => call_at(rt, heap, &self.unit_8.part, pass, unit, op),
+            9 => call_at(rt, heap, &self.unit_9.part, pass, unit, op),
+            10 => call_at(rt, heap, &self.unit_10.part, pass, unit, op),
+            11 => call_at(rt, heap, &self.unit_11.part, pass, unit, op),
+            12 => call_at(rt, heap, &self.unit_12.part, pass, unit, op),
+            13 => call_at(rt, heap, &self.unit_13.part, pass, unit, op),
+            14 => call_at(rt, heap, &self.unit_14.part, pass, unit, op),
+            15 => call_at(rt, heap, &self.unit_15.part, pass, unit, op),
+            _ => unreachable!(),
+        }
+    }
+
+    // The number of the lock of an operation's unit.
+    pub(crate) fn lock_of(&self, unit: Unit, op: &Op) -> u64
+        requires { IsOpOf N.heap.opening.layout unit op.now }
+        ensures same { result ≡ unit }
+        ensures few { result < 16 }
+    {
+        let _units = self.heap.layout().units();
+        let _op = op;
+        unit
+    }
+}
+
+// Carries an operation of the unit with this number out, under its lock. The receipt is copied
+// from the pass behind it.
+fn call_at<const UNIT: u64, R: Wait, N: HeapName, I: Index, G: Gate>(
+    rt: &R,
+    heap: &Heap,
+    lock: &Mutex<UnitAt<UNIT, N, I>>,
+    pass: &mut Pass<G>,
+    unit: Unit,
+    op: &Op,
+) -> Result<Receipt, CallRefusal>
+    requires heap { heap.now ≡ N.heap }
+    requires pass { pass.old.ticket.table ≡ N.heap.table }
+    requires unit { unit ≡ UNIT }
+    requires op { IsOpOf N.heap.opening.layout unit op.now }
+    ensures { HasCalled N.heap G.cuts G.endless pass.old pass.new op.now result }
+{
+    let _unit = unit;
+    lock.lock(rt).perform(rt, heap, pass, op)?;
+    Ok(last_receipt(&pass.receipts))
+}

@@ -1,0 +1,116 @@
+// The devices of the process, and devices that wear out.
+ghost use Rattle.std.specs.Prelude.{◌≤◌, IfOk};
+
+use mont_base::{Failed, Sink, Source};
+use montage_tool::{FileSink, FileSource, StdSink, StdSource};
+use std::alloc::Global;
+use std::io::{Read, Write};
+use std::test::Fail;
+use std::{fs, io};
+
+const WRITTEN: &str = "devices-test";
+
+// What a source has, up to 400 bytes, read in pieces of four.
+fn all_of<S: Source>(alloc: Global, source: &mut S) -> Result<Vec<u8>, Fail> {
+    let mut all = Vec::new(alloc);
+    let mut piece = [0; 4];
+    for _ in 0..100 {
+        let count = source.read(&mut piece)?;
+        all.extend_from_slice(&piece[..count])?;
+    }
+    Ok(all)
+}
+
+#[test]
+fn a_file_is_written_and_read_back(rt: HostRuntime) -> Result<(), Fail> {
+    let _ = fs::remove_file(&rt, WRITTEN);
+    let mut sink = FileSink::new(&rt, WRITTEN);
+    assert!(rt;
+        fs::metadata(&rt, WRITTEN).is_err(),
+        "made at the first write"
+    );
+    assert_eq!(rt; sink.write(b"a report"), Ok(8));
+    assert_eq!(rt; sink.write(b"\n"), Ok(1));
+    drop(sink);
+    let mut source = FileSource::open(&rt, WRITTEN);
+    let all = all_of(rt.alloc(), &mut source)?;
+    assert_eq!(rt; all.as_slice(), b"a report\n".as_slice());
+    assert_eq!(rt; source.faults, 0);
+    fs::remove_file(&rt, WRITTEN)?;
+    Ok(())
+}
+
+#[test]
+fn files_that_are_not_there_fail(rt: HostRuntime) {
+    let mut source = FileSource::open(&rt, "no-such-file");
+    let mut sink = FileSink::new(&rt, "no-such-folder/report");
+    let mut piece = [0; 4];
+    for count in 1..=2 {
+        assert_eq!(rt; source.read(&mut piece), Err(Failed));
+        assert_eq!(rt; source.faults, count);
+        assert_eq!(rt; sink.write(&piece), Err(Failed));
+        assert_eq!(rt; sink.faults, count);
+    }
+}
+
+// Gives and takes one byte, then none, and then fails.
+#[derive(Drop)]
+struct Worn {
+    calls: u8,
+}
+
+impl Worn {
+    fn used(&mut self, room: usize) -> io::Result<usize>
+        ensures { IfOk result (λ n. n ≤ room) }
+    {
+        self.calls = self.calls.saturating_add(1);
+        match self.calls {
+            1 => Ok(room.min(1)),
+            2 => Ok(0),
+            _ => Err(io::Error::from(io::ErrorKind::Other)),
+        }
+    }
+}
+
+impl Read for Worn {
+    fn read(&mut self, buf: &mut [u8]) -> io::Result<usize> {
+        self.used(buf.len())
+    }
+}
+
+impl Write for Worn {
+    fn write(&mut self, buf: &[u8]) -> io::Result<usize> {
+        self.used(buf.len())
+    }
+
+    fn flush(&mut self) -> io::Result<()> {
+        Ok(())
+    }
+}
+
+#[test]
+fn a_stream_ends_and_a_device_that_takes_nothing_fails(rt: HostRuntime) {
+    let mut source = StdSource::new(Worn { calls: 0 });
+    let mut sink = StdSink::new(Worn { calls: 0 });
+    let mut piece = [0; 4];
+    let reads = [(Ok(1), 0), (Ok(0), 0), (Err(Failed), 1), (Err(Failed), 2)];
+    for (answer, faults) in reads {
+        assert_eq!(rt; source.read(&mut piece), answer);
+        assert_eq!(rt; source.faults, faults);
+    }
+    let writes = [(Ok(1), 0), (Err(Failed), 1), (Err(Failed), 2)];
+    for (answer, faults) in writes {
+        assert_eq!(rt; sink.write(&piece), answer);
+        assert_eq!(rt; sink.faults, faults);
+    }
+}
+
+#[test]
+fn the_standard_streams_answer(rt: HostRuntime) {
+    let mut source = StdSource::new(rt.reader());
+    let mut piece = [0; 4];
+    let answer = source.read(&mut piece);
+    assert_eq!(rt; answer.is_ok(), source.faults == 0);
+    let mut sink = StdSink::new(io::writer(&rt));
+    assert_eq!(rt; sink.write(b"\n"), Ok(1));
+}
