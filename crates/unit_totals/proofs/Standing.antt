@@ -59,7 +59,8 @@ module _ (s : Shape) (clock : ℕ) (base : Contents) (callers : List CallerShown
       let begun = images.accepted.clock_begun in
       let behind = images.not_behind in
       let back = All-contains (IsHeldBack (clock_of t.words.cur)) q.known.within left
-      (All-contains (λ (c : CallerShown). All (IsHeldBack (clock_of t.words.cur)) c.known.within) callers q stopped.held_back is_caller) is_left in
+      (All-contains (λ (c : CallerShown). All (IsHeldBack (clock_of t.words.cur)) c.known.within) callers q stopped.held_back is_caller)
+      is_left in
       omega (arith, begun, behind, back)
 
 pub one_epoch_stands_together : OneEpochStandsTogether

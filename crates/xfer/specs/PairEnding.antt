@@ -29,8 +29,9 @@ pub record HasWrittenPair
 -- Both entries are of the guard's epoch, and their calls of the caller follow each other.
 pub record HasCommittedPair
     (heap : HeapShown) (low low_now high high_now : RegionShown) (q r : CallerShown)
-    (low_op : Op) (low_reply : Reply) (high_op : Op) (high_reply : Reply) (epoch : ℕ)
-    (receipts : PairReceipt) : Type 0 where
+    (low_op : Op) (low_reply : Reply)
+    (high_op : Op) (high_reply : Reply)
+    (epoch : ℕ) (receipts : PairReceipt) : Type 0 where
   pub between : CallerShown
   pub lower : HasCommitted heap low low_now q between low_op low_reply epoch receipts.low
   pub higher : HasCommitted heap high high_now between r high_op high_reply epoch receipts.high

@@ -53,7 +53,8 @@ returns-clause-items g c = (answered_unit c.args.heap.now c.self.inside.region c
     (as_list c.plan-reply.result.change c.as_slice-changes.result.now c.as_slice-changes.ensures)
     (as_list c.plan-reply.result.change c.as_slice-changes.result.now c.as_slice-changes.ensures)
     c.plan-reply.ensures.change c.in_ok-check_numbers.ensures.ok.0
-    c.in_ok-slot.ensures.carried.holds.answered c.in_ok-slot.ensures.carried.holds.carried c.in_ok-reserve.ensures.items c.follow.ensures).holds
+    c.in_ok-slot.ensures.carried.holds.answered c.in_ok-slot.ensures.carried.holds.carried c.in_ok-reserve.ensures.items
+    c.follow.ensures).holds
 
 -- ---- the receipt, and that the gate was asked
 pub returns-clause-answered : goal.returns-clause-answered
