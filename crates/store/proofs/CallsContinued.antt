@@ -41,7 +41,8 @@ module _ (heap : HeapShown) (before behind : RegionShown) (q r : CallerShown) (o
   pub place_is : receipt.place ≡ length before.seat.known.part.history
   place_is = ap (λ (x : Receipt). x.place) a.receipt_is
 
-  pub receipt_again : (record { unit = before.seat.known.unit; place = length before.seat.known.part.history; entry = receipt.entry }) ≡ receipt
+  pub receipt_again :
+      (record { unit = before.seat.known.unit; place = length before.seat.known.part.history; entry = receipt.entry }) ≡ receipt
   receipt_again = λ i. record { unit = sym unit_is i; place = sym place_is i; entry = receipt.entry }
 
   front_there : slice_get q.known.entries receipt.unit

@@ -110,7 +110,8 @@ module _ {G : Type 0} {gate : Ghosts G} (heap : HeapShown) where
   fresh_passes (p ∷ ps) first empty =
       let tickets = map (λ (q : Pass G gate). q.ticket) ps in
       All-cons (IsFirstPass heap) p ps
-      (first_pass p (All-head (IsFirstTicket heap) p.ticket tickets first) (All-head (λ (q : Pass G gate). q.receipts.items ≡ []) p ps empty))
+      (first_pass p (All-head (IsFirstTicket heap) p.ticket tickets first)
+      (All-head (λ (q : Pass G gate). q.receipts.items ≡ []) p ps empty))
       (fresh_passes ps (All-tail (IsFirstTicket heap) p.ticket tickets first)
       (All-tail (λ (q : Pass G gate). q.receipts.items ≡ []) p ps empty))
 

@@ -149,7 +149,8 @@ module _ (heap : HeapShown) (up : Bool) (low low_now high high_now : RegionShown
       (subst (HasCounted heap) (sym k.0) low_counted, subst (HasCounted heap) (sym k.1) high_counted)
   refused_count (Full unit need free clock) (one, inl k) may =
       let plans = may refl in (
-        full_counts heap low low_now q k.1.between plans.0.0.op plans.0.0.reply plans.0.0.change free clock plans.1.planned.lower plans.1.planned.low_running k.1.full
+        full_counts heap low low_now q k.1.between plans.0.0.op plans.0.0.reply plans.0.0.change free clock
+            plans.1.planned.lower plans.1.planned.low_running k.1.full
             low_counted,
         subst (HasCounted heap) (sym k.1.noted.same) high_counted,
       )
@@ -157,7 +158,8 @@ module _ (heap : HeapShown) (up : Bool) (low low_now high high_now : RegionShown
       let plans = may refl in (
         subst (HasCounted heap) (sym k.1.noted.same)
             (kept_counts heap low k.1.emptied plans.1.planned.low_running k.1.room.keeps low_counted),
-        full_counts heap high high_now q k.1.between plans.0.1.op plans.0.1.reply plans.0.1.change free clock plans.1.planned.higher plans.1.planned.high_running k.1.full
+        full_counts heap high high_now q k.1.between plans.0.1.op plans.0.1.reply plans.0.1.change free clock
+            plans.1.planned.higher plans.1.planned.high_running k.1.full
             high_counted,
       )
   refused_count (Cut unit None) (inl k) may =
@@ -261,7 +263,8 @@ module _ (heap : HeapShown) (up : Bool) (low high : ℕ) (q r : CallerShown) (fr
       → IfOk result (λ receipts. ContinuesByShift heap q r from to amount receipts)
       → IfErr result (λ why. TellsBetween heap up low high q r from to amount why) → GoesBy q r (receipts_added result)
   goes (Ok receipts) k l =
-      let e = k.entries in goes_more q e.between r (_ ∷ []) (_ ∷ []) (goes_on heap q e.between _ e.lower) (goes_on heap e.between r _ e.higher)
+      let e = k.entries in
+      goes_more q e.between r (_ ∷ []) (_ ∷ []) (goes_on heap q e.between _ e.lower) (goes_on heap e.between r _ e.higher)
   goes (Err why) k l = goes_refused why l
 
   refused_by : (why : ShiftRefusal) → AreOfTwoUnits heap.opening.layout from to up low high
@@ -282,7 +285,8 @@ module _ (heap : HeapShown) (up : Bool) (low high : ℕ) (q r : CallerShown) (fr
   refused (Ok receipts) units k = k
   refused (Err why) units k = refused_by why units k
 
-pub tried : {G : Type 0} {the : Ghosts G} (heap : HeapShown) (cuts : G → ℕ) (endless : G → Bool) (old new : Pass G the) (from to : Key) (amount : ℕ) (up : Bool)
+pub tried : {G : Type 0} {the : Ghosts G} (heap : HeapShown) (cuts : G → ℕ) (endless : G → Bool) (old new : Pass G the)
+    (from to : Key) (amount : ℕ) (up : Bool)
     (low high : ℕ) (result : Result (Receipt × Receipt) ShiftRefusal) → AreOfTwoUnits heap.opening.layout from to up low high
     → IfOk result (λ receipts. ContinuesByShift heap old.ticket new.ticket from to amount receipts)
     → IfErr result (λ why. TellsBetween heap up low high old.ticket new.ticket from to amount why)
@@ -331,8 +335,8 @@ module _ (heap : HeapShown) (up : Bool) (low low_now high high_now : RegionShown
       (goes_is heap up low low_now high high_now q r from to amount units.order low_at high_at receipts k)
   has_kept (Err why) old new k given kept = kept
 
-pub shift_tried : {G : Type 0} {the : Ghosts G} (heap : HeapShown) (cuts : G → ℕ) (endless : G → Bool) (old new : Pass G the) (from to : Key)
-    (amount : ℕ) (up : Bool) (low low_now high high_now : RegionShown) (result : Result (Receipt × Receipt) ShiftRefusal)
+pub shift_tried : {G : Type 0} {the : Ghosts G} (heap : HeapShown) (cuts : G → ℕ) (endless : G → Bool) (old new : Pass G the)
+    (from to : Key) (amount : ℕ) (up : Bool) (low low_now high high_now : RegionShown) (result : Result (Receipt × Receipt) ShiftRefusal)
     → AreOfTwoUnits heap.opening.layout from to up low.books.unit high.books.unit → IsUnitAt heap low → IsUnitAt heap high
     → IfOk result (λ receipts. HasShifted heap up low low_now high high_now old.ticket new.ticket from to amount receipts)
     → IfErr result (λ why. LeavesShift heap up low low_now high high_now old.ticket new.ticket from to amount why)

@@ -288,7 +288,8 @@ module _ (heap : HeapShown) (up : Bool) (low low_now high high_now : RegionShown
         kept = high_noted.kept;
         cause = λ states recovered.
             subst (λ (calls : ℕ). IsAtEnd (records_in (opened_records heap.opening) high.books.unit) calls which other.op
-            (base_state (opened_at (clock_of heap.opening.words) states) high.books.unit) high.seat.known.part.history) same_calls
+            (base_state (opened_at (clock_of heap.opening.words) states) high.books.unit) high.seat.known.part.history)
+            same_calls
             (number_at_end heap high n.between.known.part other.op high_stands.seated high_stands.stands.of_heap.layout states recovered which
             (numbers_end heap high high_now n.between r other.op which high_stands.stands.of_heap.layout (record {
               running = planned.high_running;
@@ -383,7 +384,8 @@ module _ (heap : HeapShown) (up : Bool) (low low_now high high_now : RegionShown
       full =
           inr (
             is,
-            found_full heap high high_now q k.between free clock k.full r other.op other.reply other.change high_stands.stands high_is planned.higher
+            found_full heap high high_now q k.between free clock k.full r other.op other.reply other.change high_stands.stands high_is
+                planned.higher
                 (keeps_both high_now k.emptied q k.between r k.full.seen k.full.noted k.noted.seen k.noted.noted)
                 (keeps_caller k.emptied k.between r k.noted.seen k.noted.noted).durable,
           );

@@ -10,8 +10,8 @@ use Rattle.heap.specs.Stops.{IsSeatOfUnit, AreAtHome}
 use Rattle.store_stop.specs.Headline.{IsBaseOf}
 use Rattle.store.specs.declared.closing.Unlocked.{Unlocked}
 
--- The heap, the seats of all its units, by their numbers and each with its list at home, that of the
--- advancer, and what the heap opened with.
+-- The heap, the seats of all its units, by their numbers and each with its list at home, that of
+-- the advancer, and what the heap opened with.
 pub record IsUnlocked (heap : HeapShown) (u : Unlocked) : Type 0 where
   pub named : u.heap ≡ heap
   pub many : length u.units.items ≡ units_of heap.opening.layout

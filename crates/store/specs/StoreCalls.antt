@@ -62,8 +62,8 @@ abbrev pub IsRange : Op → Type 0
 IsRange (ops.ORange unit from to most) = most ≤ MOST_PAIRS
 IsRange _ = ⊥
 
--- The pairs are those of the range in the plain structure behind the entries before it, all of which
--- the caller has then seen.
+-- The pairs are those of the range in the plain structure behind the entries before it, all of
+-- which the caller has then seen.
 pub record HandsRun (heap : HeapShown) (r : CallerShown) (receipt : Receipt) (run : Run)
     : Type 0 where
   pub history : List Entry
@@ -107,7 +107,8 @@ NeedsRoom heap unit r op need free clock = HasLearntCause heap unit r (λ base h
     LacksRoom (length (effects_then base history op))
     (room_of heap.opening.layout.slots base history clock) need free)
 
--- So it was at a durable clock that isn't below the one that the caller knew, and that it knows now.
+-- So it was at a durable clock that isn't below the one that the caller knew, and that it knows
+-- now.
 pub record FoundFull
     (heap : HeapShown) (unit : ℕ) (q r : CallerShown) (op : Op) (need free clock : ℕ)
     : Type 0 where

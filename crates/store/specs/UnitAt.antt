@@ -37,8 +37,8 @@ pub record IsSeated (r : RegionShown) : Type 0 where
   pub halted : r.books.halted ≡ r.seat.known.part.frozen
   pub places : r.books.places ≡ length r.seat.known.part.history
 
--- A structure of the heap's unit of this number, and of its kind, which stands as between two calls,
--- and has counted the numbers that it gave.
+-- A structure of the heap's unit of this number, and of its kind, which stands as between two
+-- calls, and has counted the numbers that it gave.
 pub record StandsAt {I : Type 0} (heap : HeapShown) (number : ℕ) (s : Structure I) : Type 0 where
   pub of_unit : (region_of s).books.unit ≡ number
   pub kind : is_of_kind (kind_of heap.opening.layout number) (structure_kind s) ≡ true

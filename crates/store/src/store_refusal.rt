@@ -10,8 +10,8 @@ use recover::RecoverRefusal;
 use shard_map::ShiftRefusal;
 use std::alloc::{AllocError, AllocFailed};
 
-/// Why a program gave up between a layout and the stop of its store. Each refusal on the way becomes
-/// one by `?`.
+/// Why a program gave up between a layout and the stop of its store. Each refusal on the way
+/// becomes one by `?`.
 #[derive(Clone, Copy, Debug, PartialEq, Eq)]
 pub enum StoreRefusal {
     /// The letters of its units spell no kinds.

@@ -59,7 +59,9 @@ module _ {G : Type 0} {asks : Ghosts G} (olds news : List (Pass G asks)) (same :
       (same.each i old.0 p old.1 e).whole (all_gives (λ (q : Pass G asks). IsWhole q.ticket q.receipts.items) olds i old.0 whole old.1))
 
 -- ---- works
-module _ {W G : Type 0} {asks : Ghosts G} (did : Deed W) (heap : HeapShown) (olds news : List (AtWork G W asks)) (k : HaveWorked did heap olds news) where
+module _
+    {W G : Type 0} {asks : Ghosts G} (did : Deed W) (heap : HeapShown) (olds news : List (AtWork G W asks))
+    (k : HaveWorked did heap olds news) where
   abbrev pass_of : AtWork G W asks → Pass G asks
   pass_of a = a.pass
 
@@ -98,13 +100,18 @@ moved {W} {G} {asks} did heap a b old new p q k =
 
 -- ---- the callers at work, made of passes and works, and taken apart again
 module _
-    {W G : Type 0} {asks : Ghosts G} (did : Deed W) (heap : HeapShown) (olds news : List (AtWork G W asks)) (k : HaveWorked did heap olds news)
+    {W G : Type 0} {asks : Ghosts G} (did : Deed W) (heap : HeapShown) (olds news : List (AtWork G W asks))
+    (k : HaveWorked did heap olds news)
     (first last : List (Pass G asks)) (p : map (λ (a : AtWork G W asks). a.pass) olds ≡ first)
     (q : last ≡ map (λ (a : AtWork G W asks). a.pass) news) where
   kept : AreSamePasses first last
-  kept = subst (λ (x : List (Pass G asks) × List (Pass G asks)). AreSamePasses x.0 x.1) (λ j. (p j, sym q j)) (same_passes did heap olds news k)
+  kept =
+      subst (λ (x : List (Pass G asks) × List (Pass G asks)). AreSamePasses x.0 x.1) (λ j. (p j, sym q j))
+      (same_passes did heap olds news k)
 
-  pub all_behind : AreAllCallers heap (map (λ (x : Pass G asks). x.ticket) first) → AreAllCallers heap (map (λ (x : Pass G asks). x.ticket) last)
+  pub all_behind :
+      AreAllCallers heap (map (λ (x : Pass G asks). x.ticket) first) →
+      AreAllCallers heap (map (λ (x : Pass G asks). x.ticket) last)
   all_behind all = still_all first last kept heap all
 
   pub whole_behind : All (IsFirstPass heap) first → All (λ (x : Pass G asks). IsWhole x.ticket x.receipts.items) last

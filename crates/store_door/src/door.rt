@@ -48,8 +48,9 @@ pub(crate) struct AtWork<G: Gate, W> {
 /// Opens a store that was never used, lends it to the work of each caller in a thread of its own,
 /// and stops it when all are done. It gives what the store leaves, and the works.
 ///
-/// There are as many callers as works, and each has the gate in the place of its work. Map units are
-/// given the indexes as `Store::fresh` does. After want of memory the store is gone, and the works.
+/// There are as many callers as works, and each has the gate in the place of its work. Map units
+/// are given the indexes as `Store::fresh` does. After want of memory the store is gone, and the
+/// works.
 pub fn with_fresh<
     R: Threads + Sync,
     G: Gate + Drop + Send,

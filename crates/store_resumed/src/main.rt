@@ -1,6 +1,6 @@
-//! A store that goes on behind a crash: a caller takes a turn, the store is stopped, and an image is
-//! picked as a crash may leave it. The store is recovered from it, a caller takes a turn on what it
-//! holds, and it is stopped again.
+//! A store that goes on behind a crash: a caller takes a turn, the store is stopped, and an image
+//! is picked as a crash may leave it. The store is recovered from it, a caller takes a turn on what
+//! it holds, and it is stopped again.
 #![tactic(auto)]
 
 mod queue_turn;

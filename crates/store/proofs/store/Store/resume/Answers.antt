@@ -70,7 +70,8 @@ of_structures-store-requires-clause-named g c =
 pub of_structures-store-requires-clause-advancer : goal.of_structures-store-requires-clause-advancer
 of_structures-store-requires-clause-advancer g c =
     subst (λ (a : AdvShown). IsAdvancerOf g.N.HeapName.heap a) (sym c.new-advancer.ensures)
-    (parts_advancer g.N.HeapName.heap c.args.recovered c.into_parts-layout.result c.requires.named c.into_parts-layout.ensures c.requires.swept)
+    (parts_advancer g.N.HeapName.heap c.args.recovered c.into_parts-layout.result c.requires.named c.into_parts-layout.ensures
+    c.requires.swept)
 
 pub of_structures-store-requires-clause-base : goal.of_structures-store-requires-clause-base
 of_structures-store-requires-clause-base g c =
