@@ -17,9 +17,9 @@
 // each line is told with what each of its steps does to the words.
 use crate::crash_images::{show_images, show_picked};
 use crate::line_fault::LineFault;
+use crate::machine_run::{Run, make};
 use crate::many_steps::{advance, flush, write};
 use crate::opened_cores::{hold, open, wait_for};
-use crate::run::{Run, make};
 use crate::shown_parts::show;
 use crate::step_effects::tell_effects;
 use crate::step_lines::{event_of, part_of};

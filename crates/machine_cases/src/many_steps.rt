@@ -1,6 +1,6 @@
 // Lines that stand for many steps: a record that is written whole, and an advance of the clock.
 use crate::line_fault::LineFault;
-use crate::run::{Run, make};
+use crate::machine_run::{Run, make};
 use crate::word_row::WordRow;
 use core_steps::{AdvPart, Core, Event, UnitStage};
 use mont_base::FIELDS;

@@ -14,8 +14,8 @@
 //                 operation, behind the image's clock, and how many images in a row answer so
 //     picked MASK UNIT OP                     the same of the image that a mask picks
 use crate::line_fault::LineFault;
+use crate::machine_run::{Run, steps_made};
 use crate::opened_cores::place_of;
-use crate::run::{Run, steps_made};
 use crate::word_row::WordRow;
 use core_run::flush_list;
 use core_steps::{AdvPart, CallerPart, Core, Mark, UnitPart, UnitStage};

@@ -1,6 +1,6 @@
 // What steps do to the words: `c5=1` makes the current word 5 a 1, `d5=1` the durable one, and a
 // dot changes none. Word 0 is the clock, and slot 0 has the words 1 to 12.
-use crate::run::{Memories, Run};
+use crate::machine_run::{Memories, Run};
 use std::alloc::AllocError;
 
 /// Tells a line with what each of its steps did, the first of which began with these memories.

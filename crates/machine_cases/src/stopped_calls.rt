@@ -2,7 +2,7 @@
 use crate::call_lines::{is_made, play};
 use crate::engine_ends::{begin_with, stop};
 use crate::line_fault::LineFault;
-use crate::run::Memories;
+use crate::machine_run::Memories;
 use mont_base::{Fuel, Layout, Words};
 use std::alloc::Global;
 use std::sync::Wait;
