@@ -1,7 +1,1 @@
-pub mod Lists
-pub mod Stacks
-pub mod Epochs
-pub mod Rows
-pub mod Folds
 pub mod Words
-pub mod Held

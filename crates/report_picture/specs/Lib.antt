@@ -1,8 +1,2 @@
 pub mod Trouble
 pub mod Form
-pub mod Labels
-pub mod Lanes
-pub mod Columns
-pub mod Folding
-pub mod Picture
-pub mod Svg

@@ -3,25 +3,13 @@
 //! what is lost behind it is grey.
 #![tactic(auto)]
 
-mod columns;
-mod counts;
-mod folding;
 mod form;
-mod label_spelling;
-mod labels;
-mod lanes;
-mod picture;
 mod picture_input;
-mod svg;
-mod terminal;
-#[cfg(test)]
-mod tests;
 mod trouble;
-mod unit_contents;
 
 use form::{Form, form_of, words_of};
-use picture::Picture;
 use picture_input::report_of;
+use report_drawing::{Picture, svg, terminal};
 use std::alloc::Global;
 use std::env;
 use std::io::{self, Read, Write};

@@ -1,0 +1,19 @@
+//! Draws a report: what is in a picture of it, as SVG or as lines for a terminal. Epochs stand from
+//! left to right, the cut is a wall, and what is lost behind it is grey.
+#![tactic(auto)]
+
+mod columns;
+mod counts;
+mod folding;
+mod label_spelling;
+mod labels;
+mod lanes;
+mod picture;
+pub mod svg;
+pub mod terminal;
+mod unit_contents;
+
+pub use columns::Column;
+pub use folding::{Label, Strip};
+pub use lanes::{Cell, Lane};
+pub use picture::Picture;

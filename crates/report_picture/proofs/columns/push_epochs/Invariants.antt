@@ -1,6 +1,0 @@
-use Rattle.std.proofs.Common.{◌≡◌, ◌++◌, take, map}
-use Rattle.report_picture.specs.declared.lanes.Cell.{Cell}
-use Rattle.report_picture.proofs.columns.push_epochs.Given as goal
-
-abbrev pub invariant-loop-cell : goal.invariant-loop-cell
-invariant-loop-cell l = l.epochs.items ≡ l.initial.epochs.items ++ map (λ (cell : Cell). cell.epoch) (take l.cell-index l.cells)

@@ -1,7 +1,0 @@
-use Rattle.std.proofs.Common.{◌≡◌, take, map}
-use Rattle.report_picture.specs.Folding.{drawn_all}
-use Rattle.report_picture.specs.Svg.{rows_of}
-use Rattle.report_picture.proofs.svg.rows_of.Given as goal
-
-abbrev pub invariant-loop-stack : goal.invariant-loop-stack
-invariant-loop-stack l = l.rows ≡ rows_of (map drawn_all (take l.stack-index l.strip.stacks.items))
