@@ -1,25 +1,21 @@
 -- How a bench begins.
 use Rattle.std.proofs.Common.{◌≡◌, ◌∙◌, ap, sym, subst, refl, ℕ, zero, suc, ◌-◌, ◌<◌, List, [], ◌∷◌, ◌++◌, length, length-append, replicate, arith, ◌≤◌, ◌+◌, rules}
 use Rattle.std.proofs.lemmas.Option.{same_Some}
+use Rattle.std.proofs.lemmas.List.{length-replicate}
 use Rattle.std.specs.Prelude.{slice_get, IsTrue, Some}
 use Rattle.mont_base.specs.declared.constants.TheConstants.{FIRST_CLOCK}
-use Rattle.mont_base.specs.declared.gate.Fuel.{Fuel}
-use Rattle.mont_base.specs.Layout.{Shape, IsLayout, units_of}
-use Rattle.mont_base.specs.Image.{empty_states}
-use Rattle.core_steps.specs.declared.parts.Core.{Core}
+use Rattle.mont_base.specs.Layout.{Shape, units_of}
 use Rattle.core_steps.specs.declared.parts.UnitPart.{UnitPart}
-use Rattle.core_steps.specs.Fresh.{fresh, fresh_unit, fresh_caller}
-use Rattle.core_steps.specs.Announcing.{can_look}
+use Rattle.core_steps.specs.Fresh.{fresh_unit, fresh_caller}
 use Rattle.core_steps.proofs.RowFacts.{row_last}
-use Rattle.core_steps.proofs.StartLaws.{fresh_cores_are_sound}
 use Rattle.heap_rule.specs.declared.rule.Opening.{Opening}
 use Rattle.heap_rule.specs.Views.{first_unit, first_advancer, first_caller, are_clean, clean_at}
 use Rattle.heap.specs.HeapShown.{HeapShown, UnitShown, AdvShown, CallerShown}
 use Rattle.heap.specs.FreshOpening.{fresh_opening, OpensEmpty}
 use Rattle.heap.specs.Opens.{Opens, dealt_units}
 use Rattle.heap_worked.specs.declared.bench.Bench.{Bench}
-use Rattle.heap_worked.specs.AdvanceSteps.{IsAtRest}
-use Rattle.heap_worked.specs.Mirrors.{AreHome, Mirrors}
+use Rattle.heap_pass.specs.OfLayout.{IsOfLayout}
+use Rattle.heap_worked.specs.Benches.{AreHome, IsFresh}
 
 -- ---- the seats that were dealt
 -- the last of a list
@@ -57,50 +53,31 @@ module _ (s : Shape) (heap : HeapShown) (one : units_of s ≡ 1) where
 
 -- ---- the beginning
 module _ (s : Shape) (heap : HeapShown) (one : units_of s ≡ 1) (empty : OpensEmpty s 2) (opening : heap.opening ≡ fresh_opening s 2) where
-  all_clean : IsTrue (are_clean 1 (clean_at (fresh_opening s 2)))
-  all_clean = subst (λ n. IsTrue (are_clean n (clean_at (fresh_opening s 2)))) one empty.clean
+  all_clean : IsTrue (are_clean (units_of heap.opening.layout) (clean_at (fresh_opening s 2)))
+  all_clean = subst (λ (o : Opening). IsTrue (are_clean (units_of o.layout) (clean_at (fresh_opening s 2)))) (sym opening) empty.clean
 
   abbrev no_list : List ℕ
   no_list = []
 
-  at_rest : IsAtRest FIRST_CLOCK (first_advancer (fresh_opening s 2))
-  at_rest = record {
-    part = refl;
-    clock_is = refl;
-    one = one;
-    lists = ap (λ n. length (replicate n no_list)) one;
-    turn = refl;
-    clean = all_clean;
-  }
+  of_layout : IsOfLayout s (first_advancer (fresh_opening s 2))
+  of_layout = record { units = refl; room = refl; lists = length-replicate (units_of s) no_list }
 
   pub begun :
-      (unit : UnitShown) (advancer : AdvShown) (caller other : CallerShown) (gate : Fuel) (core : Core)
-      → IsLayout s → unit ≡ record { table = heap.table; known = first_unit (fresh_opening s 2) 0 }
+      (queue : UnitShown) (advancer : AdvShown) (caller other : CallerShown)
+      → queue ≡ record { table = heap.table; known = first_unit (fresh_opening s 2) 0 }
       → advancer ≡ record { table = heap.table; known = first_advancer (fresh_opening s 2) }
       → caller ≡ record { table = heap.table; known = first_caller (fresh_opening s 2) 0 }
-      → other ≡ record { table = heap.table; known = first_caller (fresh_opening s 2) 1 } → core ≡ fresh s 2
-      → Mirrors (record {
-        heap = heap;
-        unit = unit;
-        advancer = advancer;
-        caller = caller;
-        other = other;
-        clock = FIRST_CLOCK;
-        gate = gate;
-        core = core;
-      })
-  begun unit advancer caller other gate core layout u a q r c =
+      → other ≡ record { table = heap.table; known = first_caller (fresh_opening s 2) 1 }
+      → IsFresh (record { heap = heap; queue = queue; advancer = advancer; caller = caller; other = other })
+  begun queue advancer caller other u a q r =
       subst
-      (λ (x : UnitShown × (AdvShown × (CallerShown × (CallerShown × Core)))). Mirrors (record {
+      (λ (x : UnitShown × (AdvShown × (CallerShown × CallerShown))). IsFresh (record {
         heap = heap;
-        unit = x.0;
+        queue = x.0;
         advancer = x.1.0;
         caller = x.1.1.0;
-        other = x.1.1.1.0;
-        clock = FIRST_CLOCK;
-        gate = gate;
-        core = x.1.1.1.1;
-      })) (λ i. (sym u i, (sym a i, (sym q i, (sym r i, sym c i))))) (record {
+        other = x.1.1.1;
+      })) (λ i. (sym u i, (sym a i, (sym q i, sym r i)))) (record {
         home = record {
           one = ap (λ (o : Opening). units_of o.layout) opening ∙ one;
           two = ap (λ (o : Opening). o.callers) opening;
@@ -112,47 +89,27 @@ module _ (s : Shape) (heap : HeapShown) (one : units_of s ≡ 1) (empty : OpensE
           caller = refl;
           other = refl;
           home = refl;
-          fronts = ap (λ n. length (replicate n zero)) one;
-          synced = ap (λ n. length (replicate n zero)) one;
         };
-        turn = refl;
-        clean = subst (λ (o : Opening). IsTrue (are_clean (units_of o.layout) (clean_at (fresh_opening s 2)))) (sym opening) empty.clean;
-        rests = at_rest;
-        layout = sym (ap (λ (o : Opening). o.layout) opening);
-        units = ap (λ n. replicate n fresh_unit) one
-            ∙ ap (λ (p : UnitPart). p ∷ []) (sym (empty.each_unit 0 (subst (λ n. 0 < n) (sym one) (omega arith))));
-        others = fresh_caller (units_of s) ∷ [];
-        callers = refl;
-        base = record { clock = FIRST_CLOCK; states = empty_states s };
-        sound = fresh_cores_are_sound s 2 layout;
+        part = empty.each_unit 0 (subst (λ n. 0 < n) (sym one) (omega arith));
+        clean = all_clean;
+        advancer = subst (λ (o : Opening). IsOfLayout o.layout (first_advancer (fresh_opening s 2))) (sym opening) of_layout;
+        advancer_clean = all_clean;
+        calls = refl;
+        fronts = ap (λ n. length (replicate n zero)) one;
+        synced = ap (λ n. length (replicate n zero)) one;
       })
 
 -- what the calls of the beginning give
 module _
-    (s : Shape) (heap : HeapShown) (units rest : List UnitShown) (unit : UnitShown) (advancer : AdvShown)
+    (s : Shape) (heap : HeapShown) (units rest : List UnitShown) (queue : UnitShown) (advancer : AdvShown)
     (callers mid front : List CallerShown) (caller other : CallerShown) (one : units_of s ≡ 1)
     (opens : Opens (fresh_opening s 2) heap units advancer callers) (empty : OpensEmpty s 2)
-    (of_units : units ≡ rest ++ unit ∷ []) where
-  the_unit : unit ≡ record { table = heap.table; known = first_unit (fresh_opening s 2) 0 }
-  the_unit = one_unit s heap one rest units unit of_units opens.each_unit
-
+    (of_units : units ≡ rest ++ queue ∷ []) where
   pub opened :
-      (gate : Fuel) (core : Core) → IsLayout s → callers ≡ mid ++ other ∷ [] → mid ≡ front ++ caller ∷ [] → core ≡ fresh s 2
-      → Mirrors (record {
-        heap = heap;
-        unit = unit;
-        advancer = advancer;
-        caller = caller;
-        other = other;
-        clock = FIRST_CLOCK;
-        gate = gate;
-        core = core;
-      })
-  opened gate core layout of_callers of_mid are =
+      callers ≡ mid ++ other ∷ [] → mid ≡ front ++ caller ∷ []
+      → IsFresh (record { heap = heap; queue = queue; advancer = advancer; caller = caller; other = other })
+  opened of_callers of_mid =
       let both = last_two front mid callers caller other (record { table = heap.table; known = first_caller (fresh_opening s 2) 0 })
       (record { table = heap.table; known = first_caller (fresh_opening s 2) 1 }) of_mid of_callers opens.each_caller in
-      begun s heap one empty opens.opening unit advancer caller other gate core layout the_unit opens.the_advancer both.0 both.1 are
-
-  pub opened_looks : IsTrue (can_look unit.known.part)
-  opened_looks = subst (λ (p : UnitPart). IsTrue (can_look p)) (sym (ap (λ (u : UnitShown). u.known.part) the_unit
-      ∙ empty.each_unit 0 (subst (λ n. 0 < n) (sym one) (omega arith)))) (search rules)
+      begun s heap one empty opens.opening queue advancer caller other (one_unit s heap one rest units queue of_units opens.each_unit)
+      opens.the_advancer both.0 both.1

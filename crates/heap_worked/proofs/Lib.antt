@@ -1,5 +1,3 @@
 pub mod BenchEnds
-pub mod BenchSteps
-pub mod Flushes
+pub mod Counting
 pub mod HeardFronts
-pub mod KeptParts

@@ -1,2 +1,1 @@
-pub mod AdvanceSteps
-pub mod Mirrors
+pub mod Benches

@@ -3,12 +3,13 @@ ghost use Rattle.std.specs.Prelude.{◌≡◌, IsTrue};
 ghost use Rattle.mont_base.specs.Layout.{units_of};
 ghost use Rattle.core_steps.specs.Announcing.{can_look};
 ghost use Rattle.heap.specs.HeapShown.{UnitShown, CallerShown};
-ghost use Rattle.heap_worked.specs.AdvanceSteps.{IsAtRest};
-ghost use Rattle.heap_worked.specs.Mirrors.{IsSameUnit, IsSameCaller};
+ghost use Rattle.heap_rule.specs.Views.{are_clean};
+ghost use Rattle.heap_pass.specs.OfLayout.{IsOfLayout};
+ghost use Rattle.heap_worked.specs.Benches.{IsSameUnit, IsSameCaller};
 
-use crate::advance_steps::advance_seat;
-use heap::{AdvSeat, Heap, Ticket, UnitSeat};
-use mont_base::{Epoch, Fuel, Steady};
+use advance::Advancer;
+use heap::{Heap, Ticket, UnitSeat};
+use mont_base::Steady;
 use std::thread;
 use std::thread::Threads;
 
@@ -19,13 +20,13 @@ pub(crate) fn run_beside<R: Threads + Sync>(
     heap: &Heap,
     unit: UnitSeat,
     caller: Ticket,
-    advancer: AdvSeat,
-    clock: Epoch,
-) -> (((UnitSeat, u64), (Ticket, u64)), (AdvSeat, bool))
+    advancer: Advancer,
+) -> (((UnitSeat, u64), (Ticket, u64)), (Advancer, bool))
     requires unit { (unit.table ≡ heap.now.table) × IsTrue (can_look unit.known.part) }
     requires caller { caller.table ≡ heap.now.table }
-    requires advancer { (advancer.table ≡ heap.now.table) × IsAtRest clock advancer.known }
-    requires one { units_of heap.now.opening.layout ≡ 1 }
+    requires advancer { (advancer.table ≡ heap.now.table)
+        × IsOfLayout heap.now.opening.layout advancer.known
+        × IsTrue (are_clean (units_of heap.now.opening.layout) advancer.known.clean) }
     ensures unit { IsSameUnit unit result.0.0.0 }
     ensures caller { IsSameCaller caller result.0.1.0 }
     ensures advancer { result.1.0.table ≡ advancer.table }
@@ -37,11 +38,12 @@ pub(crate) fn run_beside<R: Threads + Sync>(
                 × (caller.table ≡ heap.now.table) }
             ensures { IsSameUnit unit result.0.0 × IsSameCaller caller result.1.0 }
         { look_and_see(rt, heap, unit, caller) },
-        || -> (AdvSeat, bool)
-            requires { (advancer.table ≡ heap.now.table) × IsAtRest clock advancer.known
-                × (units_of heap.now.opening.layout ≡ 1) }
+        || -> (Advancer, bool)
+            requires { (advancer.table ≡ heap.now.table)
+                × IsOfLayout heap.now.opening.layout advancer.known
+                × IsTrue (are_clean (units_of heap.now.opening.layout) advancer.known.clean) }
             ensures { result.0.table ≡ advancer.table }
-        { advanced(heap, advancer, clock) },
+        { advanced(heap, advancer) },
     )
 }
 
@@ -118,12 +120,14 @@ fn sees(heap: &Heap, caller: &mut Ticket) -> bool
     matches!(found, Ok(2 | 3))
 }
 
-fn advanced(heap: &Heap, advancer: AdvSeat, clock: Epoch) -> (AdvSeat, bool)
-    requires advancer { (advancer.table ≡ heap.now.table) × IsAtRest clock advancer.known }
-    requires one { units_of heap.now.opening.layout ≡ 1 }
+// Whether the advance moves the clock from 2 to 3.
+fn advanced(heap: &Heap, advancer: Advancer) -> (Advancer, bool)
+    requires advancer { (advancer.table ≡ heap.now.table)
+        × IsOfLayout heap.now.opening.layout advancer.known
+        × IsTrue (are_clean (units_of heap.now.opening.layout) advancer.known.clean) }
     ensures { result.0.table ≡ advancer.table }
 {
     let mut advancer = advancer;
-    let done = advance_seat(heap, &mut advancer, clock, &mut Fuel::endless()) == Ok(true);
+    let done = advancer.advance(heap, &mut Steady) == Ok(3);
     (advancer, done)
 }

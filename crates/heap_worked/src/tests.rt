@@ -1,49 +1,23 @@
-// What runs leave. Each expected value was worked out by hand from the form of slots and the
-// effects of the steps.
+// What callers tell each other, and what threads leave that step side by side.
 use crate::bench::Bench;
-use crate::expected_words::{are_after, count_steps};
-use crate::heap_runs::{CRASHED, EVERY_CALL, PUT};
-use crate::image_bench::{image_of, reopened};
-use crate::openings::{begin, layout_of, stop};
-use crate::run_lines::follow;
+use crate::openings::{begin, stop};
+use crate::queue_calls::{count, take_back};
 use crate::side_by_side::run_beside;
-use mont_base::Fuel;
 use std::test::Fail;
 
-// The gate cuts before each step in turn: before the first, in the middle of a record, and in the
-// middle of a flush, where the advancer has a list out.
-#[test]
-fn each_step_leaves_its_words(rt: HostRuntime) -> Result<(), Fail> {
-    let steps = count_steps(EVERY_CALL);
-    assert_eq!(rt; steps, 94);
-    for made in 0..=steps {
-        let mut bench = begin(rt.alloc(), Fuel::new(made))?;
-        follow(rt.alloc(), &mut bench, EVERY_CALL)?;
-        let words = stop(rt.alloc(), bench)?;
-        assert!(rt;
-            are_after(rt.alloc(), &words, EVERY_CALL, made)?,
-            "after {made} steps"
-        );
-    }
-    Ok(())
-}
-
-// What the first caller has seen of the unit comes to the other by the unit's seat, and by a note.
+// What the first caller has seen of the unit comes to the other by a note, and by the seats of the
+// unit and of the advancer.
 #[tactic(auto, using(crate::proofs::HeardFronts::as_many))]
 #[test]
 fn notes_are_taken(rt: HostRuntime) -> Result<(), Fail> {
-    let mut bench = begin(rt.alloc(), Fuel::endless())?;
-    follow(rt.alloc(), &mut bench, PUT)?;
     let Bench {
         heap,
-        mut unit,
+        mut queue,
         mut advancer,
         mut caller,
         mut other,
-        clock: _,
-        gate: _,
-        core: _,
-    } = bench;
+    } = begin(rt.alloc())?;
+    count(&heap, &mut queue, &mut caller)?;
     assert_eq!(rt; (other.front(0), other.synced(0)), (0, 0));
     let news = heap.copy_ticket(rt.alloc(), &mut caller)?;
     heap.hear_news(&mut other, news);
@@ -55,51 +29,41 @@ fn notes_are_taken(rt: HostRuntime) -> Result<(), Fail> {
         (caller.number(), caller.calls(), caller.newest()),
         (0, 1, 2)
     );
-    heap.hear_unit(&mut other, &mut unit);
-    heap.hear_advancer(&mut other, &mut advancer);
-    heap.show_unit(&mut other, &mut unit);
-    heap.show_advancer(&mut other, &mut advancer);
-    assert_eq!(rt; (other.newest(), unit.unit()), (2, 0));
+    heap.hear_unit(&mut other, &mut queue);
+    advancer.hear(&heap, &mut other);
+    heap.show_unit(&mut other, &mut queue);
+    advancer.show(&heap, &mut other);
+    assert_eq!(rt; (other.newest(), queue.unit()), (2, 0));
     Ok(())
 }
 
-#[test]
-fn image_comes_back(rt: HostRuntime) -> Result<(), Fail> {
-    let image = image_of(rt.alloc(), 6, CRASHED)?;
-    let words = reopened(rt.alloc(), layout_of(b"m")?, image.as_slice())?;
-    assert_eq!(rt; words.cur.as_slice(), image.as_slice());
-    assert_eq!(rt; words.dur.as_slice(), image.as_slice());
-    Ok(())
-}
-
-// The unit and a caller step in threads of their own while the clock moves on.
+// An announcement is taken back, and then the unit and a caller step in threads of their own while
+// the clock moves on.
 #[test]
 fn seats_step_side_by_side(rt: HostRuntime) -> Result<(), Fail> {
     let Bench {
         heap,
-        unit,
+        mut queue,
         advancer,
         caller,
         other,
-        clock,
-        gate,
-        core,
-    } = begin(rt.alloc(), Fuel::endless())?;
-    let (((unit, looks), (caller, sights)), (advancer, advanced)) = run_beside(
-        &rt, &heap, unit, caller, advancer, clock,
+    } = begin(rt.alloc())?;
+    take_back(&heap, &mut queue)?;
+    let (((queue, looks), (caller, sights)), (advancer, advanced)) = run_beside(
+        &rt, &heap, queue, caller, advancer,
     );
     assert_eq!(rt; (looks, sights, advanced), (1000, 1000, true));
     let bench = Bench {
         heap,
-        unit,
+        queue,
         advancer,
         caller,
         other,
-        clock,
-        gate,
-        core,
     };
     let words = stop(rt.alloc(), bench)?;
-    assert!(rt; are_after(rt.alloc(), &words, &["advance -> . c0=3 d0=3"], 3)?);
+    for memory in [words.cur.as_slice(), words.dur.as_slice()] {
+        assert_eq!(rt; memory.first(), Some(&3));
+        assert!(rt; memory.iter().skip(1).all(|word| *word == 0));
+    }
     Ok(())
 }

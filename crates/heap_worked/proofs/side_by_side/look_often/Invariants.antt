@@ -1,5 +1,5 @@
 use Rattle.std.proofs.Common.{◌≡◌}
-use Rattle.heap_worked.specs.Mirrors.{IsSameUnit}
+use Rattle.heap_worked.specs.Benches.{IsSameUnit}
 use Rattle.heap_worked.proofs.side_by_side.look_often.Given as goal
 
 abbrev pub invariant-loop-load : goal.invariant-loop-load

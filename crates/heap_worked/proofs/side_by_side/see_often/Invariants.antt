@@ -1,4 +1,4 @@
-use Rattle.heap_worked.specs.Mirrors.{IsSameCaller}
+use Rattle.heap_worked.specs.Benches.{IsSameCaller}
 use Rattle.heap_worked.proofs.side_by_side.see_often.Given as goal
 
 abbrev pub invariant-loop-load : goal.invariant-loop-load
