@@ -1,0 +1,2 @@
+pub mod AskableOps
+pub mod StoppedRuns

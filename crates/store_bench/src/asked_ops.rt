@@ -1,0 +1,33 @@
+// Which operations a store of a layout can be asked.
+ghost use Rattle.std.specs.Prelude.{All, IsTrue};
+ghost use Rattle.store_bench.specs.AskableOps.{CanBeAsked};
+
+use mont_base::{Layout, Op, UnitKind};
+
+// Whether all of them can be asked.
+pub(crate) fn can_all_be_asked(layout: &Layout, ops: &[Op]) -> bool
+    ensures { IsTrue result → All (CanBeAsked layout.now) ops.now }
+{
+    for op in ops {
+        if !can_be_asked(layout, op) {
+            return false;
+        }
+    }
+    true
+}
+
+fn can_be_asked(layout: &Layout, op: &Op) -> bool
+    ensures { IsTrue result → CanBeAsked layout.now op.now }
+{
+    match *op {
+        Op::Put { .. } | Op::Get { .. } | Op::Del { .. } => layout.maps() > 0,
+        Op::Enq { unit, .. } | Op::Deq { unit } => {
+            layout.kinds().get(unit) == Some(UnitKind::Queue)
+        }
+        Op::AddV { unit, .. }
+        | Op::AddE { unit, .. }
+        | Op::DelE { unit, .. }
+        | Op::Degree { unit, .. } => layout.kinds().get(unit) == Some(UnitKind::Graph),
+        _ => true,
+    }
+}

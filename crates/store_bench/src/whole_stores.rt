@@ -1,0 +1,176 @@
+// How stores open, stop, and open again from an image.
+ghost use Rattle.std.specs.Prelude.{◌≡◌, false, IfOk};
+ghost use Rattle.store.specs.StoreCalls.{IsSamePass};
+ghost use Rattle.store_bench.specs.StoppedRuns.{WasStopped};
+
+use crate::clock_ends::sync;
+use crate::course::Course;
+use crate::lent_store::{Kind, layout_of, lend};
+use crate::timed_rounds::{nanos_since, time_calls};
+use crate::timing_trouble::Trouble;
+use heap_pass::{HeapName, Pass};
+use index_kit::Index;
+use mont_base::{Fuel, Layout, Op};
+use mont_image::{Image, pick};
+use recover::recover;
+use std::alloc::Global;
+use std::sync::Wait;
+use std::thread::Threads;
+use std::time::{Clock, Instant};
+use store::{Store, StoreRefusal};
+use store_door::Work;
+use store_stop::Stopped;
+
+const SLOTS: u64 = 4096;
+
+// Over how many keys the puts go that a stopped store was asked.
+const KEYS: u64 = 16;
+
+// Looks at the time as soon as the store is open.
+#[derive(Drop)]
+struct Opens {
+    begin: Instant,
+    // The nanoseconds until then.
+    came: Result<u64, Trouble>,
+}
+
+impl<R: Clock> Work<R, Fuel> for Opens {
+    ghost did = { λ _ _ _ _. Unit {0} };
+
+    fn work<N: HeapName, I: Index>(&mut self, rt: &R, store: &Store<N, I>, pass: &mut Pass<Fuel>) {
+        self.came = nanos_since(rt, self.begin);
+    }
+}
+
+// Makes so many calls, syncs, and looks at the time.
+#[derive(Drop)]
+struct Fills {
+    ops: Vec<Op>,
+    calls: u64,
+    // When that was.
+    ended: Result<Instant, Trouble>,
+}
+
+impl<R: Wait + Clock> Work<R, Fuel> for Fills {
+    ghost did = { λ _ _ _ _. Unit {0} };
+
+    fn work<N: HeapName, I: Index>(&mut self, rt: &R, store: &Store<N, I>, pass: &mut Pass<Fuel>) {
+        self.ended = fill(rt, store, pass, &self.ops, self.calls);
+    }
+}
+
+fn fill<R: Wait + Clock, N: HeapName, I: Index>(
+    rt: &R,
+    store: &Store<N, I>,
+    pass: &mut Pass<Fuel>,
+    ops: &[Op],
+    calls: u64,
+) -> Result<Instant, Trouble>
+    requires { pass.old.ticket.table ≡ N.heap.table }
+    ensures { IsSamePass pass.old pass.new }
+{
+    let many = (ops.len() as u64).max(1);
+    for _time in 0..calls.div_ceil(many) {
+        time_calls(rt, store, pass, ops)?;
+    }
+    sync(rt, store, pass)?;
+    Ok(Instant::now(rt)?)
+}
+
+// The nanoseconds of so many openings of a map of so many slots.
+pub(crate) fn time_openings<R: AllocGlobal + Threads + Wait + Clock + Sync>(
+    rt: &R,
+    slots: u64,
+    openings: u64,
+) -> Result<u64, Trouble> {
+    let alloc = rt.alloc();
+    let layout = layout_of(Kind::Map, 1, slots)?;
+    let mut nanos = 0u64;
+    for _opening in 0..openings {
+        nanos = nanos.saturating_add(time_opening(rt, alloc, layout)?);
+    }
+    Ok(nanos)
+}
+
+fn time_opening<R: Threads + Clock + Sync>(
+    rt: &R,
+    alloc: Global,
+    layout: Layout,
+) -> Result<u64, Trouble> {
+    let opens = Opens {
+        begin: Instant::now(rt)?,
+        came: Ok(0),
+    };
+    let (_stopped, mut works) = lend(rt, alloc, layout, vec![in alloc; opens]?)?;
+    match works.pop() {
+        Some(opens) => opens.came,
+        None => Ok(0),
+    }
+}
+
+// The nanoseconds of so many stops, each of a store with so many entries.
+pub(crate) fn time_stops<R: AllocGlobal + Threads + Wait + Clock + Sync>(
+    rt: &R,
+    entries: u64,
+    stops: u64,
+) -> Result<u64, Trouble> {
+    let alloc = rt.alloc();
+    let mut nanos = 0u64;
+    for _stop in 0..stops {
+        let ops = Course::puts(alloc, KEYS)?;
+        let (_stopped, took) = stop_one(rt, alloc, SLOTS, ops, entries)?;
+        nanos = nanos.saturating_add(took);
+    }
+    Ok(nanos)
+}
+
+// A store that was stopped behind so many calls, with the nanoseconds that its stop took.
+fn stop_one<R: Threads + Wait + Clock + Sync>(
+    rt: &R,
+    alloc: Global,
+    slots: u64,
+    ops: Vec<Op>,
+    calls: u64,
+) -> Result<(Stopped, u64), Trouble>
+    ensures { IfOk result (λ r. WasStopped r.0) }
+{
+    let layout = layout_of(Kind::Map, 1, slots)?;
+    let fills = Fills {
+        ops,
+        calls,
+        ended: Err(Trouble::NoClock),
+    };
+    let (stopped, mut works) = lend(rt, alloc, layout, vec![in alloc; fills]?)?;
+    let Some(fills) = works.pop() else {
+        return Err(Trouble::NoClock);
+    };
+    Ok((stopped, nanos_since(rt, fills.ended?)?))
+}
+
+// The nanoseconds of so many openings from the image of a map, half of whose slots have a pair,
+// each with the sweep.
+pub(crate) fn time_recoveries<R: AllocGlobal + Threads + Wait + Clock + Sync>(
+    rt: &R,
+    slots: u64,
+    recoveries: u64,
+) -> Result<u64, Trouble> {
+    let alloc = rt.alloc();
+    let pairs = slots / 2;
+    let (stopped, _took) = stop_one(rt, alloc, slots, Course::puts(alloc, pairs)?, pairs)?;
+    let image = pick(alloc, &stopped.words, 0)?;
+    let mut nanos = 0u64;
+    for _recovery in 0..recoveries {
+        let begin = Instant::now(rt)?;
+        recover_once(rt, alloc, &image)?;
+        nanos = nanos.saturating_add(nanos_since(rt, begin)?);
+    }
+    Ok(nanos)
+}
+
+fn recover_once<R: Threads + Sync>(rt: &R, alloc: Global, image: &Image) -> Result<(), StoreRefusal>
+    requires { image.now.old ≡ false }
+{
+    let mut recovered = recover(rt, alloc, image, 1, 1)?;
+    recovered.sweep(&mut Fuel::endless())?;
+    Ok(())
+}
