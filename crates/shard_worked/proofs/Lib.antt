@@ -1,2 +1,0 @@
-mod SettledImages
-mod StoreEnds

@@ -1,0 +1,2 @@
+mod NewHeaps
+mod Tickets

@@ -1,0 +1,2 @@
+pub mod FreshHeaps
+pub mod ScriptedCallers

@@ -1,0 +1,37 @@
+//! Tries worked cases of a store: scripts of calls by several callers, and what each is answered.
+#![tactic(auto)]
+
+mod contents_lines;
+mod drawn_calls;
+mod drawn_work;
+mod history_lines;
+mod job_words;
+mod judged_round;
+mod left_looks;
+mod left_words;
+mod plain_units;
+mod refusing_index;
+mod round_ends;
+mod round_openings;
+mod round_play;
+mod script;
+mod script_draft;
+mod script_lines;
+mod script_reader;
+mod script_refusal;
+mod script_rounds;
+mod scripted_caller;
+mod shift_words;
+mod step_table;
+mod store_trial;
+mod told_calls;
+mod told_images;
+mod works_done;
+
+use anyhow::Result;
+use std::process::ExitCode;
+use store_trial::try_all;
+
+fn main(rt: HostRuntime) -> Result<ExitCode> {
+    try_all(&rt)
+}
