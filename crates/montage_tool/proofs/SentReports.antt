@@ -26,9 +26,8 @@ use Rattle.montage_tool.specs.declared.status.SourceName.{SourceName}
 use Rattle.montage_tool.specs.declared.status.SourceName.TheVariants as sources
 use Rattle.montage_tool.specs.declared.status.SinkName.{SinkName}
 use Rattle.montage_tool.specs.declared.status.SinkName.TheVariants as sinks
-use Rattle.montage_tool.specs.ReportedRun.{IsRun}
 use Rattle.montage_tool.specs.Program.{IsSaid}
-use Rattle.montage_tool.specs.Montage.{IsJobOf, Reports, IsSent, RefusesBoxes, IsReported, RunsJob, status_of_refusal}
+use Rattle.montage_tool.specs.Montage.{IsJobOf, IsReportOf, Reports, IsSent, RefusesBoxes, IsReported, RunsJob, status_of_refusal}
 
 -- what has lost its first bytes has lost some of them
 pub lost_some : (most : ℕ) (old new : Option (List ℕ)) → LosesFirst most old new → LosesAtMost most old new
@@ -125,7 +124,7 @@ module _
         absurd (boxed_lacks_none i.layout boxes unit len boxed (lack_of i unit len (has.same i is text) lack));
   }
 
-  module _ (boxed : HaveEmptyBoxes j.layout boxes) (report : Report) (run : IsRun j report) where
+  module _ (boxed : HaveEmptyBoxes j.layout boxes) (report : Report) (run : IsReportOf j report) where
     reports : Reports (left job) boxes (report_text report)
     reports = record { job = j; of_job = has.of_job; boxed = boxed; report = report; run = run; text = refl }
 

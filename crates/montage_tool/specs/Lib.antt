@@ -1,5 +1,3 @@
-pub mod RunGates
-pub mod ReportedRun
 pub mod Status
 pub mod Forms
 pub mod Montage

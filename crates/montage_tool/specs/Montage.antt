@@ -11,6 +11,8 @@ use Rattle.job_text.specs.JobText.{IsFirstRefused, job_text}
 use Rattle.job_text.specs.Report.{Report}
 use Rattle.job_text.specs.ReportText.{report_text}
 use Rattle.job_text.specs.Taken.{HasLostSome}
+use Rattle.job_store.specs.Base.{nothing}
+use Rattle.job_store.specs.WholeRun.{IsRun}
 use Rattle.store.specs.declared.open_refusal.OpenRefusal.{OpenRefusal}
 use Rattle.store.specs.declared.open_refusal.OpenRefusal.TheVariants as openings
 use Rattle.store.specs.MapBoxes.{HaveEmptyBoxes, IsFirstLack}
@@ -21,12 +23,15 @@ use Rattle.montage_tool.specs.declared.status.SourceName.{SourceName}
 use Rattle.montage_tool.specs.declared.status.SourceName.TheVariants as sources
 use Rattle.montage_tool.specs.declared.status.SinkName.{SinkName}
 use Rattle.montage_tool.specs.declared.status.SinkName.TheVariants as sinks
-use Rattle.montage_tool.specs.ReportedRun.{IsRun}
 
 -- a job that a source had left: where the source tells its bytes, they are the job's text
 pub record IsJobOf (left : Option (List ℕ)) (job : Job) : Type 0 where
   pub is_job : IsJob job
   pub spelled : IfSome left (λ text. text ≡ job_text job)
+
+-- a report of a run of the job on a store that was never used, whatever image was left
+abbrev pub IsReportOf : Job → Report → Type 0
+IsReportOf job report = (image : List ℕ) × IsRun job (nothing job.layout) report image
 
 -- The text of a faithful report of the job that a source had left, for the map units of which
 -- there were empty boxes among those with so many keys.
@@ -35,7 +40,7 @@ pub record Reports (left : Option (List ℕ)) (boxes : List ℕ) (bytes : List �
   pub of_job : IsJobOf left job
   pub boxed : HaveEmptyBoxes job.layout boxes
   pub report : Report
-  pub run : IsRun job report
+  pub run : IsReportOf job report
   pub text : bytes ≡ report_text report
 
 -- what came of writing these bytes
@@ -64,7 +69,7 @@ abbrev pub SendsReport :
     {O : Type 0} → (O → Option (List ℕ)) → (O → ℕ) → List ℕ → O → O → Job → Status → Type 0
 SendsReport taken faults boxes old new job status =
     HaveEmptyBoxes job.layout boxes
-    × ((report : Report) × IsRun job report
+    × ((report : Report) × IsReportOf job report
     × IsSent taken faults old new (report_text report) status)
 
 -- what came of running a job with boxes of so many keys

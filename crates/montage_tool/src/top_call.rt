@@ -5,14 +5,13 @@ ghost use Rattle.job_text.specs.Grammar.{IsJob};
 ghost use Rattle.job_text.specs.Report.{Report};
 ghost use Rattle.job_text.specs.ReportText.{report_text};
 ghost use Rattle.store.specs.MapBoxes.{HaveEmptyBoxes, LacksBox};
-ghost use Rattle.montage_tool.specs.Montage.{IsSent, IsReported, RunsJob, status_of_refusal, status_of_opening};
-ghost use Rattle.montage_tool.specs.ReportedRun.{IsRun};
+ghost use Rattle.montage_tool.specs.Montage.{IsSent, IsReported, IsReportOf, RunsJob, status_of_refusal, status_of_opening};
 ghost use Rattle.montage_tool.specs.Forms.{AreRun};
 
 use crate::forms::{Form, form_of};
-use crate::reported_run::run_for_report;
 use crate::status::{SinkName, SourceName, Status};
 use index_kit::Index;
+use job_store::run_fresh;
 use job_text::{Job, JobRefusal, read_job, write_report};
 use mont_base::{Sink, Source, deliver};
 use montage::OpenRefusal;
@@ -117,14 +116,14 @@ fn report_of_job<R: Threads + Wait + Sync, B: Index + Send>(
 ) -> Result<Vec<u8>, OpenRefusal>
     requires job { IsJob job.now }
     ensures reported { IfOk result (λ bytes.
-        (report : Report) × IsRun job.now report × (bytes.items ≡ report_text report)) }
+        (report : Report) × IsReportOf job.now report × (bytes.items ≡ report_text report)) }
     ensures boxes { OnOk result (HaveEmptyBoxes job.now.layout
         (map (λ b. finite.len (B.places b)) indexes.items)) }
     ensures lacks { IfErr result (λ why. LacksBox job.now.layout
         (map (λ b. finite.len (B.places b)) indexes.items) why) }
 {
-    let report = run_for_report(rt, alloc, job, indexes)?;
-    Ok(write_report(alloc, &report)?)
+    let run = run_fresh(rt, alloc, job, indexes)?;
+    Ok(write_report(alloc, &run.report)?)
 }
 
 // Writes what the program has to say.
