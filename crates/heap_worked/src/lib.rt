@@ -8,7 +8,7 @@ mod bench;
 #[cfg(test)]
 mod openings;
 #[cfg(test)]
-mod queue_calls;
+mod queue_steps;
 #[cfg(test)]
 mod side_by_side;
 #[cfg(test)]

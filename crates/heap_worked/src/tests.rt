@@ -1,7 +1,7 @@
 // What callers tell each other, and what threads leave that step side by side.
 use crate::bench::Bench;
 use crate::openings::{begin, stop};
-use crate::queue_calls::{count, take_back};
+use crate::queue_steps::{count, take_back};
 use crate::side_by_side::run_beside;
 use std::test::Fail;
 

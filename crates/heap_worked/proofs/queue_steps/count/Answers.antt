@@ -1,6 +1,6 @@
 use Rattle.std.proofs.Common.{rules}
 use Rattle.heap_worked.proofs.Counting.{may_count}
-use Rattle.heap_worked.proofs.queue_calls.count.Goals as goal
+use Rattle.heap_worked.proofs.queue_steps.count.Goals as goal
 
 pub read_entry-requires-clause-may : goal.read_entry-requires-clause-may
 read_entry-requires-clause-may c =
