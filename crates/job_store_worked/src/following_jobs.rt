@@ -94,8 +94,8 @@ end
     ),
 ];
 
-// Images of the first version, of a map, a queue and a graph of eight slots: the clock, the words of
-// slot 0, a job, and the report of its run.
+// Images of the first version, of a map, a queue and a graph of eight slots: the clock, the words
+// of slot 0, a job, and the report of its run.
 type OldImage = (u64, [u64; 8], Round);
 
 // A map with one pair, whose identity is the last; an empty store at the last clock.
