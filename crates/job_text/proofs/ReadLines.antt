@@ -12,7 +12,7 @@ use Rattle.job_text.specs.LineWords.{words_of}
 use Rattle.job_text.specs.TextParts.{Row, LeavesAt, BothAre, both_rows, rows_from, AllFrom}
 use Rattle.job_text.specs.Readings.{lines_in, Unread, Reads, Refuses, TakesLine, HasNoLine, TakesRow, HasNoRow}
 use Rattle.job_text.specs.ReportRows.{line_of_row}
-use Rattle.job_text.specs.declared.words.TheConstants.{MOST_WORDS}
+use Rattle.job_text.specs.declared.split_words.TheConstants.{MOST_WORDS}
 use Rattle.job_text.proofs.Leaves.{IsOnce, leaves_other, leaves_first, leaves_second, leaves_item, rows_push}
 
 -- ---- the lines of a text

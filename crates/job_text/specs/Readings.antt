@@ -2,7 +2,7 @@
 use Rattle.std.specs.Prelude.{◌≡◌, ℕ, ◌+◌, ◌-◌, ◌<◌, List, [], ◌∷◌, ◌++◌, length, take, map}
 use Rattle.job_text.specs.declared.report_refusal.ReportRefusal.{ReportRefusal}
 use Rattle.job_text.specs.declared.report_refusal.ReportRefusal.TheVariants.{Text, Memory}
-use Rattle.job_text.specs.declared.words.TheConstants.{MOST_WORDS}
+use Rattle.job_text.specs.declared.split_words.TheConstants.{MOST_WORDS}
 use Rattle.job_text.specs.Lines.{parts_of, line_of, text_of}
 use Rattle.job_text.specs.LineWords.{words_of}
 use Rattle.job_text.specs.TextParts.{Row, LeavesAt}

@@ -8,10 +8,10 @@ ghost use Rattle.job_text.specs.Grammar.{IsAsked};
 ghost use Rattle.job_text.specs.JobText.{deed_words, line_words};
 
 use crate::job::{Deed, Line};
-use crate::numbers::number;
+use crate::number_words::number;
 use crate::operations::read_op;
 use crate::spelling::OpWords;
-use crate::words::words;
+use crate::split_words::words;
 use std::fmt;
 
 /// What words ask, whether or not there is a unit for it.

@@ -12,7 +12,7 @@ ghost use Rattle.job_text.specs.ReportRows.{Tells, line_of_row, AllOf, is_short}
 ghost use Rattle.job_text.specs.TextParts.{rows_from};
 ghost use Rattle.job_text.specs.Readings.{Reads, Refuses};
 
-use crate::numbers::{number, numbers};
+use crate::number_words::{number, numbers};
 use crate::op_name::OpName;
 use crate::operations::read_op;
 use crate::report::Run;
@@ -118,9 +118,9 @@ fn entry_of(words: &[&[u8]], callers: u64, place: u64) -> Option<(Entry, PairLis
     }
 }
 
-// The operation, and its reply with the run, with `=` between them. The first word tells how many
-// words the operation has, since a key or a value may be the word `=` too.
-fn answer_of(words: &[&[u8]]) -> Option<(Op, Reply, PairList)>
+/// The operation, and its reply with the run, with `=` between them, that words spell. The first
+/// word tells how many words the operation has, since a key or a value may be the word `=` too.
+pub fn answer_of(words: &[&[u8]]) -> Option<(Op, Reply, PairList)>
     ensures { MatchOption result
         ((o : Op) (r : Reply) (run : Run) → IsOp o → IsReply (is_of_key o) r → IsRunOf r run
         → map (λ word. word.now) words.now ≢ answer_words o r run)

@@ -10,9 +10,9 @@ ghost use Rattle.job_text.specs.ReportText.{report_header_words};
 
 use crate::limits::{MOST_ATTEMPTS, MOST_CALLERS};
 use crate::masks::{mask, write_mask};
-use crate::numbers::number;
+use crate::number_words::number;
 use crate::spelling::Letters;
-use crate::words::words;
+use crate::split_words::words;
 use mont_base::{Kinds, Layout};
 use std::alloc::AllocError;
 

@@ -7,7 +7,7 @@ ghost use Rattle.job_text.specs.Spelling.{op_words, text_word};
 ghost use Rattle.job_text.specs.Operations.{IsOp, IsNumber};
 
 use crate::header::number_within;
-use crate::numbers::{number, numbers};
+use crate::number_words::{number, numbers};
 use crate::op_name::OpName;
 use crate::text_word::text;
 use mont_base::{MOST_PAIRS, Op, Text};

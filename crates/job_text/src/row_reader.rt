@@ -10,7 +10,7 @@ ghost use Rattle.job_text.specs.Spelling.{pair_words};
 ghost use Rattle.job_text.specs.ReportRanges.{IsPair, IsVertex, IsEdge};
 ghost use Rattle.job_text.specs.ReportRows.{Tells, line_of_row, pair_behind, vertex_behind, edge_behind, all_pairs, all_vertices, all_edges, behind_last, MayFollow};
 
-use crate::numbers::{number, numbers};
+use crate::number_words::{number, numbers};
 use crate::ranks::{edges_behind, texts_behind};
 use crate::report_refusal::ReportRefusal;
 use crate::text_word::text;

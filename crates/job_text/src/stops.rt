@@ -6,9 +6,9 @@ ghost use Rattle.job_text.specs.Operations.{IsNumber};
 ghost use Rattle.job_text.specs.JobText.{BeginsStop, stop_words};
 
 use crate::job::Stop;
-use crate::numbers::numbers;
+use crate::number_words::numbers;
 use crate::split::split_once;
-use crate::words::words;
+use crate::split_words::words;
 use std::fmt;
 
 /// Whether the first word of a line is `stop`.

@@ -5,7 +5,7 @@ ghost use Rattle.job_text.specs.Readings.{TakesLine, HasNoLine, TakesRow, HasNoR
 
 use crate::report_refusal::ReportRefusal;
 use crate::split::split_once;
-use crate::words::{MOST_WORDS, words};
+use crate::split_words::{MOST_WORDS, words};
 use arrayvec::ArrayVec;
 use std::marker::Model;
 

@@ -2,7 +2,7 @@
 ghost use Rattle.std.specs.Prelude.{◌≡◌, ◌≢◌, ◌∷◌, ℕ, List, length, map, All, MatchOption, decimal};
 ghost use Rattle.job_text.specs.Operations.{IsNumber};
 
-use crate::numbers::numbers;
+use crate::number_words::numbers;
 
 /// The words behind the first, where that is this one.
 pub fn behind<'a, 'b>(words: &'a [&'b [u8]], name: &[u8]) -> Option<&'a [&'b [u8]]>

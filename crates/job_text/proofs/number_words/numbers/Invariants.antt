@@ -1,6 +1,6 @@
 use Rattle.std.proofs.Common.{◌≡◌, length, map, take, All, decimal}
 use Rattle.job_text.specs.Operations.{IsNumber}
-use Rattle.job_text.proofs.numbers.numbers.Given as goal
+use Rattle.job_text.proofs.number_words.numbers.Given as goal
 
 -- the words so far spell the numbers so far
 abbrev pub invariant-loop-at : goal.invariant-loop-at

@@ -2,7 +2,7 @@ use Rattle.std.proofs.Common.{◌≡◌, ℕ, ◌++◌, ◌∷◌, [], List, map
 use Rattle.std.proofs.lemmas.List.{map-append}
 use Rattle.job_text.specs.LineWords.{words_of}
 use Rattle.job_text.proofs.LineWords.{one_word_more, words_lacking, when_ok}
-use Rattle.job_text.proofs.words.words.Goals as goal
+use Rattle.job_text.proofs.split_words.words.Goals as goal
 
 abbrev bytes : Bor (List ℕ) → List ℕ
 bytes word = word.now

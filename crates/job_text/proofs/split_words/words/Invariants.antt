@@ -1,6 +1,6 @@
 use Rattle.std.proofs.Common.{◌≡◌, ◌++◌, length, map}
 use Rattle.job_text.specs.LineWords.{words_of}
-use Rattle.job_text.proofs.words.words.Given as goal
+use Rattle.job_text.proofs.split_words.words.Given as goal
 
 -- the line has the words so far, and then those of the rest
 abbrev pub invariant-loop-word : goal.invariant-loop-word

@@ -2,7 +2,7 @@ use Rattle.std.proofs.Common.{◌≡◌, subst, sym, true, rules}
 use Rattle.std.specs.Str.{IsUtf8}
 use Rattle.job_text.proofs.Digits.{parsed_plain, decimal_utf8, decimal_plain}
 use Rattle.job_text.specs.Parts.{IsUnpadded}
-use Rattle.job_text.proofs.numbers.number.Goals as goal
+use Rattle.job_text.proofs.number_words.number.Goals as goal
 
 pub returns-then-not-is_unpadded : goal.returns-then-not-is_unpadded
 returns-then-not-is_unpadded c = λ n small is.

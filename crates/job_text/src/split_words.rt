@@ -1,6 +1,6 @@
 // Lines as words.
 ghost use Rattle.std.specs.Prelude.{◌≡◌, ◌<◌, length, map, MatchOption};
-ghost use Rattle.job_text.specs.declared.words.TheConstants.{MOST_WORDS};
+ghost use Rattle.job_text.specs.declared.split_words.TheConstants.{MOST_WORDS};
 ghost use Rattle.job_text.specs.LineWords.{words_of};
 
 use crate::split::split_once;

@@ -3,7 +3,7 @@ use Rattle.std.proofs.Math.ListN.{get_or-map, length-set}
 use Rattle.std.proofs.lemmas.List.{length-map, map-append, take_more, take_more_set, take_all}
 use Rattle.std.proofs.lemmas.List.Elements.{All-push}
 use Rattle.job_text.specs.Operations.{IsNumber}
-use Rattle.job_text.proofs.numbers.numbers.Goals as goal
+use Rattle.job_text.proofs.number_words.numbers.Goals as goal
 
 abbrev bytes : Bor (List ℕ) → List ℕ
 bytes word = word.now
