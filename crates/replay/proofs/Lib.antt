@@ -1,0 +1,12 @@
+pub mod StepSpelling
+pub mod TitleWords
+pub mod Moves
+pub mod MoveWords
+pub mod Fronts
+pub mod ScheduleFronts
+pub mod OneSchedule
+pub mod CoreTold
+pub mod Reaching
+pub mod RecoveredMemories
+pub mod StatesKept
+pub mod UnitStates
