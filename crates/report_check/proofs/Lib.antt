@@ -1,0 +1,12 @@
+pub mod LongerHistories
+pub mod RangeReplies
+pub mod WalkedEntries
+pub mod Lowests
+pub mod ListRows
+pub mod MarkLaws
+pub mod NameLaws
+pub mod OutcomeWalk
+pub mod ContentLaws
+pub mod Judging
+pub mod VerdictLaws
+pub mod AgreementLaws

@@ -1,0 +1,10 @@
+pub mod Lowest
+pub mod ReportShape
+pub mod HeldEntries
+pub mod HeldOutcomes
+pub mod HeldContents
+pub mod ReportVerdict
+pub mod VerdictWords
+pub mod NextEntry
+pub mod ShownNames
+pub mod Marks
