@@ -12,5 +12,6 @@ mod generated_lines;
 mod summary;
 mod totals;
 
+pub use digits::number_spelled;
 pub use generated::big_job;
 pub use summary::big_summary;

@@ -1,15 +1,17 @@
 -- A job that was run on a store that was then stopped, and the report of it.
-use Rattle.std.proofs.Common.{◌≡◌, ◌≢◌, ℕ, ◌<◌, ◌^◌, Bool, false, List, [], ◌++◌, length, map, inl, inr, refl, sym, ap, ◌∙◌, subst}
-use Rattle.std.specs.Prelude.{All, Option, Some, None, IsSome, Ok, Err, IfOk, slice_get}
+use Rattle.std.proofs.Common.{◌≡◌, ◌≢◌, ℕ, ◌<◌, ◌^◌, Bool, false, List, [], ◌++◌, length, map, inl, inr, refl, sym, ap, ◌∙◌, subst, arith}
+use Rattle.std.specs.Prelude.{All, Option, Some, None, IsSome, Ok, Err, IfOk, OnOk, slice_get}
 use Rattle.std.specs.declared.result.Result.{Result}
 use Rattle.std.proofs.lemmas.List.{length-map}
+use Rattle.std.proofs.lemmas.Option.{slice_get_within}
 use Rattle.mont_base.specs.declared.gate.Fuel.{Fuel}
 use Rattle.mont_base.specs.Gates.{is_endless}
 use Rattle.mont_base.specs.Image.{IsPermitted, IsRecovered, IsWellFormed, clock_of}
 use Rattle.mont_base.specs.Layout.{Shape, IsLayout, words_of}
 use Rattle.mont_base.specs.State.{State, unit_of_op}
 use Rattle.plain.specs.States.{states_of}
-use Rattle.core_steps.proofs.RowFacts.{all_at}
+use Rattle.core_steps.specs.Places.{EachAt}
+use Rattle.core_steps.proofs.RowFacts.{all_at, item_at, row_in_map, row_of_map}
 use Rattle.heap_rule.specs.declared.rule.Opening.{Opening}
 use Rattle.heap.specs.GateAsked.{IsAskedOften}
 use Rattle.heap.specs.HeapShown.{HeapShown, CallerShown}
@@ -46,8 +48,8 @@ use Rattle.store_stop.specs.declared.headline.Stopped.{Stopped}
 use Rattle.store_stop.specs.Headline.{IsBaseOf, IsStopped}
 use Rattle.store_stop.proofs.Items.{all_gives}
 use Rattle.job_store.specs.Base.{Base, IsBaseIn}
-use Rattle.job_store.specs.JobGates.{AreGates, gate_of}
-use Rattle.job_store.specs.WholeRun.{HasAttempted, HasEnded, IsPickOf, IsRun, IsRunFrom, IsTicketOf}
+use Rattle.job_store.specs.JobGates.{AreGates, KeepsEnd, gate_of}
+use Rattle.job_store.specs.WholeRun.{HasAttempted, HasEnded, HaveRun, IsEndOf, IsPickOf, IsRun, IsRunFrom, IsTicketOf, TellsEnd}
 use Rattle.job_store.proofs.CarriedOut.{carried_out}
 use Rattle.job_store.proofs.Passes.{each_has_run}
 
@@ -77,7 +79,7 @@ module _ (j : Job) (heap : HeapShown) (before behind : Fuel) (given : before ≡
   Tried g cut = HasTried (λ _ _ answer. HasAdvanced heap answer) j.attempts g behind cut
 
   pub attempted : {F : Type 0} (ran : Result Ran F) → IfOk ran (λ (r : Ran). Asked before r.advancer_cut)
-      → IfOk ran (λ (r : Ran). Tried before r.advancer_cut) → IfOk ran (λ (r : Ran). HasAttempted j heap)
+      → IfOk ran (λ (r : Ran). Tried before r.advancer_cut) → OnOk ran (HasAttempted j heap)
   attempted (Ok r) asked tried = record {
     cut = r.advancer_cut;
     behind = behind;
@@ -87,8 +89,8 @@ module _ (j : Job) (heap : HeapShown) (before behind : Fuel) (given : before ≡
   attempted (Err e) asked tried = tt
 
 -- ---- behind the threads
-module _ {P : Type 0} (j : Job) (heap : HeapShown) (layout : heap.opening.layout ≡ j.layout) (has : P → Type 0) (ticket : P → CallerShown)
-    (gate : P → Fuel) (olds news : List P) (callers : AreAllCallers heap (map ticket olds))
+module _ {P : Type 0} (j : Job) (heap : HeapShown) (has : P → Type 0) (ticket : P → CallerShown) (gate : P → Fuel) (olds news : List P)
+    (callers : AreAllCallers heap (map ticket olds))
     (uncut : (k : ℕ) (p : P) → slice_get olds k ≡ Some p → (ticket p).known.part.cuts ≡ [])
     (gates : AreGates j.stops j.callers (map gate olds)) where
   abbrev Worked : List (Option (List Outcome)) → Type 0
@@ -98,37 +100,60 @@ module _ {P : Type 0} (j : Job) (heap : HeapShown) (layout : heap.opening.layout
   many_olds : length olds ≡ j.callers
   many_olds = sym (length-map olds gate) ∙ gates.many
 
-  has_ended : (outcomes : List (List Outcome)) (t : Stopped) → Worked (map Some outcomes)
-      → IsBaseOf heap.opening t.base_clock (states_of t.base)
-      → IsStopped heap.opening.layout t.base_clock t.base (map ticket news) t → HasAttempted j heap → HasEnded j heap outcomes t
-  has_ended outcomes t worked base stopped attempts = record {
-    layout = layout;
-    opened = base;
-    callers = map ticket news;
+  have_run : (outcomes : List (List Outcome)) → Worked (map Some outcomes) → HaveRun j heap (map ticket news) outcomes
+  have_run outcomes worked = record {
     callers_are = length-map news ticket ∙ worked.passes ∙ many_olds;
     answered = sym (length-map outcomes Some) ∙ worked.callers ∙ many_olds;
     each = each_has_run heap has ticket gate olds callers uncut j news outcomes worked gates;
-    attempts = attempts;
-    stopped = stopped;
   }
 
-  module _ {F : Type 0} (ran : Result Ran F) (worked : IfOk ran (λ (r : Ran). Worked (map Some r.outcomes)))
-      (attempts : IfOk ran (λ (r : Ran). HasAttempted j heap)) where
-    pub ended_of : {X E : Type 0} (outcomes : X → List (List Outcome)) (store : X → Stopped) (stopped : Result Stopped F)
-        → IfOk stopped (λ (t : Stopped). IsBaseOf heap.opening t.base_clock (states_of t.base))
-        → IfOk stopped (λ (t : Stopped). IsStopped heap.opening.layout t.base_clock t.base (map ticket news) t)
-        → (result : Result X E)
-        → IfOk result (λ (x : X). ((cut : Bool) × (ran ≡ Ok (record { outcomes = outcomes x; advancer_cut = cut })))
-        × (stopped ≡ Ok (store x)))
-        → IfOk result (λ (x : X). HasEnded j heap (outcomes x) (store x))
-    ended_of outcomes store stopped base stops (Ok x) is =
-        has_ended (outcomes x) (store x)
-        (subst (λ (r : Result Ran F). IfOk r (λ (y : Ran). Worked (map Some y.outcomes))) is.0.1 worked)
-        (subst (λ (r : Result Stopped F). IfOk r (λ (t : Stopped). IsBaseOf heap.opening t.base_clock (states_of t.base))) is.1 base)
-        (subst (λ (r : Result Stopped F).
-        IfOk r (λ (t : Stopped). IsStopped heap.opening.layout t.base_clock t.base (map ticket news) t)) is.1 stops)
-        (subst (λ (r : Result Ran F). IfOk r (λ (y : Ran). HasAttempted j heap)) is.0.1 attempts)
-    ended_of outcomes store stopped base stops (Err e) is = tt
+  -- a gate is endless still if it was
+  keep_end : (outcomes : List (List Outcome)) → Worked (map Some outcomes) → EachAt (KeepsEnd j.stops) (map gate news)
+  keep_end outcomes worked i g e =
+      let at = row_of_map gate news i g e in
+      let below = slice_get_within news i at.0 at.1 in
+      let long = worked.passes in
+      let old = item_at olds i (omega (arith, below, long)) in
+      let many = worked.callers in
+      let os = item_at (map Some outcomes) i (omega (arith, below, long, many)) in
+      let was = worked.each i old.0 at.0 os.0 old.1 at.1 os.1 in
+      ap is_endless (sym at.2) ∙ was.gate.same ∙ ap is_endless (gates.each i (gate old.0) (row_in_map gate olds i old.0 old.1))
+
+  pub all_ran : {F : Type 0} (ran : Result Ran F) → IfOk ran (λ (r : Ran). Worked (map Some r.outcomes))
+      → IfOk ran (λ (r : Ran). HaveRun j heap (map ticket news) r.outcomes)
+  all_ran (Ok r) worked = have_run r.outcomes worked
+  all_ran (Err e) worked = tt
+
+  pub all_keep_end : {F : Type 0} (ran : Result Ran F) → IfOk ran (λ (r : Ran). Worked (map Some r.outcomes))
+      → OnOk ran (EachAt (KeepsEnd j.stops) (map gate news))
+  all_keep_end (Ok r) worked = keep_end r.outcomes worked
+  all_keep_end (Err e) worked = tt
+
+-- ---- behind the stop
+module _ (j : Job) (heap : HeapShown) (layout : heap.opening.layout ≡ j.layout) (callers : List CallerShown) {F : Type 0}
+    (ran : Result Ran F) (stopped : Result Stopped F) (all : IfOk ran (λ (r : Ran). HaveRun j heap callers r.outcomes))
+    (attempts : OnOk ran (HasAttempted j heap))
+    (base : IfOk stopped (λ (t : Stopped). IsBaseOf heap.opening t.base_clock (states_of t.base)))
+    (stops : IfOk stopped (λ (t : Stopped). IsStopped heap.opening.layout t.base_clock t.base callers t)) where
+  -- what both gave
+  pub is_end : (outcomes : List (List Outcome)) (t : Stopped)
+      → ((cut : Bool) × (ran ≡ Ok (record { outcomes = outcomes; advancer_cut = cut }))) × (stopped ≡ Ok t)
+      → IsEndOf j heap callers outcomes t
+  is_end outcomes t is = record {
+    layout = layout;
+    opened = subst (λ (r : Result Stopped F). IfOk r (λ (t : Stopped). IsBaseOf heap.opening t.base_clock (states_of t.base))) is.1 base;
+    ran = subst (λ (r : Result Ran F). IfOk r (λ (x : Ran). HaveRun j heap callers x.outcomes)) is.0.1 all;
+    attempts = subst (λ (r : Result Ran F). OnOk r (HasAttempted j heap)) is.0.1 attempts;
+    stopped = subst (λ (r : Result Stopped F). IfOk r (λ (t : Stopped). IsStopped heap.opening.layout t.base_clock t.base callers t))
+        is.1 stops;
+  }
+
+  pub has_ended : {X E : Type 0} (outcomes : X → List (List Outcome)) (store : X → Stopped) (result : Result X E)
+      → IfOk result (λ (x : X). ((cut : Bool) × (ran ≡ Ok (record { outcomes = outcomes x; advancer_cut = cut })))
+      × (stopped ≡ Ok (store x)))
+      → IfOk result (λ (x : X). HasEnded j heap (outcomes x) (store x))
+  has_ended outcomes store (Ok x) is = record { callers = callers; end = is_end (outcomes x) (store x) is }
+  has_ended outcomes store (Err e) is = tt
 
 -- ---- the image
 -- with what the store opened
@@ -142,13 +167,13 @@ module _ (j : Job) (heap : HeapShown) (outcomes : List (List Outcome)) (t : Stop
 
   all_durable : IsPermitted t.words.cur t.words.dur t.words.dur
   all_durable = record {
-    as_long = ended.stopped.words.durable ∙ sym ended.stopped.words.current;
+    as_long = ended.end.stopped.words.durable ∙ sym ended.end.stopped.words.current;
     each = λ w low. inr refl;
   }
 
   clock_in : (image : List ℕ) → IsPermitted t.words.cur t.words.dur image → HasClock image
   clock_in image permitted =
-      let is = (ended.stopped.images image permitted).accepted in
+      let is = (ended.end.stopped.images image permitted).accepted in
       record { begun = is.clock_begun; last = is.clock_last }
 
   pub current_clock : HasClock t.words.cur
@@ -158,13 +183,13 @@ module _ (j : Job) (heap : HeapShown) (outcomes : List (List Outcome)) (t : Stop
   durable_clock = clock_in t.words.dur all_durable
 
   pub current_size : length t.words.cur ≡ words_of t.words.layout
-  current_size = ended.stopped.words.current ∙ ap words_of (sym ended.stopped.layout)
+  current_size = ended.end.stopped.words.current ∙ ap words_of (sym ended.end.stopped.layout)
 
   pub durable_size : length t.words.dur ≡ words_of t.words.layout
-  durable_size = ended.stopped.words.durable ∙ ap words_of (sym ended.stopped.layout)
+  durable_size = ended.end.stopped.words.durable ∙ ap words_of (sym ended.end.stopped.layout)
 
   pub same_layout : t.words.layout ≡ j.layout
-  same_layout = ended.stopped.layout ∙ ended.layout
+  same_layout = ended.end.stopped.layout ∙ ended.end.layout
 
   -- ---- the tickets
   has_ticket : (caller : ℕ) (q : CallerShown) (os : List Outcome) → HasRun j heap.opening caller q.known os → IsTicketOf os q.known.part
@@ -175,18 +200,18 @@ module _ (j : Job) (heap : HeapShown) (outcomes : List (List Outcome)) (t : Stop
 
   -- ---- the base
   pub opened_with : IsBaseIn j.layout heap.opening.words (base_of heap.opening t)
-  opened_with = subst (λ (s : Shape). IsBaseIn s heap.opening.words (base_of heap.opening t)) ended.layout
-      (record { clock = ended.opened.clock_is; recovered = ended.opened.recovered; records = refl })
+  opened_with = subst (λ (s : Shape). IsBaseIn s heap.opening.words (base_of heap.opening t)) ended.end.layout
+      (record { clock = ended.end.opened.clock_is; recovered = ended.end.opened.recovered; records = refl })
 
   module _ (image : List ℕ) (pick : IsPickOf j t image) where
     pub accepted : IsWellFormed j.layout image
-    accepted = subst (λ (s : Shape). IsWellFormed s image) ended.layout (ended.stopped.images image pick.permitted).accepted
+    accepted = subst (λ (s : Shape). IsWellFormed s image) ended.end.layout (ended.end.stopped.images image pick.permitted).accepted
 
     -- recovery refuses it for want of memory alone
     pub only_memory : (why : RecoverRefusal) → IsFirstRefusal j.layout image why → why ≡ Memory
     only_memory why first =
-        stopped_stores_are_recovered heap.opening.layout t.base_clock t.base ended.callers t image ended.stopped pick.permitted why
-        (subst (λ (s : Shape). IsFirstRefusal s image why) (sym ended.layout) first)
+        stopped_stores_are_recovered heap.opening.layout t.base_clock t.base ended.callers t image ended.end.stopped pick.permitted why
+        (subst (λ (s : Shape). IsFirstRefusal s image why) (sym ended.end.layout) first)
 
     -- ---- the report
     module _ (contents : List State) (rebuilt : IsRecovered j.layout image contents) (r : Report)
@@ -196,15 +221,15 @@ module _ (j : Job) (heap : HeapShown) (outcomes : List (List Outcome)) (t : Stop
         → IsFaithful j t.base_clock (states_of t.base) (opened_records o) r) where
       was_run : WasRun j heap.opening ended.callers outcomes t image (clock_of image) contents
       was_run = record {
-        layout = ended.layout;
-        opened = ended.opened;
-        callers_are = ended.callers_are;
-        answered = ended.answered;
-        each = ended.each;
-        stopped = ended.stopped;
+        layout = ended.end.layout;
+        opened = ended.end.opened;
+        callers_are = ended.end.ran.callers_are;
+        answered = ended.end.ran.answered;
+        each = ended.end.ran.each;
+        stopped = ended.end.stopped;
         permitted = pick.permitted;
         clock = refl;
-        recovered = subst (λ (s : Shape). IsRecovered s image contents) (sym ended.layout) rebuilt;
+        recovered = subst (λ (s : Shape). IsRecovered s image contents) (sym ended.end.layout) rebuilt;
       }
 
       is_faithful : IsFaithful j t.base_clock (states_of t.base) (opened_records heap.opening) r
@@ -216,16 +241,16 @@ module _ (j : Job) (heap : HeapShown) (outcomes : List (List Outcome)) (t : Stop
         of_store = record {
           heap = heap;
           opened = opened_with;
-          attempts = ended.attempts;
+          attempts = ended.end.attempts;
           base = t.base;
           base_is = refl;
           callers = ended.callers;
-          callers_are = ended.callers_are;
+          callers_are = ended.end.ran.callers_are;
           tickets = λ caller q os e f.
-              has_ticket caller q os (ended.each caller q os e
+              has_ticket caller q os (ended.end.ran.each caller q os e
               (subst (λ (x : List (List Outcome)). slice_get x caller ≡ Some os) (ap (λ (x : Report). x.outcomes) made) f));
           store = t;
-          stopped = subst (λ (s : Shape). IsStopped s t.base_clock t.base ended.callers t) ended.layout ended.stopped;
+          stopped = subst (λ (s : Shape). IsStopped s t.base_clock t.base ended.callers t) ended.end.layout ended.end.stopped;
           histories = ap (λ (x : Report). x.histories) made;
           pick = pick;
           clock = ap (λ (x : Report). x.image_clock) made;
@@ -272,4 +297,16 @@ module _ (j : Job) (heap : HeapShown) (outcomes : List (List Outcome)) (t : Stop
         text = has_text j.layout image layout new (accepted j heap outcomes t ended image.words pick) numbers;
       };
     };
+  }
+
+  pub tells_end : (clock : ℕ) → clock ≡ clock_of image.words → (contents : List State) → IsRecovered j.layout image.words contents
+      → (report : declared.Report) → report_of report ≡ report_made j t report.runs outcomes clock contents
+      → TellsEnd j outcomes t (record { report = report; image = image })
+  tells_end clock is contents rebuilt report made = record {
+    outcomes_are = ap (λ (x : Report). x.outcomes) made;
+    base = ap (λ (x : Report). x.base) made;
+    histories = ap (λ (x : Report). x.histories) made;
+    pick = pick;
+    clock = ap (λ (x : Report). x.image_clock) made ∙ is;
+    rebuilt = subst (IsRecovered j.layout image.words) (sym (ap (λ (x : Report). x.contents) made)) rebuilt;
   }

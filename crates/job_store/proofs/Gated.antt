@@ -24,7 +24,7 @@ by_test true s stops who e rest = inl (0, s, omega arith, refl, eq_true s.who wh
 by_test false s stops who e (inl a) = inl (suc a.0, a.1, omega (arith, a.2), a.3, a.4)
 by_test false s stops who e (inr g) = inr (ap (λ (b : Bool). if b then fuelled s else gate_of stops who) e ∙ g)
 
-stopped_or_endless : (stops : List Stop) (who : ℕ) → IsStopped stops who ⊎ (gate_of stops who ≡ endless)
+pub stopped_or_endless : (stops : List Stop) (who : ℕ) → IsStopped stops who ⊎ (gate_of stops who ≡ endless)
 stopped_or_endless [] who = inr refl
 stopped_or_endless (s ∷ stops) who = by_test (s.who == who) s stops who refl (stopped_or_endless stops who)
 

@@ -5,3 +5,8 @@ pub mod CarriedOut
 pub mod Ended
 pub mod Following
 pub mod Resumed
+pub mod WholeHistories
+pub mod Marked
+pub mod SeenPlaces
+pub mod Lossless
+pub mod CallersSynced

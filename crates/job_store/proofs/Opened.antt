@@ -61,7 +61,8 @@ on_nothing j o w is opened run =
     let base = subst (λ (x : List ℕ). IsBaseIn j.layout x run.base) words run.opened in
     subst (λ (b : Base). IsRunOn j b w) ((fresh_stores_hold_nothing j.layout run.base is.head.layout).0 base) run.run
 
-pub runs_on_nothing : {E : Type 0} (j : Job) (o : Opening) → IsJob j → o ≡ fresh_opening j.layout j.callers
-    → (result : Result WholeRun E) → IfOk result (IsRunFrom j o.words) → IfOk result (IsRunOn j (nothing j.layout))
-runs_on_nothing j o is opened (Ok w) run = on_nothing j o w is opened run
-runs_on_nothing j o is opened (Err e) run = tt
+pub runs_on_nothing : {X E : Type 0} (run : X → WholeRun) (j : Job) (o : Opening) → IsJob j → o ≡ fresh_opening j.layout j.callers
+    → (result : Result X E) → IfOk result (λ (x : X). IsRunFrom j o.words (run x))
+    → IfOk result (λ (x : X). IsRunOn j (nothing j.layout) (run x))
+runs_on_nothing run j o is opened (Ok x) ran = on_nothing j o (run x) is opened ran
+runs_on_nothing run j o is opened (Err e) ran = tt

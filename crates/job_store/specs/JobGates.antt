@@ -1,6 +1,7 @@
 -- Which gates a job gives its callers and its advancer.
 use Rattle.std.specs.Prelude.{◌≡◌, ℕ, ◌==◌, List, [], ◌∷◌, length, Some, None, if◌then◌else◌}
 use Rattle.mont_base.specs.declared.gate.Fuel.{Fuel}
+use Rattle.mont_base.specs.Gates.{is_endless}
 use Rattle.core_steps.specs.Places.{EachAt}
 use Rattle.job_text.specs.declared.job.Stop.{Stop}
 
@@ -18,3 +19,7 @@ IsGateOf stops who gate = gate ≡ gate_of stops who
 pub record AreGates (stops : List Stop) (callers : ℕ) (gates : List Fuel) : Type 0 where
   pub many : length gates ≡ callers
   pub each : EachAt (IsGateOf stops) gates
+
+-- each is endless where the job stops nobody of its number
+abbrev pub KeepsEnd : List Stop → ℕ → Fuel → Type 0
+KeepsEnd stops who gate = is_endless gate ≡ is_endless (gate_of stops who)

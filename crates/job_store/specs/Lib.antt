@@ -2,6 +2,7 @@ pub mod Base
 pub mod JobGates
 pub mod CarriedOut
 pub mod WholeRun
+pub mod SyncedRun
 pub mod ImageNow
 pub mod ResumeRefusal
 pub mod ResumedRun

@@ -39,21 +39,30 @@ pub record HasAttempted (j : Job) (heap : HeapShown) : Type 0 where
       HasTried (λ _ _ answer. HasAdvanced heap answer) j.attempts (gate_of j.stops j.callers) behind
       cut
 
--- Each caller of the job ran its lines on a store of this heap. The store was stopped with what the
--- tickets of the callers then showed.
-pub record HasEnded (j : Job) (heap : HeapShown) (outcomes : List (List Outcome)) (t : Stopped)
-    : Type 0 where
-  pub layout : heap.opening.layout ≡ j.layout
-  pub opened : IsBaseOf heap.opening t.base_clock (states_of t.base)
-  pub callers : List CallerShown
+-- Each caller of the job ran its lines on a store of this heap, and was left with this ticket.
+pub record HaveRun (j : Job) (heap : HeapShown) (callers : List CallerShown)
+    (outcomes : List (List Outcome)) : Type 0 where
   pub callers_are : length callers ≡ j.callers
   pub answered : length outcomes ≡ j.callers
   pub each :
       (caller : ℕ) (left : CallerShown) (of_caller : List Outcome)
       → slice_get callers caller ≡ Some left → slice_get outcomes caller ≡ Some of_caller
       → HasRun j heap.opening caller left.known of_caller
+
+-- So did all, and the store was stopped with what their tickets then showed.
+pub record IsEndOf (j : Job) (heap : HeapShown) (callers : List CallerShown)
+    (outcomes : List (List Outcome)) (t : Stopped) : Type 0 where
+  pub layout : heap.opening.layout ≡ j.layout
+  pub opened : IsBaseOf heap.opening t.base_clock (states_of t.base)
+  pub ran : HaveRun j heap callers outcomes
   pub attempts : HasAttempted j heap
   pub stopped : IsStopped heap.opening.layout t.base_clock t.base callers t
+
+-- whatever their tickets showed
+pub record HasEnded (j : Job) (heap : HeapShown) (outcomes : List (List Outcome)) (t : Stopped)
+    : Type 0 where
+  pub callers : List CallerShown
+  pub end : IsEndOf j heap callers outcomes t
 
 -- an image that a crash permits of the words, as the job's mask picks it
 pub record IsPickOf (j : Job) (t : Stopped) (image : List ℕ) : Type 0 where
@@ -61,6 +70,17 @@ pub record IsPickOf (j : Job) (t : Stopped) (image : List ℕ) : Type 0 where
   pub permitted : IsPermitted t.words.cur t.words.dur image
 
 -- ---- the report and the image
+-- The report tells these outcomes, the histories of this store, and what recovery rebuilds of the
+-- image, which is one that the job's mask picks.
+pub record TellsEnd (j : Job) (outcomes : List (List Outcome)) (t : Stopped) (w : WholeRun)
+    : Type 0 where
+  pub outcomes_are : w.report.outcomes ≡ outcomes
+  pub base : states_of w.report.base ≡ states_of t.base
+  pub histories : w.report.histories ≡ t.histories
+  pub pick : IsPickOf j t w.image.words
+  pub clock : w.report.image_clock ≡ clock_of w.image.words
+  pub rebuilt : IsRecovered j.layout w.image.words (states_of w.report.contents)
+
 -- The ticket of a caller that had these outcomes: they name the entries of its receipts, one each
 -- and in their order, and the units in which it was cut.
 pub record IsTicketOf (outcomes : List Outcome) (q : CallerPart) : Type 0 where

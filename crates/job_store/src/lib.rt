@@ -12,6 +12,8 @@ mod recovered_run;
 mod resume_refusal;
 mod resumed_run;
 mod run_rounds;
+mod synced_run;
+mod syncs;
 mod whole_run;
 
 pub use base::{bases_are_one, fresh_stores_hold_nothing};
@@ -22,4 +24,5 @@ pub use recovered_run::run_recovered;
 pub use resume_refusal::ResumeRefusal;
 pub use resumed_run::run_resumed;
 pub use run_rounds::{runs_go_on, runs_make_rounds};
+pub use synced_run::{SyncedRun, run_synced};
 pub use whole_run::WholeRun;

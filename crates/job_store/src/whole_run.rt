@@ -1,11 +1,13 @@
 // A job is run on a store that was opened, up to its report and the image that a crash leaves.
-ghost use Rattle.std.specs.Prelude.{◌≡◌, Bool, false, All, map, Ok, IfOk};
+ghost use Rattle.std.specs.Prelude.{◌≡◌, Bool, false, All, map, Ok, IfOk, OnOk};
+ghost use Rattle.core_steps.specs.Places.{EachAt};
+ghost use Rattle.heap_pass.specs.Kept.{IsWhole};
 ghost use Rattle.mont_base.specs.Image.{IsRecovered};
 ghost use Rattle.plain.specs.States.{states_of};
 ghost use Rattle.job_text.specs.Grammar.{IsJob};
 ghost use Rattle.store.specs.Store.{AreAllCallers, IsFirstPass};
-ghost use Rattle.job_store.specs.JobGates.{AreGates};
-ghost use Rattle.job_store.specs.WholeRun.{HasEnded, IsPickOf, IsRunFrom};
+ghost use Rattle.job_store.specs.JobGates.{AreGates, KeepsEnd};
+ghost use Rattle.job_store.specs.WholeRun.{HasAttempted, HasEnded, HaveRun, IsPickOf, IsRunFrom, TellsEnd};
 
 use crate::image_contents::contents_in;
 use crate::image_words::show_words;
@@ -37,9 +39,9 @@ pub struct WholeRun {
 
 // A run whose store was stopped.
 #[derive(Drop)]
-struct Ended {
-    outcomes: Sequence<Sequence<Outcome>>,
-    stopped: Stopped,
+pub(crate) struct Ended {
+    pub(crate) outcomes: Sequence<Sequence<Outcome>>,
+    pub(crate) stopped: Stopped,
 }
 
 // Runs a job on a store in which nothing was done yet, with the passes of its callers, and reports.
@@ -76,14 +78,39 @@ fn run_and_stop<R: Threads + Wait + Sync, N: HeapName + Send + Sync, I: Index + 
     requires gates { AreGates job.now.stops job.now.callers (map (λ p. p.gate) passes.items) }
     ensures { IfOk result (λ e. HasEnded job.now N.heap e.outcomes e.stopped) }
 {
-    let mut gate = gate_of(job.stops.as_slice(), job.callers);
-    let ran = run(rt, alloc, &store, job, &mut passes, &mut gate);
+    let ran = run_lines(rt, alloc, &store, &mut passes, job);
     let stopped = store.stop(alloc, passes);
     ended_with(ran, stopped)
 }
 
+// Carries the lines of a job out, beside its attempts to move the clock on.
+pub(crate) fn run_lines<R: Threads + Wait + Sync, N: HeapName + Send + Sync, I: Index + Send>(
+    rt: &R,
+    alloc: Global,
+    store: &Store<N, I>,
+    passes: &mut Vec<Pass<Fuel>>,
+    job: &Job,
+) -> Result<Ran, AllocError>
+    requires job { IsJob job.now }
+    requires layout { N.heap.opening.layout ≡ job.now.layout }
+    requires callers { AreAllCallers N.heap (map (λ p. p.ticket) passes.old.items) }
+    requires first { All (IsFirstPass N.heap) passes.old.items }
+    requires gates { AreGates job.now.stops job.now.callers
+        (map (λ p. p.gate) passes.old.items) }
+    ensures callers { AreAllCallers N.heap (map (λ p. p.ticket) passes.new.items) }
+    ensures whole { All (λ p. IsWhole p.ticket p.receipts.items) passes.new.items }
+    ensures ran { IfOk result (λ ran. HaveRun job.now N.heap
+        (map (λ p. p.ticket) passes.new.items) ran.outcomes) }
+    ensures gates { OnOk result (EachAt (KeepsEnd job.now.stops)
+        (map (λ p. p.gate) passes.new.items)) }
+    ensures attempts { OnOk result (HasAttempted job.now N.heap) }
+{
+    let mut gate = gate_of(job.stops.as_slice(), job.callers);
+    run(rt, alloc, store, job, passes, &mut gate)
+}
+
 // What the run and the stop gave, where neither lacked memory.
-fn ended_with(
+pub(crate) fn ended_with(
     ran: Result<Ran, AllocError>,
     stopped: Result<Stopped, AllocError>,
 ) -> Result<Ended, AllocError>
@@ -98,7 +125,7 @@ fn ended_with(
 }
 
 // The report of a job that was run on the heap that N names, and the image.
-fn report_on<R: Threads + Sync, N: HeapName>(
+pub(crate) fn report_on<R: Threads + Sync, N: HeapName>(
     rt: &R,
     alloc: Global,
     job: &Job,
@@ -106,7 +133,8 @@ fn report_on<R: Threads + Sync, N: HeapName>(
 ) -> Result<WholeRun, AllocError>
     requires job { IsJob job.now }
     requires ended { HasEnded job.now N.heap ended.outcomes ended.stopped }
-    ensures { IfOk result (IsRunFrom job.now N.heap.opening.words) }
+    ensures run { IfOk result (IsRunFrom job.now N.heap.opening.words) }
+    ensures told { IfOk result (TellsEnd job.now ended.outcomes ended.stopped) }
 {
     let Ended { outcomes, stopped } = ended;
     let image = picked::<N>(alloc, job, &outcomes, &stopped)?;

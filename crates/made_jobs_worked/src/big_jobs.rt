@@ -1,6 +1,8 @@
 // The generated job of a number and the summary of its run, as they were worked out from their
 // definition.
 use big_job::{big_job, big_summary};
+use big_store::run_big;
+use index_kit::SortedIndex;
 use job_text::{Deed, Job, write_job};
 use mont_base::{Kinds, Layout};
 use plain::Contents;
@@ -95,5 +97,18 @@ fn the_summary_counts_and_sums(rt: HostRuntime) -> Result<(), Fail> {
     let nothing = Contents::empty(alloc, Layout::new(Kinds::old(4), 2048)?)?;
     let summary = big_summary(alloc, u64::MAX, &nothing, 0, 0, true)?;
     assert!(rt; summary.as_slice() == NOTHING_DONE.as_bytes());
+    Ok(())
+}
+
+// Four callers on threads, and what a crash leaves of their run.
+#[test]
+fn a_run_loses_nothing(rt: HostRuntime) -> Result<(), Fail> {
+    let alloc = rt.alloc();
+    let mut boxes = Vec::new(alloc);
+    for _ in 0..4 {
+        boxes.push(SortedIndex::new(alloc))?;
+    }
+    let summary = run_big(&rt, alloc, 7, boxes)?;
+    assert!(rt; summary.as_slice() == SUMMARY.as_bytes());
     Ok(())
 }

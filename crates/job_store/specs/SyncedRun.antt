@@ -1,0 +1,93 @@
+-- What a run of a job gives where each caller syncs once the lines of all are carried out.
+use Rattle.std.specs.Prelude.{◌≡◌, ℕ, ◌<◌, true, false, List, [], ◌∷◌, length, slice_get, Some, None, All, OnOk, IfErr}
+use Rattle.std.specs.declared.result.Result.{Result}
+use Rattle.mont_base.specs.declared.constants.TheConstants.{LAST}
+use Rattle.mont_base.specs.declared.gate.Fuel.{Fuel}
+use Rattle.mont_base.specs.declared.operation.Entry.{Entry}
+use Rattle.mont_base.specs.Gates.{is_endless}
+use Rattle.mont_base.specs.History.{state_after}
+use Rattle.mont_base.specs.State.{State}
+use Rattle.core_steps.specs.Places.{EachAt}
+use Rattle.heap.specs.HeapShown.{HeapShown, CallerShown}
+use Rattle.caller.specs.declared.sync_refusal.SyncRefusal.{SyncRefusal}
+use Rattle.caller.specs.declared.sync_refusal.SyncRefusal.TheVariants.{Stuck, Cut, ClockEnd}
+use Rattle.caller.specs.Syncing.{KeepsSeen}
+use Rattle.caller.specs.Telling.{has_mark}
+use Rattle.job_text.specs.declared.job.Job.{Job}
+use Rattle.job_text.specs.declared.outcome.Outcome.{Outcome}
+use Rattle.job_text.specs.Causes.{IsStuck}
+use Rattle.job_text.specs.Faithful.{HasStop}
+use Rattle.job_text.specs.Report.{Report}
+use Rattle.store_stop.specs.declared.headline.Stopped.{Stopped}
+use Rattle.job_store.specs.JobGates.{KeepsEnd}
+use Rattle.job_store.specs.WholeRun.{IsEndOf}
+
+-- ---- the callers
+-- The caller knows that all that it has seen is durable.
+abbrev pub IsSynced : CallerShown → Type 0
+IsSynced q = q.known.part.synced ≡ q.known.part.fronts
+
+-- Each caller has seen what it had seen before, and no more.
+pub record KeepSeen (olds news : List CallerShown) : Type 0 where
+  pub many : length news ≡ length olds
+  pub each :
+      (caller : ℕ) (old new : CallerShown) → slice_get olds caller ≡ Some old
+      → slice_get news caller ≡ Some new → KeepsSeen old new
+
+-- why a sync of a caller with this gate was refused, as the caller knows
+abbrev pub KnowsWhy : CallerShown → Fuel → SyncRefusal → Type 0
+KnowsWhy q gate (Stuck unit epoch) =
+    (has_mark q.known.part.marks (record { unit = unit; by = None }) ≡ true)
+    × (epoch < q.known.part.durable)
+KnowsWhy q gate Cut = is_endless gate ≡ false
+KnowsWhy q gate ClockEnd = q.known.part.durable ≡ LAST
+
+-- so one of these callers knows
+pub record OneKnowsWhy (callers : List CallerShown) (gates : List Fuel) (why : SyncRefusal)
+    : Type 0 where
+  pub caller : ℕ
+  pub q : CallerShown
+  pub gate : Fuel
+  pub there : slice_get callers caller ≡ Some q
+  pub asked : slice_get gates caller ≡ Some gate
+  pub knows : KnowsWhy q gate why
+
+-- ---- the end of a run
+-- All callers synced, or a sync was refused, by a gate of the job.
+pub record AreSynced (j : Job) (callers : List CallerShown)
+    (synced : Result (Unit {0}) SyncRefusal) : Type 0 where
+  pub all : OnOk synced (All IsSynced callers)
+  pub gates : List Fuel
+  pub kept : EachAt (KeepsEnd j.stops) gates
+  pub refused : IfErr synced (OneKnowsWhy callers gates)
+
+-- a run whose store was stopped behind the syncs
+pub record HasEndedSynced (j : Job) (heap : HeapShown) (outcomes : List (List Outcome))
+    (t : Stopped) (synced : Result (Unit {0}) SyncRefusal) : Type 0 where
+  pub callers : List CallerShown
+  pub end : IsEndOf j heap callers outcomes t
+  pub are_synced : AreSynced j callers synced
+
+-- ---- the report
+-- the states that whole histories lead to, unit by unit
+abbrev pub states_behind : List State → List (List Entry) → List State
+states_behind [] histories = []
+states_behind (state ∷ base) [] = []
+states_behind (state ∷ base) (h ∷ histories) =
+    state_after state h ∷ states_behind base histories
+
+-- a crash loses nothing of the run
+abbrev pub LosesNothing : Report → Type 0
+LosesNothing r = r.contents ≡ states_behind r.base r.histories
+
+-- why a sync was refused: as a sync of a line is
+abbrev pub RefusesSync : Job → Report → SyncRefusal → Type 0
+RefusesSync j r (Stuck unit epoch) = IsStuck r unit epoch
+RefusesSync j r Cut = (caller : ℕ) × HasStop j caller
+RefusesSync j r ClockEnd = r.image_clock ≡ LAST
+
+-- All callers synced, and nothing is lost; or a sync was refused.
+pub record EndsSynced (j : Job) (r : Report) (synced : Result (Unit {0}) SyncRefusal)
+    : Type 0 where
+  pub whole : OnOk synced (LosesNothing r)
+  pub refused : IfErr synced (RefusesSync j r)
