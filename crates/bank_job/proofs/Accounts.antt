@@ -16,7 +16,7 @@ unit_of_digit (suc (suc (suc (suc (suc (suc zero)))))) low = refl
 unit_of_digit (suc (suc (suc (suc (suc (suc (suc zero))))))) low = refl
 unit_of_digit (suc (suc (suc (suc (suc (suc (suc (suc n)))))))) low = absurd (omega arith)
 
-unit_of_account : (number : ℕ) → number < 8 → unit_of_key bank_layout (account number) ≡ Some (number % 4)
+pub unit_of_account : (number : ℕ) → number < 8 → unit_of_key bank_layout (account number) ≡ Some (number % 4)
 unit_of_account number low = ap (unit_of_key bank_layout) (decimal_digit number (omega arith)) ∙ unit_of_digit number low
 
 pub units_differ : (from near : ℕ) → from < 8 → near < 3

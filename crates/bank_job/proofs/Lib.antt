@@ -1,2 +1,2 @@
-mod Accounts
+pub mod Accounts
 mod Made

@@ -1,5 +1,5 @@
 mod Balance
-mod Named
+pub mod Named
 mod Rebuilt
-mod Settled
+pub mod Settled
 mod Standing

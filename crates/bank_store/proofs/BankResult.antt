@@ -1,0 +1,136 @@
+-- What a run of the bank comes to, from its stopped store.
+use Rattle.std.proofs.Common.{◌≡◌, ℕ, zero, suc, List, [], ◌∷◌, length, sym, refl, ap, ◌∙◌, subst, arith}
+use Rattle.std.specs.Prelude.{slice_get, Some, Ok, Err, IfOk}
+use Rattle.std.specs.declared.alloc.AllocError.{AllocError}
+use Rattle.std.specs.declared.result.Result.{Result}
+use Rattle.std.proofs.lemmas.Option.{same_Some}
+use Rattle.mont_base.specs.declared.constants.TheConstants.{FIRST_CLOCK}
+use Rattle.mont_base.specs.declared.operation.Receipt.{Receipt}
+use Rattle.mont_base.specs.Image.{IsPermitted, IsRecovered, IsWellFormed, clock_of, cut_of, empty_states, records_of}
+use Rattle.mont_base.specs.Layout.{Shape}
+use Rattle.mont_base.specs.State.{State}
+use Rattle.mont_base.specs.Versions.{live_objects}
+use Rattle.plain.specs.declared.contents.Contents.{Contents}
+use Rattle.plain.specs.States.{states_of}
+use Rattle.plain.proofs.Single.{same_structure}
+use Rattle.core_steps.specs.Fresh.{fresh_words}
+use Rattle.heap_rule.specs.declared.rule.Opening.{Opening}
+use Rattle.heap.specs.FreshOpening.{fresh_opening}
+use Rattle.heap.specs.HeapShown.{HeapShown, CallerShown}
+use Rattle.store_stop.specs.declared.headline.Stopped.{Stopped}
+use Rattle.store_stop.specs.Headline.{IsBaseOf, IsStopped, cut_states}
+use Rattle.store_stop.proofs.Items.{same_items}
+use Rattle.bank_job.specs.Bank.{bank_layout}
+use Rattle.bank_job.specs.Shifts.{first_shifts}
+use Rattle.bank_store.specs.BankCallers.{HaveShifted}
+use Rattle.bank_store.specs.BankEnd.{AcceptsImages, HasEnded}
+use Rattle.bank_store.specs.BankRun.{IsBankRun, ShiftEnds, begun_with}
+use Rattle.bank_store.specs.Ends.{End, HoldsOfEach}
+use Rattle.bank_store.specs.OpenedAccounts.{puts_given}
+use Rattle.bank_store.proofs.BankBase.{bank_recovers}
+use Rattle.bank_store.proofs.BankOpening.{opens}
+use Rattle.bank_store.proofs.BankShifts.{caller_ends}
+use Rattle.bank_store.proofs.BankTotal.{total_kept}
+use Rattle.bank_store.proofs.BankUnits.{legal_bank}
+use Rattle.bank_store.proofs.StoppedBank.{ends, names}
+
+-- recovery gives one base
+one_base : (s : Shape) (words : List ℕ) (a b : List State) → IsRecovered s words a → IsRecovered s words b → a ≡ b
+one_base s words a b x y =
+    same_items a b (x.0 ∙ sym y.0)
+    (λ unit v w e f. same_structure s unit (live_objects (records_of s words unit)) v w (x.1 unit v e) (y.1 unit w f))
+
+pub base_is_empty : (heap : HeapShown) (t : Stopped) → heap.opening ≡ fresh_opening bank_layout 4
+    → IsBaseOf heap.opening t.base_clock (states_of t.base) → states_of t.base ≡ empty_states bank_layout
+base_is_empty heap t o base =
+    let there : IsRecovered bank_layout (fresh_words bank_layout) (states_of t.base) =
+    subst (λ (x : Opening). IsRecovered x.layout x.words (states_of t.base)) o base.recovered in
+    one_base bank_layout (fresh_words bank_layout) (states_of t.base) (empty_states bank_layout) there bank_recovers
+
+pub base_is_first : (heap : HeapShown) (t : Stopped) → heap.opening ≡ fresh_opening bank_layout 4
+    → IsBaseOf heap.opening t.base_clock (states_of t.base) → t.base_clock ≡ FIRST_CLOCK
+base_is_first heap t o base = base.clock_is ∙ ap (λ (x : Opening). clock_of x.words) o
+
+module _
+    (heap : HeapShown) (number : ℕ) (base : Contents) (t : Stopped) (o : heap.opening ≡ fresh_opening bank_layout 4)
+    (empty : states_of base ≡ empty_states bank_layout)
+    (image : List ℕ) (permitted : IsPermitted t.words.cur t.words.dur image) (states : List State)
+    (recovered : IsRecovered bank_layout image states) where
+  run_of_four : (a b c d : CallerShown) → HaveShifted heap number (a ∷ b ∷ c ∷ d ∷ [])
+      → IsStopped bank_layout FIRST_CLOCK base (a ∷ b ∷ c ∷ d ∷ []) t → IsBankRun number t.histories (clock_of image) states
+  run_of_four a b c d sh st =
+      let holds = st.images image permitted in
+      record {
+        legal = legal_bank heap number base t a b c d sh st empty;
+        opening = puts_given sh.ends;
+        opened = opens heap number base t a b c d sh st empty o;
+        ends = ends heap number base t a b c d sh st;
+        callers = refl;
+        each = each;
+        named = names heap number base t a b c d sh st;
+        begun = holds.accepted.clock_begun;
+        last = holds.accepted.clock_last;
+        rebuilt =
+            (holds.rebuilt states).0 recovered
+            ∙ ap (λ (s : List State). cut_states (cut_of image) s t.histories) empty;
+        total = total_kept heap number base t a b c d sh st empty o image states permitted recovered;
+      }
+    where
+      opening : List Receipt
+      opening = puts_given sh.ends
+
+      each : (caller : ℕ) (of_caller : List End) → slice_get (ends heap number base t a b c d sh st) caller ≡ Some of_caller
+          → HoldsOfEach (ShiftEnds t.histories) (begun_with (puts_given sh.ends) caller) (first_shifts number caller 500) of_caller
+      each zero of_caller at =
+          subst (HoldsOfEach (ShiftEnds t.histories) (begun_with (puts_given sh.ends) 0) (first_shifts number 0 500))
+          (same_Some (sh.each 0 a refl).made.ends of_caller at)
+          (caller_ends heap number base t a b c d sh st empty o 0 a refl (sh.each 0 a refl))
+      each (suc zero) of_caller at =
+          subst (HoldsOfEach (ShiftEnds t.histories) (begun_with (puts_given sh.ends) 1) (first_shifts number 1 500))
+          (same_Some (sh.each 1 b refl).made.ends of_caller at)
+          (caller_ends heap number base t a b c d sh st empty o 1 b refl (sh.each 1 b refl))
+      each (suc (suc zero)) of_caller at =
+          subst (HoldsOfEach (ShiftEnds t.histories) (begun_with (puts_given sh.ends) 2) (first_shifts number 2 500))
+          (same_Some (sh.each 2 c refl).made.ends of_caller at)
+          (caller_ends heap number base t a b c d sh st empty o 2 c refl (sh.each 2 c refl))
+      each (suc (suc (suc zero))) of_caller at =
+          subst (HoldsOfEach (ShiftEnds t.histories) (begun_with (puts_given sh.ends) 3) (first_shifts number 3 500))
+          (same_Some (sh.each 3 d refl).made.ends of_caller at)
+          (caller_ends heap number base t a b c d sh st empty o 3 d refl (sh.each 3 d refl))
+      each (suc (suc (suc (suc caller)))) of_caller at = absurd (cc at)
+
+  pub run_of : (callers : List CallerShown) → length callers ≡ 4 → HaveShifted heap number callers
+      → IsStopped bank_layout FIRST_CLOCK base callers t → IsBankRun number t.histories (clock_of image) states
+  run_of (a ∷ b ∷ c ∷ d ∷ []) four sh st = run_of_four a b c d sh st
+  run_of [] four sh st = absurd (omega (arith, four))
+  run_of (a ∷ []) four sh st = absurd (omega (arith, four))
+  run_of (a ∷ b ∷ []) four sh st = absurd (omega (arith, four))
+  run_of (a ∷ b ∷ c ∷ []) four sh st = absurd (omega (arith, four))
+  run_of (a ∷ b ∷ c ∷ d ∷ x ∷ xs) four sh st = absurd (omega (arith, four))
+
+-- ---- a store that has ended
+pub layout_is : (heap : HeapShown) (number : ℕ) (t : Stopped) → HasEnded heap number t → heap.opening ≡ fresh_opening bank_layout 4
+    → t.words.layout ≡ bank_layout
+layout_is heap number t e o = e.stopped.layout ∙ ap (λ (x : Opening). x.layout) o
+
+pub accepts : (heap : HeapShown) (number : ℕ) (t : Stopped) → HasEnded heap number t → AcceptsImages t
+accepts heap number t e image permitted =
+    subst (λ (s : Shape). IsWellFormed s image) (sym e.stopped.layout) (e.stopped.images image permitted).accepted
+
+pub bank_run : (heap : HeapShown) (number : ℕ) (t : Stopped) → HasEnded heap number t → heap.opening ≡ fresh_opening bank_layout 4
+    → (image : List ℕ) → IsPermitted t.words.cur t.words.dur image → (states : List State) → IsRecovered bank_layout image states
+    → IsBankRun number t.histories (clock_of image) states
+bank_run heap number t e o image permitted states recovered =
+    let stopped : IsStopped bank_layout FIRST_CLOCK t.base e.callers t =
+    subst (λ (x : Shape × ℕ). IsStopped x.0 x.1 t.base e.callers t)
+    (λ i. (ap (λ (y : Opening). y.layout) o i, base_is_first heap t o e.base i)) e.stopped in
+    run_of heap number t.base t o (base_is_empty heap t o e.base) image permitted states recovered e.callers e.shifted.four e.shifted
+    stopped
+
+-- ---- the stop
+pub all_ended : (heap : HeapShown) (number : ℕ) (callers : List CallerShown) → HaveShifted heap number callers
+    → (r : Result Stopped AllocError) → IfOk r (λ (t : Stopped). IsBaseOf heap.opening t.base_clock (states_of t.base))
+    → IfOk r (λ (t : Stopped). IsStopped heap.opening.layout t.base_clock t.base callers t) → IfOk r (HasEnded heap number)
+all_ended heap number callers shifted (Ok t) base stopped =
+    record { base = base; callers = callers; shifted = shifted; stopped = stopped }
+all_ended heap number callers shifted (Err x) base stopped = tt

@@ -1,0 +1,7 @@
+pub mod Ends
+pub mod BankRun
+pub mod MadeShifts
+pub mod OpenedAccounts
+pub mod BankCallers
+pub mod Tellers
+pub mod BankEnd
