@@ -30,7 +30,7 @@ fn end_process<R: AllocGlobal + Files + Threads + Wait + Sync, J: Source, O: Sin
 ) -> ExitCode
     ensures { Ends O.taken O.faults
         (λ written status. MatchResult words
-        (λ w. CameOf J.left J.faults O.taken O.faults (map string_bytes w.items)
+        (λ w. CameOf J.Source O.Sink (map string_bytes w.items)
         job.old job.new out.old written status)
         (λ s. (status ≡ s) × (job.new ≡ job.old) × (written ≡ out.old)))
         out.new (exit_status result) }
@@ -48,7 +48,7 @@ fn status_of<R: AllocGlobal + Files + Threads + Wait + Sync, J: Source, O: Sink>
     out: &mut O,
 ) -> Status
     ensures { MatchResult words
-        (λ w. CameOf J.left J.faults O.taken O.faults (map string_bytes w.items)
+        (λ w. CameOf J.Source O.Sink (map string_bytes w.items)
         job.old job.new out.old out.new result)
         (λ s. (result ≡ s) × (job.new ≡ job.old) × (out.new ≡ out.old)) }
 {

@@ -1,2 +1,12 @@
-pub mod SentReports
+pub mod Readings
+pub mod Told
+pub mod OneFault
+pub mod OneRefusedLine
+pub mod Exactly
+pub mod Served
+pub mod ServedForms
+pub mod ToldContents
+pub mod Settling
+pub mod FormWords
+pub mod SaidLines
 pub mod Words

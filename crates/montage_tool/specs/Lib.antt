@@ -1,6 +1,10 @@
 pub mod Status
+pub mod StatusCauses
 pub mod Forms
-pub mod Montage
+pub mod Devices
+pub mod Inputs
+pub mod Judged
+pub mod Service
 pub mod Program
 pub mod CommandLine
 pub mod Process

@@ -1,6 +1,6 @@
 // The devices of the process. What a standard stream or a file gives and takes is known to no
 // contract.
-ghost use Rattle.std.specs.Prelude.{◌≡◌, ◌<◌, ◌≤◌, ℕ, None, Err, IfOk, length, option_and_then};
+ghost use Rattle.std.specs.Prelude.{◌≡◌, ◌<◌, ◌≤◌, ℕ, Err, IfOk, length, option_and_then};
 ghost use Rattle.std.specs.Io.KnownBytes.{ReadConsumes, WriteAppends};
 ghost use Rattle.mont_base.specs.Faults.{HasCause, CountsFaults};
 
@@ -133,71 +133,8 @@ impl<F: Read + Drop> Source for FileSource<F> {
     }
 }
 
-/// A file as a sink. It is made, or emptied, at the first write. Where it can't be, each call
-/// fails.
-#[derive(Drop)]
-pub struct FileSink<'a, R: Files> {
-    rt: &'a R,
-    pub path: &'a str,
-    target: Target<R::File>,
-    /// How often it failed.
-    pub faults: u64,
-}
-
-// The file of a sink.
-#[derive(Drop)]
-enum Target<F: Drop> {
-    // Nothing was written yet.
-    Unmade,
-    Made { file: F },
-    // It can't be made.
-    Lost,
-}
-
-impl<'a, R: Files> FileSink<'a, R> {
-    /// A sink of the file of this name, which isn't touched yet.
-    pub fn new(rt: &'a R, path: &'a str) -> Self
-        ensures path { result.path ≡ path.entry }
-        ensures fresh { result.faults ≡ 0 }
-    {
-        FileSink {
-            rt,
-            path,
-            target: Target::Unmade,
-            faults: 0,
-        }
-    }
-}
-
-impl<R: Files> Sink for FileSink<'_, R> {
-    ghost taken = { λ _. None };
-
-    ghost faults = { λ s. s.faults };
-
-    fn write(&mut self, piece: &[u8]) -> Result<usize, Failed>
-        ensures bound { IfOk result (λ n. (0 < n) × (n ≤ length piece.now)) }
-        ensures bytes { WriteAppends None None result piece.now }
-        ensures cause { HasCause self.old.faults self.new.faults result }
-        ensures counted { CountsFaults self.old.faults self.new.faults result }
-    {
-        if let Target::Unmade = self.target {
-            self.target = match fs::create(self.rt, self.path) {
-                Ok(file) => Target::Made { file },
-                Err(_) => Target::Lost,
-            };
-        }
-        let Target::Made { file } = &mut self.target else {
-            return Err(failure(&mut self.faults));
-        };
-        match file.write(piece) {
-            Ok(0) | Err(_) => Err(failure(&mut self.faults)),
-            Ok(count) => Ok(count),
-        }
-    }
-}
-
 // A failure, which is counted.
-fn failure(faults: &mut u64) -> Failed
+pub(crate) fn failure(faults: &mut u64) -> Failed
     ensures cause { HasCause {T = ℕ} faults.old faults.new (Err result) }
     ensures counted { CountsFaults {T = ℕ} faults.old faults.new (Err result) }
 {

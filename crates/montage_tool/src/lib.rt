@@ -5,16 +5,26 @@
 mod about;
 mod adapters;
 mod command_line;
+mod contents;
+mod file_sink;
 mod forms;
+mod job_runs;
+mod kind_letters;
 mod program;
+mod reading;
+mod replayed_text;
+mod sending;
 mod serving;
 mod status;
+mod status_causes;
 mod top_call;
+mod verdict_line;
 
 pub use about::{HELP, VERSION};
-pub use adapters::{FileSink, FileSource, StdSink, StdSource};
+pub use adapters::{FileSource, StdSink, StdSource};
 pub use command_line::words_of;
-pub use forms::{FileWords, files_of};
+pub use file_sink::FileSink;
+pub use forms::{FileWords, Form, files_of, forms_are_one};
 pub use program::{answer, exit_of, say};
 pub use serving::serve;
 pub use status::{SinkName, SourceName, Status, exit_code, status_text};

@@ -1,14 +1,16 @@
 // What the program does with the devices of its process, whichever they are.
-ghost use Rattle.std.specs.Prelude.{◌≡◌, Ok, IfOk, OnOk, OnErr, map, string_bytes};
+ghost use Rattle.std.specs.Prelude.{◌≡◌, ◌⊎◌, Ok, IfOk, OnOk, OnErr, map, string_bytes};
 ghost use Rattle.std.specs.FinMap as finite;
 ghost use Rattle.std.specs.Process.{exit_status};
-ghost use Rattle.montage_tool.specs.Montage.{IsSent};
+ghost use Rattle.montage_tool.specs.Devices.{HasOutput, ReachesImage, StopsAtJob, sink_seen, source_seen};
+ghost use Rattle.montage_tool.specs.Forms.{AskFor, AsksImage, AsksJob, KeepsImage};
 ghost use Rattle.montage_tool.specs.Program.{Answers, IsSaid};
 ghost use Rattle.montage_tool.specs.Status.{exit_code_of, status_line};
 
 use crate::about::question_of;
+use crate::sending::send;
 use crate::status::{Status, exit_code, status_text};
-use crate::top_call::{montage, send};
+use crate::top_call::montage;
 use index_kit::Index;
 use mont_base::{Sink, Source, deliver};
 use std::alloc::{AllocError, Global};
@@ -26,23 +28,33 @@ pub fn answer<R: AllocGlobal + Threads + Wait + Sync, J: Source, I: Source, O: S
     out: &mut O,
     image_out: &mut K,
 ) -> Status
-    ensures answered { Answers J.left J.faults O.taken O.faults
-        (map (λ b. finite.len (places b)) indexes.items) (map string_bytes words.now)
-        job.old job.new out.old out.new result }
-    ensures image { image.new ≡ image.old }
-    ensures image_out { image_out.new ≡ image_out.old }
+    ensures answered { Answers (map (λ b. finite.len (places b)) indexes.items)
+        (map string_bytes words.now)
+        (record {
+          job = source_seen J.Source job.old;
+          image = source_seen I.Source image.old;
+          out = sink_seen O.Sink out.old;
+          image_out = sink_seen K.Sink image_out.old;
+        })
+        (record {
+          job = source_seen J.Source job.new;
+          image = source_seen I.Source image.new;
+          out = sink_seen O.Sink out.new;
+          image_out = sink_seen K.Sink image_out.new;
+        }) result }
+
+    // What isn't used stays as it was.
+    ensures job { ¬ AskFor AsksJob (map string_bytes words.now) → job.new ≡ job.old }
+    ensures image { (¬ AskFor AsksImage (map string_bytes words.now)) ⊎ StopsAtJob result
+        → image.new ≡ image.old }
+    ensures out { ¬ HasOutput result → out.new ≡ out.old }
+    ensures image_out { ¬ (AskFor KeepsImage (map string_bytes words.now) × ReachesImage result)
+        → image_out.new ≡ image_out.old }
 {
     match question_of(words) {
-        Some(question) => send_text(out, question.text()),
+        Some(question) => send(out, question.text().as_bytes()),
         None => montage(rt, words, job, image, indexes, out, image_out),
     }
-}
-
-// Sends a text.
-fn send_text<O: Sink>(out: &mut O, text: &str) -> Status
-    ensures { IsSent O.taken O.faults out.old out.new text.now result }
-{
-    send(out, text.as_bytes())
 }
 
 /// The exit status of the process.

@@ -1,12 +1,13 @@
 // What the words of a process are answered, with the files that they name and boxes of its own.
-ghost use Rattle.std.specs.Prelude.{◌≡◌, ℕ, List, length, map, string_bytes, IfOk, OnErr};
-ghost use Rattle.montage_tool.specs.Program.{Answers};
+ghost use Rattle.std.specs.Prelude.{◌≡◌, map, string_bytes, IfOk, OnErr};
+ghost use Rattle.montage_tool.specs.Process.{AreAnswered, IsSettled};
 
-use crate::adapters::{FileSink, FileSource};
+use crate::adapters::FileSource;
 use crate::command_line::file_word;
+use crate::file_sink::FileSink;
 use crate::forms::files_of;
 use crate::program::answer;
-use crate::status::Status;
+use crate::status::{SinkName, Status};
 use index_kit::{Index, ProbeIndex, SortedIndex};
 use mont_base::{Sink, Source};
 use std::alloc::AllocError;
@@ -14,25 +15,24 @@ use std::rt::Files;
 use std::sync::Wait;
 use std::thread::Threads;
 
-// How many boxes there are of each kind.
-const PAIRS: usize = 8;
+/// How many boxes there are, of two kinds in turn.
+pub const BOXES: usize = 16;
 
 /// Answers the words with these devices, with the files that the words name, and with empty boxes
-/// of two kinds in turn.
+/// of two kinds in turn. An image is in its place once it is whole, and isn't made otherwise.
 pub fn serve<R: AllocGlobal + Files + Threads + Wait + Sync, J: Source, O: Sink>(
     rt: &R,
     words: &[String],
     job: &mut J,
     out: &mut O,
 ) -> Result<Status, AllocError>
-    ensures answered { IfOk result (λ status. (boxes : List ℕ) × (length boxes ≡ 16)
-        × Answers J.left J.faults O.taken O.faults boxes (map string_bytes words.now)
-        job.old job.new out.old out.new status) }
+    ensures answered { IfOk result (AreAnswered J.Source O.Sink (map string_bytes words.now)
+        job.old job.new out.old out.new) }
     ensures memory { OnErr result ((job.new ≡ job.old) × (out.new ≡ out.old)) }
 {
     let alloc = rt.alloc();
     let mut indexes: Vec<Box<dyn Index + Send>> = Vec::new(alloc);
-    for _pair in 0..PAIRS {
+    for _pair in 0..BOXES / 2 {
         indexes.push(Box::new(alloc, SortedIndex::new(alloc))?)?;
         indexes.push(Box::new(alloc, ProbeIndex::new(alloc))?)?;
     }
@@ -41,6 +41,28 @@ pub fn serve<R: AllocGlobal + Files + Threads + Wait + Sync, J: Source, O: Sink>
         Some(path) => FileSource::open(rt, path),
         None => FileSource::closed(),
     };
-    let mut image_out = FileSink::new(rt, file_word(words, files.image_out).unwrap_or(""));
-    Ok(answer(rt, words, job, &mut image, indexes, out, &mut image_out))
+    let path = file_word(words, files.image_out).unwrap_or("");
+    let mut image_out = FileSink::new(rt, alloc, path)?;
+    let status = answer(rt, words, job, &mut image, indexes, out, &mut image_out);
+    if files.image_out.is_some() {
+        Ok(settled(&mut image_out, status))
+    } else {
+        Ok(status)
+    }
+}
+
+// Puts an image that was written whole to its place. What is left of another is removed.
+fn settled<R: Files>(image_out: &mut FileSink<'_, R>, status: Status) -> Status
+    ensures { IsSettled status image_out.old.faults image_out.new.faults result }
+{
+    if status != Status::Done {
+        image_out.abandon();
+        return status;
+    }
+    match image_out.finish() {
+        Ok(()) => Status::Done,
+        Err(_) => Status::WriteFault {
+            which: SinkName::Image,
+        },
+    }
 }

@@ -2,8 +2,10 @@
 ghost use Rattle.std.specs.Prelude.{◌≡◌, IfOk, Some, string_bytes};
 ghost use Rattle.montage_tool.specs.Status.{exit_code_of, status_bytes, fault_word, source_word, sink_word};
 
+use crate::kind_letters::KindLetters;
+use image_units::ImageFault;
 use job_text::JobFault;
-use mont_base::Unit;
+use mont_base::{Kinds, Unit};
 use std::alloc::{AllocError, Global};
 use std::fmt;
 
@@ -16,6 +18,8 @@ pub enum Status {
     BadWords,
     /// A line of the job is refused. The first line is line 1.
     BadJob { line: u64, fault: JobFault },
+    /// The image has a fault, in its bytes or in what they hold.
+    BadImage { fault: ImageFault },
     /// A source failed.
     ReadFault { which: SourceName },
     /// A sink failed.
@@ -24,6 +28,14 @@ pub enum Status {
     Memory,
     /// The lowest map unit that has no box, or one that holds so many keys.
     BadIndex { unit: Unit, len: Option<u64> },
+    /// The image is of this layout, and the job of another.
+    OtherLayout { kinds: Kinds, slots: u64 },
+    /// A line of the report is refused, or as line 0 the report has too many bytes.
+    BadReport { line: u64 },
+    /// The event on a line of the schedule isn't allowed.
+    NotAllowed { line: u64 },
+    /// A line of the schedule is refused.
+    BadSchedule { line: u64 },
 }
 
 /// What the tool reads.
@@ -48,10 +60,15 @@ pub fn exit_code(status: &Status) -> u8
         Status::Done => 0,
         Status::BadWords => 2,
         Status::BadJob { .. } => 3,
+        Status::BadImage { .. } => 4,
         Status::ReadFault { .. } => 5,
         Status::WriteFault { .. } => 6,
         Status::Memory => 7,
         Status::BadIndex { .. } => 8,
+        Status::OtherLayout { .. } => 9,
+        Status::BadReport { .. } => 10,
+        Status::NotAllowed { .. } => 11,
+        Status::BadSchedule { .. } => 12,
     }
 }
 
@@ -73,10 +90,18 @@ impl fmt::Display for Status {
                 let word = word_of_fault(*fault);
                 write!(f, "montage: job line {line}: {word}")
             }
+            Status::BadImage { fault } => write!(f, "montage: image: {fault}"),
             Status::ReadFault { which } => write!(f, "montage: read fault: {which}"),
             Status::WriteFault { which } => write!(f, "montage: write fault: {which}"),
             Status::Memory => write!(f, "montage: out of memory"),
             Status::BadIndex { unit, .. } => write!(f, "montage: index {unit}"),
+            Status::OtherLayout { kinds, slots } => {
+                let letters = KindLetters(kinds.as_slice());
+                write!(f, "montage: image layout {letters} {slots}")
+            }
+            Status::BadReport { line } => write!(f, "montage: report line {line}"),
+            Status::NotAllowed { line } => write!(f, "montage: not allowed at line {line}"),
+            Status::BadSchedule { line } => write!(f, "montage: schedule line {line}"),
         }
     }
 }

@@ -21,29 +21,49 @@ fn all_of<S: Source>(alloc: Global, source: &mut S) -> Result<Vec<u8>, Fail> {
     Ok(all)
 }
 
+// Whether a file has just these bytes.
+fn holds(rt: &HostRuntime, path: &str, bytes: &[u8]) -> Result<bool, Fail> {
+    let mut source = FileSource::open(rt, path);
+    let all = all_of(rt.alloc(), &mut source)?;
+    Ok(source.faults == 0 && all.as_slice() == bytes)
+}
+
 #[test]
-fn a_file_is_written_and_read_back(rt: HostRuntime) -> Result<(), Fail> {
+fn a_file_is_in_its_place_once_it_is_whole(rt: HostRuntime) -> Result<(), Fail> {
     let _ = fs::remove_file(&rt, WRITTEN);
-    let mut sink = FileSink::new(&rt, WRITTEN);
-    assert!(rt;
-        fs::metadata(&rt, WRITTEN).is_err(),
-        "made at the first write"
-    );
+    let mut sink = FileSink::new(&rt, rt.alloc(), WRITTEN)?;
     assert_eq!(rt; sink.write(b"a report"), Ok(8));
     assert_eq!(rt; sink.write(b"\n"), Ok(1));
+    assert!(rt; fs::metadata(&rt, WRITTEN).is_err());
+    assert_eq!(rt; sink.finish(), Ok(()));
     drop(sink);
-    let mut source = FileSource::open(&rt, WRITTEN);
-    let all = all_of(rt.alloc(), &mut source)?;
-    assert_eq!(rt; all.as_slice(), b"a report\n".as_slice());
-    assert_eq!(rt; source.faults, 0);
+    assert!(rt; holds(&rt, WRITTEN, b"a report\n")?);
+    assert!(rt; fs::metadata(&rt, "devices-test.unfinished").is_err());
     fs::remove_file(&rt, WRITTEN)?;
     Ok(())
 }
 
 #[test]
-fn files_that_are_not_there_fail(rt: HostRuntime) {
+fn a_file_that_is_given_up_leaves_the_old_one(rt: HostRuntime) -> Result<(), Fail> {
+    let path = "given-up-test";
+    fs::write(&rt, path, "an older file")?;
+    let mut sink = FileSink::new(&rt, rt.alloc(), path)?;
+    assert_eq!(rt; sink.write(b"a front"), Ok(7));
+    sink.abandon();
+    assert_eq!(rt; sink.faults, 0);
+    assert!(rt; holds(&rt, path, b"an older file")?);
+    assert!(rt; fs::metadata(&rt, "given-up-test.unfinished").is_err());
+    let mut untouched = FileSink::new(&rt, rt.alloc(), path)?;
+    assert_eq!(rt; untouched.finish(), Ok(()));
+    assert!(rt; holds(&rt, path, b"an older file")?);
+    fs::remove_file(&rt, path)?;
+    Ok(())
+}
+
+#[test]
+fn files_that_are_not_there_fail(rt: HostRuntime) -> Result<(), Fail> {
     let mut source = FileSource::open(&rt, "no-such-file");
-    let mut sink = FileSink::new(&rt, "no-such-folder/report");
+    let mut sink = FileSink::new(&rt, rt.alloc(), "no-such-folder/report")?;
     let mut piece = [0; 4];
     for count in 1..=2 {
         assert_eq!(rt; source.read(&mut piece), Err(Failed));
@@ -51,6 +71,8 @@ fn files_that_are_not_there_fail(rt: HostRuntime) {
         assert_eq!(rt; sink.write(&piece), Err(Failed));
         assert_eq!(rt; sink.faults, count);
     }
+    assert_eq!(rt; sink.finish(), Err(Failed));
+    Ok(())
 }
 
 // Gives and takes one byte, then none, and then fails.

@@ -5,6 +5,8 @@
 #[cfg(test)]
 mod devices;
 #[cfg(test)]
+mod image_files;
+#[cfg(test)]
 mod meeting;
 #[cfg(test)]
 mod statuses_told;

@@ -1,6 +1,7 @@
 // What is told of each status, and its exit status, as they were worked out by hand.
+use image_units::ImageFault;
 use job_text::JobFault;
-use mont_base::MemSink;
+use mont_base::{Kinds, MemSink, ObjectFault, SlotFault};
 use montage_tool::{SinkName, SourceName, Status, exit_of, say};
 use std::process::ExitCode;
 use std::test::Fail;
@@ -12,6 +13,9 @@ fn each_status_ends_with_its_exit_status_and_its_line(rt: HostRuntime) -> Result
     let read = |which| Status::ReadFault { which };
     let write = |which| Status::WriteFault { which };
     let index = |len| Status::BadIndex { unit: 3, len };
+    let image = |fault| Status::BadImage { fault };
+    let slot = SlotFault::Unit { word: 256 };
+    let kinds = Kinds::old(1);
     let table = [
         (Status::Done, 0u8, ""),
         (Status::BadWords, 2, "montage: bad words\n"),
@@ -25,6 +29,33 @@ fn each_status_ends_with_its_exit_status_and_its_line(rt: HostRuntime) -> Result
             3,
             "montage: job line 7: operation\n",
         ),
+        (
+            image(ImageFault::Short { words: 295 }),
+            4,
+            "montage: image: short 295\n",
+        ),
+        (
+            image(ImageFault::Slot {
+                slot: 8,
+                fault: slot,
+            }),
+            4,
+            "montage: image: slot 8 unit 256\n",
+        ),
+        (
+            image(ImageFault::Twice { slot: 3, other: 0 }),
+            4,
+            "montage: image: twice 3 0\n",
+        ),
+        (
+            image(ImageFault::Object {
+                unit: 2,
+                slot: 16,
+                fault: ObjectFault::End,
+            }),
+            4,
+            "montage: image: object 2 16 end\n",
+        ),
         (read(SourceName::Job), 5, "montage: read fault: job\n"),
         (read(SourceName::Image), 5, "montage: read fault: image\n"),
         (write(SinkName::Report), 6, "montage: write fault: report\n"),
@@ -32,6 +63,26 @@ fn each_status_ends_with_its_exit_status_and_its_line(rt: HostRuntime) -> Result
         (Status::Memory, 7, "montage: out of memory\n"),
         (index(None), 8, "montage: index 3\n"),
         (index(Some(1)), 8, "montage: index 3\n"),
+        (
+            Status::OtherLayout { kinds, slots: 8 },
+            9,
+            "montage: image layout mqg 8\n",
+        ),
+        (
+            Status::BadReport { line: 2 },
+            10,
+            "montage: report line 2\n",
+        ),
+        (
+            Status::NotAllowed { line: 2 },
+            11,
+            "montage: not allowed at line 2\n",
+        ),
+        (
+            Status::BadSchedule { line: 4 },
+            12,
+            "montage: schedule line 4\n",
+        ),
     ];
     for (status, code, line) in table {
         assert_eq!(rt; exit_of(&status), ExitCode::from(code), "{status:?}");

@@ -1,15 +1,20 @@
-use Rattle.std.proofs.Common.{string_bytes, codes, refl, sym, ◌∙◌}
-use Rattle.std.proofs.lemmas.Slice.Eq.{bytes_eq-Decides}
-use Rattle.montage_tool.proofs.Words.{one_word}
+use Rattle.std.proofs.Common.{ℕ, List, [], ◌∷◌, MatchOption, string_bytes, subst}
+use Rattle.montage_tool.specs.Forms.{HaveForm, IsForm}
+use Rattle.montage_tool.proofs.Words.{three_words, two_words}
 use Rattle.montage_tool.proofs.forms.form_of.Goals as goal
 
-pub returns-in-len1-clause-run : goal.returns-in-len1-clause-run
-returns-in-len1-clause-run c =
-    let spelled = (bytes_eq-Decides c.as_str.result.now (codes "run")).0 (sym c.eq.ensures ∙ c.if-eq.true) in (
-      λ _. one_word string_bytes c.args.words.now c.form-item.result (codes "run") c.in-len1.len_at_least c.in-len1.len_below
-          c.form-item.is (sym c.as_str.ensures.value ∙ spelled),
-      λ _. refl,
-    )
+pub returns-in-len2 : goal.returns-in-len2
+returns-in-len2 c =
+    let found : List (List ℕ) → Type 0 = λ ws. MatchOption c.form_with_file.result (¬ HaveForm ws) (IsForm ws) in
+    two_words string_bytes c.args.words.now c.name-item-then-words-lt3.result c.in-len2.len_at_least c.in-len2.len_below
+    c.name-item-then-words-lt3.is found
+    (λ file. subst (λ (name : List ℕ). found (name ∷ file ∷ [])) c.deref-in-len2.ensures (c.form_with_file.ensures file))
 
-pub returns-in-len1-clause-none : goal.returns-in-len1-clause-none
-returns-in-len1-clause-none c = (λ none. cc, λ other. absurd (other ((returns-in-len1-clause-run c).0 refl)))
+pub returns-in-len3 : goal.returns-in-len3
+returns-in-len3 c =
+    let found : List (List ℕ) → Type 0 = λ ws. MatchOption c.form_with_two.result (¬ HaveForm ws) (IsForm ws) in
+    three_words string_bytes c.args.words.now c.name-item-then-words-lt4.result c.last-item.result c.in-len3.len_at_least
+    c.in-len3.len_below c.name-item-then-words-lt4.is c.last-item.is found
+    (λ file. subst (λ (name : List ℕ). found (name ∷ file ∷ string_bytes c.last-item.result ∷ [])) c.deref-in-len3.ensures
+    (subst (λ (last : List ℕ). found (c.deref-in-len3.result.now ∷ file ∷ last ∷ [])) c.deref-in-len3-2.ensures
+    (c.form_with_two.ensures file)))

@@ -1,6 +1,6 @@
 use Rattle.std.proofs.Common.{subst}
 use Rattle.montage_tool.specs.Program.{IsSaid}
-use Rattle.montage_tool.proofs.SentReports.{told_line}
+use Rattle.montage_tool.proofs.SaidLines.{told_line}
 use Rattle.montage_tool.proofs.program.say_line.Goals as goal
 
 pub returns : goal.returns
