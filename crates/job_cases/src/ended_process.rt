@@ -1,17 +1,18 @@
 // What a process with devices in memory comes to.
-ghost use Rattle.std.specs.Prelude.{◌≡◌, Some, map, string_bytes};
+ghost use Rattle.std.specs.Prelude.{map, string_bytes};
 ghost use Rattle.std.specs.FinMap as finite;
+ghost use Rattle.montage_tool.specs.Devices.{sink_seen, source_seen};
 ghost use Rattle.montage_tool.specs.Process.{Ends};
 ghost use Rattle.montage_tool.specs.Program.{Answers};
 
 use index_kit::Index;
-use mont_base::{MemSink, MemSource, Sink, Source};
+use mont_base::{Sink, Source};
 use montage_tool::{answer, exit_code, say};
 use std::sync::Wait;
 use std::thread::Threads;
 
 /// Answers the words with these devices and boxes, says the status by its line, and gives the exit
-/// status. No image is read or written.
+/// status.
 pub fn ended<R: AllocGlobal + Threads + Wait + Sync, J: Source, I: Source, O: Sink, K: Sink>(
     rt: &R,
     words: &[String],
@@ -22,9 +23,20 @@ pub fn ended<R: AllocGlobal + Threads + Wait + Sync, J: Source, I: Source, O: Si
     image_out: &mut K,
 ) -> u8
     ensures { Ends O.taken O.faults
-        (λ written status. Answers J.left J.faults O.taken O.faults
-        (map (λ b. finite.len (places b)) indexes.items) (map string_bytes words.now)
-        job.old job.new out.old written status)
+        (λ written status. Answers (map (λ b. finite.len (places b)) indexes.items)
+        (map string_bytes words.now)
+        (record {
+          job = source_seen J.Source job.old;
+          image = source_seen I.Source image.old;
+          out = sink_seen O.Sink out.old;
+          image_out = sink_seen K.Sink image_out.old;
+        })
+        (record {
+          job = source_seen J.Source job.new;
+          image = source_seen I.Source image.new;
+          out = sink_seen O.Sink written;
+          image_out = sink_seen K.Sink image_out.new;
+        }) status)
         out.new result }
 {
     let status = answer(rt, words, job, image, indexes, out, image_out);

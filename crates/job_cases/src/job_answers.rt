@@ -1,31 +1,30 @@
-// What comes of a case on words and a job.
+// What comes of a case on words, a job and an image.
 use crate::boxes::{BoxKind, boxes_in, empty_boxes};
+use crate::devices_told::{Devices, first_number};
 use crate::ended_process::ended;
-use case_file::{Case, Unanswered, is_wanted, numbers_in};
+use crate::image_told::tell_image;
+use case_file::{Case, Unanswered, is_wanted};
+use case_image::{has_image, image_text};
 use index_kit::{Index, ProbeIndex, SortedIndex};
-use mont_base::{MemSink, MemSource, Text};
+use mont_base::Text;
 use std::alloc::{AllocError, Global};
 use std::rt::Files;
 use std::sync::Wait;
 use std::thread::Threads;
 use std::{fs, str};
 
-/// How many bytes a report has at most.
-const MOST_BYTES: u64 = 16_384;
+// The heads of what the process is asked, first and behind that, each time with the image that was
+// written last.
+const STEPS: [(&str, &str); 3] = [
+    ("words", "job"),
+    ("next words", "next job"),
+    ("last words", "last job"),
+];
 
-// How the devices of a case give and take bytes.
-#[derive(Drop)]
-struct Devices {
-    // How many bytes in a call.
-    piece: u64,
-    // The calls of the source that fail, and those of the sink.
-    reads: Vec<u64>,
-    writes: Vec<u64>,
-}
-
-/// Answers a case by what the process writes to its standard output, and its exit status. The part
-/// `words` is its command line, the part `job` its standard input. It is tried with empty boxes of
-/// either kind, where it tells no boxes of its own, and as often as its part `times` says.
+/// Answers a case by what the process writes to its standard output, the image that it writes, and
+/// its exit status. The part `words` is its command line, the part `job` its standard input, the
+/// part `image` its image. It is tried with empty boxes of either kind, where it tells no boxes of
+/// its own, and as often as its part `times` says.
 pub fn answer<R: AllocGlobal + Files + Threads + Wait + Sync>(
     rt: &R,
     case: &Case,
@@ -53,32 +52,62 @@ fn answer_with<R: AllocGlobal + Files + Threads + Wait + Sync>(
     boxes: &[BoxKind],
 ) -> Result<Vec<u8>, Unanswered> {
     let alloc = rt.alloc();
-    let words = words_in(alloc, case.needed("words")?)?;
-    let devices = devices_of(alloc, case)?;
-    if devices.piece == 0 {
-        return Err(Unanswered::Unclear { head: "pieces" });
+    let devices = Devices::of_case(alloc, case)?;
+    let mut image = image_of(alloc, case)?;
+    let _ = case.needed(STEPS[0].0)?;
+    let mut answer = Vec::new(alloc);
+    for (words_head, job_head) in STEPS {
+        if let Some(words) = case.part(words_head) {
+            let words = words_in(alloc, words)?;
+            let job = job_of(rt, case, job_head)?;
+            let written = step(rt, &words, &devices, &job, &image, boxes, &mut answer)?;
+            if !written.is_empty() {
+                image = written;
+            }
+        }
     }
-    let text = job_of(rt, case)?;
-    let mut job = MemSource::new(text, devices.piece, devices.reads);
-    let mut out = MemSink::new(alloc, MOST_BYTES, devices.piece, devices.writes)?;
-    let code = ended_with(rt, &words, &mut job, boxes, &mut out)?;
-    let mut answer = out.taken().to_vec(alloc)?;
-    let last = format!(in alloc; "exit status {code}\n")?;
-    answer.extend_from_slice(last.as_bytes())?;
     Ok(answer)
 }
 
-// The exit status behind these words, with such boxes and without images.
-fn ended_with<R: AllocGlobal + Threads + Wait + Sync>(
+// Adds what the process answers these words, and gives the image that it writes.
+fn step<R: AllocGlobal + Threads + Wait + Sync>(
     rt: &R,
     words: &[String],
-    job: &mut MemSource,
+    devices: &Devices,
+    job: &[u8],
+    image: &[u8],
     boxes: &[BoxKind],
-    out: &mut MemSink,
-) -> Result<u8, AllocError> {
+    answer: &mut Vec<u8>,
+) -> Result<Vec<u8>, AllocError> {
     let alloc = rt.alloc();
-    let mut image = MemSource::new(Vec::new(alloc), 1, Vec::new(alloc));
-    let mut image_out = MemSink::new(alloc, 1, 1, Vec::new(alloc))?;
+    let mut job = devices.job(alloc, job)?;
+    let mut image = devices.image(alloc, image)?;
+    let mut out = devices.out(alloc)?;
+    let mut image_out = devices.image_out(alloc)?;
+    let indexes = indexes_of(alloc, boxes)?;
+    let code = ended(
+        rt,
+        words,
+        &mut job,
+        &mut image,
+        indexes,
+        &mut out,
+        &mut image_out,
+    );
+    answer.extend_from_slice(out.taken())?;
+    let written = image_out.taken();
+    if !written.is_empty() {
+        let mut told = String::new(alloc);
+        tell_image(alloc, &mut told, written)?;
+        answer.extend_from_slice(told.as_bytes())?;
+    }
+    let last = format!(in alloc; "exit status {code}\n")?;
+    answer.extend_from_slice(last.as_bytes())?;
+    written.to_vec(alloc)
+}
+
+// The boxes of these kinds.
+fn indexes_of(alloc: Global, boxes: &[BoxKind]) -> Result<Vec<Box<dyn Index + Send>>, AllocError> {
     let mut indexes: Vec<Box<dyn Index + Send>> = Vec::new(alloc);
     for kind in boxes {
         match kind {
@@ -92,14 +121,27 @@ fn ended_with<R: AllocGlobal + Threads + Wait + Sync>(
             }
         }
     }
-    Ok(ended(rt, words, job, &mut image, indexes, out, &mut image_out))
+    Ok(indexes)
 }
 
-// The standard input: the part `job`, or the file that the part `job file` names.
-fn job_of<R: AllocGlobal + Files>(rt: &R, case: &Case) -> Result<Vec<u8>, Unanswered> {
+// The image that a case has, or no byte.
+fn image_of(alloc: Global, case: &Case) -> Result<Vec<u8>, Unanswered> {
+    if has_image(case) {
+        image_text(alloc, case)
+    } else {
+        Ok(Vec::new(alloc))
+    }
+}
+
+// The standard input: the part with this head, or the file that the part `job file` names.
+fn job_of<R: AllocGlobal + Files>(
+    rt: &R,
+    case: &Case,
+    head: &'static str,
+) -> Result<Vec<u8>, Unanswered> {
     let unclear = Unanswered::Unclear { head: "job file" };
     let Some(name) = case.part("job file") else {
-        return Ok(case.part("job").unwrap_or(b"").to_vec(rt.alloc())?);
+        return Ok(case.part(head).unwrap_or(b"").to_vec(rt.alloc())?);
     };
     let Ok(name) = str::from_utf8(name) else {
         return Err(unclear);
@@ -108,29 +150,6 @@ fn job_of<R: AllocGlobal + Files>(rt: &R, case: &Case) -> Result<Vec<u8>, Unansw
         Ok(text) => Ok(text),
         Err(_) => Err(unclear),
     }
-}
-
-// How the devices give and take bytes, and fail.
-fn devices_of(alloc: Global, case: &Case) -> Result<Devices, Unanswered> {
-    Ok(Devices {
-        piece: first_number(alloc, case, "pieces")?.unwrap_or(4096),
-        reads: numbers_of(alloc, case, "failing reads")?,
-        writes: numbers_of(alloc, case, "failing writes")?,
-    })
-}
-
-// The numbers of a part, none where there is no such part.
-fn numbers_of(alloc: Global, case: &Case, head: &'static str) -> Result<Vec<u64>, Unanswered> {
-    match case.part(head) {
-        Some(text) => numbers_in(alloc, head, text),
-        None => Ok(Vec::new(alloc)),
-    }
-}
-
-// The first number of a part.
-fn first_number(alloc: Global, case: &Case, head: &'static str) -> Result<Option<u64>, Unanswered> {
-    let numbers = numbers_of(alloc, case, head)?;
-    Ok(numbers.first().copied())
 }
 
 // The words of a command line.

@@ -2,7 +2,9 @@
 #![tactic(auto)]
 
 mod boxes;
+mod devices_told;
 mod ended_process;
+mod image_told;
 mod job_answers;
 mod job_trial;
 

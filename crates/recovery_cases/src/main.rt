@@ -6,16 +6,12 @@ mod asked_image;
 mod chains;
 mod drawn_images;
 mod found_text;
-mod image_part;
-mod image_shape;
 mod leftovers;
 mod now;
 mod plain_records;
 mod plain_store;
-mod record_words;
 mod recovery_answers;
 mod recovery_trial;
-mod slot_line;
 mod sweep_table;
 mod tellings;
 

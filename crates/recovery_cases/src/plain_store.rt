@@ -5,8 +5,8 @@ ghost use Rattle.mont_image.specs.Picking.{HasClock};
 
 use crate::drawn_images::Draws;
 use crate::plain_records::record_of;
-use crate::record_words::record_words;
 use case_file::Unanswered;
+use case_image::record_words;
 use job_text::write_contents;
 use mont_base::{
     Effect, Epoch, FIELDS, FIRST_CLOCK, Held, LAST, Layout, Op, Sequence, Slot, Unit, Words,

@@ -3,11 +3,11 @@ ghost use Rattle.std.specs.Prelude.{◌≡◌, false};
 
 use crate::asked_image::Asked;
 use crate::chains::follow_chains;
-use crate::image_part::image_text;
 use crate::now::{ReadImage, image_now};
 use crate::sweep_table::sweep_table;
 use crate::tellings::{told_by_all, told_image, told_parts, told_units};
 use case_file::{Case, Unanswered};
+use case_image::image_text;
 use mont_image::Image;
 use std::alloc::Global;
 use std::thread::Threads;

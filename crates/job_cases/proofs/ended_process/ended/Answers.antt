@@ -1,4 +1,4 @@
-use Rattle.montage_tool.proofs.SentReports.{told_or_not}
+use Rattle.montage_tool.proofs.SaidLines.{told_or_not}
 use Rattle.job_cases.proofs.ended_process.ended.Goals as goal
 
 pub returns : goal.returns

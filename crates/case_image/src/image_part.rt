@@ -19,6 +19,11 @@ const LENGTH: &str = "length";
 // No part `length` asks for more bytes.
 const MOST_BYTES: u64 = 10_000_000;
 
+/// Whether a case has an image.
+pub fn has_image(case: &Case) -> bool {
+    case.part(IMAGE).is_some()
+}
+
 /// The bytes of the text.
 pub fn image_text(alloc: Global, case: &Case) -> Result<Vec<u8>, Unanswered> {
     let mut words = text_words(alloc, case.needed(IMAGE)?)?;

@@ -7,7 +7,7 @@
 //
 // A body may also be `vertex VERTEX ATTRIBUTE` or `edge FROM TO ATTRIBUTE`.
 use crate::image_shape::ImageShape;
-use crate::record_words::record_words;
+use crate::record_row::record_words;
 use mont_base::{BODY, Kind, Label, Text, Unit};
 use payload::{edge_body, item_body, no_body, pair_body, vertex_body};
 use std::alloc::{AllocError, Global};

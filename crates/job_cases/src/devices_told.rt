@@ -1,0 +1,82 @@
+// How the devices of a case give and take bytes, and fail.
+use case_file::{Case, Unanswered, numbers_in};
+use mont_base::{MemSink, MemSource};
+use std::alloc::{AllocError, Global};
+
+// How many bytes a report and an image have at most.
+const MOST_BYTES: u64 = 1_048_576;
+
+/// How the devices of a case give and take bytes.
+#[derive(Drop)]
+pub struct Devices {
+    // How many bytes in a call.
+    piece: u64,
+    // The calls of each device that fail.
+    reads: Vec<u64>,
+    image_reads: Vec<u64>,
+    writes: Vec<u64>,
+    image_writes: Vec<u64>,
+}
+
+impl Devices {
+    /// The devices that a case tells. A call gives or takes 4096 bytes where it tells no number.
+    pub fn of_case(alloc: Global, case: &Case) -> Result<Devices, Unanswered> {
+        let piece = first_number(alloc, case, "pieces")?.unwrap_or(4096);
+        if piece == 0 {
+            return Err(Unanswered::Unclear { head: "pieces" });
+        }
+        Ok(Devices {
+            piece,
+            reads: numbers_of(alloc, case, "failing reads")?,
+            image_reads: numbers_of(alloc, case, "failing image reads")?,
+            writes: numbers_of(alloc, case, "failing writes")?,
+            image_writes: numbers_of(alloc, case, "failing image writes")?,
+        })
+    }
+
+    /// A source of a job.
+    pub fn job(&self, alloc: Global, text: &[u8]) -> Result<MemSource, AllocError> {
+        source(alloc, text, self.piece, &self.reads)
+    }
+
+    /// A source of an image.
+    pub fn image(&self, alloc: Global, text: &[u8]) -> Result<MemSource, AllocError> {
+        source(alloc, text, self.piece, &self.image_reads)
+    }
+
+    /// A sink of a report.
+    pub fn out(&self, alloc: Global) -> Result<MemSink, AllocError> {
+        sink(alloc, self.piece, &self.writes)
+    }
+
+    /// A sink of an image.
+    pub fn image_out(&self, alloc: Global) -> Result<MemSink, AllocError> {
+        sink(alloc, self.piece, &self.image_writes)
+    }
+}
+
+fn source(alloc: Global, text: &[u8], piece: u64, fails: &[u64]) -> Result<MemSource, AllocError> {
+    Ok(MemSource::new(text.to_vec(alloc)?, piece.max(1), fails.to_vec(alloc)?))
+}
+
+fn sink(alloc: Global, piece: u64, fails: &[u64]) -> Result<MemSink, AllocError> {
+    MemSink::new(alloc, MOST_BYTES, piece.max(1), fails.to_vec(alloc)?)
+}
+
+// The numbers of a part, none where there is no such part.
+fn numbers_of(alloc: Global, case: &Case, head: &'static str) -> Result<Vec<u64>, Unanswered> {
+    match case.part(head) {
+        Some(text) => numbers_in(alloc, head, text),
+        None => Ok(Vec::new(alloc)),
+    }
+}
+
+/// The first number of a part.
+pub fn first_number(
+    alloc: Global,
+    case: &Case,
+    head: &'static str,
+) -> Result<Option<u64>, Unanswered> {
+    let numbers = numbers_of(alloc, case, head)?;
+    Ok(numbers.first().copied())
+}
