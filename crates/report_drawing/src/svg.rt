@@ -16,6 +16,8 @@ const MARGIN: u64 = 20;
 const LEAST: u64 = 90;
 // The height of a row.
 const ROW: u64 = 20;
+// How far letters go below their row.
+const TAIL: u64 = 6;
 // Where names and lines begin, and where the first column does.
 const BESIDE: u64 = 10;
 
@@ -34,7 +36,7 @@ pub fn drawn(alloc: Global, picture: &Picture) -> Result<String, AllocError> {
         &mut svg,
         start_at(starts.as_slice(), picture.wall()),
         right,
-        below,
+        below.saturating_add(TAIL),
     )?;
     push_strip(&mut svg, 0, starts.as_slice(), &picture.heads)?;
     push_strips(
