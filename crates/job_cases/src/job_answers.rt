@@ -6,7 +6,7 @@ use crate::image_told::tell_image;
 use case_file::{Case, Unanswered, is_wanted};
 use case_image::{has_image, image_text};
 use index_kit::{Index, ProbeIndex, SortedIndex};
-use mont_base::Text;
+use mont_base::{MemSink, MemSource, Text};
 use std::alloc::{AllocError, Global};
 use std::rt::Files;
 use std::sync::Wait;
@@ -84,16 +84,15 @@ fn step<R: AllocGlobal + Threads + Wait + Sync>(
     let mut image = devices.image(alloc, image)?;
     let mut out = devices.out(alloc)?;
     let mut image_out = devices.image_out(alloc)?;
-    let indexes = indexes_of(alloc, boxes)?;
-    let code = ended(
+    let code = ended_with(
         rt,
         words,
         &mut job,
         &mut image,
-        indexes,
+        boxes,
         &mut out,
         &mut image_out,
-    );
+    )?;
     answer.extend_from_slice(out.taken())?;
     let written = image_out.taken();
     if !written.is_empty() {
@@ -106,8 +105,18 @@ fn step<R: AllocGlobal + Threads + Wait + Sync>(
     written.to_vec(alloc)
 }
 
-// The boxes of these kinds.
-fn indexes_of(alloc: Global, boxes: &[BoxKind]) -> Result<Vec<Box<dyn Index + Send>>, AllocError> {
+// The exit status behind these words, with boxes of these kinds, which are made where they are
+// handed in.
+fn ended_with<R: AllocGlobal + Threads + Wait + Sync>(
+    rt: &R,
+    words: &[String],
+    job: &mut MemSource,
+    image: &mut MemSource,
+    boxes: &[BoxKind],
+    out: &mut MemSink,
+    image_out: &mut MemSink,
+) -> Result<u8, AllocError> {
+    let alloc = rt.alloc();
     let mut indexes: Vec<Box<dyn Index + Send>> = Vec::new(alloc);
     for kind in boxes {
         match kind {
@@ -121,7 +130,7 @@ fn indexes_of(alloc: Global, boxes: &[BoxKind]) -> Result<Vec<Box<dyn Index + Se
             }
         }
     }
-    Ok(indexes)
+    Ok(ended(rt, words, job, image, indexes, out, image_out))
 }
 
 // The image that a case has, or no byte.
