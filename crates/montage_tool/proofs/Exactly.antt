@@ -17,16 +17,20 @@ use Rattle.replay.specs.Replays.{IsFirstNotAllowed}
 use Rattle.replay.specs.ScheduleText.{IsFirstRefused as IsScheduleRefused, schedule_text}
 use Rattle.montage_tool.specs.declared.reading.TheConstants.{REPORT_BYTES}
 use Rattle.montage_tool.specs.Judged.{IsHeld, IsReplayed, IsReportOf, IsScheduleOf, IsWrongReport, MayBeHeld, MayBeReplayed, RefusesCheck, RefusesNewImage, RefusesReplay, RefusesReport, TellsReport}
+use Rattle.bank_job.specs.Bank.{bank_layout}
+use Rattle.big_job.specs.Generated.{generated_head}
 use Rattle.store.specs.MapBoxes.{keys_for, IsFirstLack}
 use Rattle.montage_tool.specs.declared.forms.Form.{Form}
 use Rattle.montage_tool.specs.declared.forms.Form.TheVariants as forms
 use Rattle.montage_tool.specs.declared.status.Status.{Status}
 use Rattle.montage_tool.specs.declared.status.Status.TheVariants.{Done, BadWords, BadJob, BadImage, ReadFault, WriteFault, Memory, BadIndex, OtherLayout, BadReport, NotAllowed, BadSchedule}
 use Rattle.montage_tool.specs.Devices.{Output}
+use Rattle.montage_tool.specs.GeneratedForms.{RefusesStore}
 use Rattle.montage_tool.specs.Inputs.{AreOf, HasBadLine, Inputs, IsImageOf, IsJobOf, TellsImage, TellsJob}
 use Rattle.montage_tool.specs.Service.{AreContents, Gives, HasBytes, IsFreshRun, IsOfInputs, IsResumedRun, MayBeDone, MayRunFresh, MayRunResumed, MayTellContents, Refuses, RefusesFresh, RefusesImage, RefusesJob, RefusesResumed, TellsInputs}
 use Rattle.montage_tool.proofs.OneFault.{one_bad_line, one_fault, one_new_fault}
 use Rattle.montage_tool.proofs.OneRefusedLine.{one_not_allowed, one_refused_line, one_wrong_report}
+use Rattle.montage_tool.proofs.StoreRefused.{refused_store}
 use Rattle.montage_tool.proofs.Told.{IsOutside, may_outside, no_bad_line, no_fault, no_refused_line, report_outside, same_image, same_job, same_schedule}
 
 -- ---- what is told
@@ -102,6 +106,8 @@ given_may forms.ResumeTo i told o gives = given_resumed i o.text gives.0 (told.j
 given_may (forms.Recover workers) i told o gives = given_contents i o.text (told.image tt) gives.0
 given_may forms.Check i told o gives = given_held i.job i.image o.text (told.job tt) (told.image tt) gives.0
 given_may forms.Replay i told o gives = given_replay i.job o.text (told.job tt) gives.0
+given_may (forms.Big number) i told o gives = gives.0.boxed
+given_may (forms.Bank number) i told o gives = gives.0.boxed
 
 not_outside : (status : Status) → IsOfInputs status → IsOutside status → ⊥
 not_outside Done of outside = of
@@ -481,6 +487,17 @@ replay_refused_once left told (ReadFault which) b of too a x = absurd of
 replay_refused_once left told (WriteFault which) b of too a x = absurd of
 replay_refused_once left told Memory b of too a x = absurd of
 
+-- ---- of a store that is made
+store_refused_once : (s : Shape) (boxes : List ℕ) (a b : Status) → IsOfInputs a → IsOfInputs b → RefusesStore s boxes a
+    → RefusesStore s boxes b → a ≡ b
+store_refused_once s boxes a b of too x y =
+    refused_store (λ (c : Status). IsOfInputs c → c ≡ b) s boxes
+    (λ unit len lack is.
+    refused_store (λ (d : Status). IsOfInputs d → BadIndex unit len ≡ d) s boxes
+    (λ other more also is_too. same_lack s boxes unit other len more lack also)
+    (λ is_too. absurd is_too) b y too)
+    (λ is. absurd is) a x of
+
 pub refused_once : (form : Form) (i : Inputs) → TellsInputs form i → (a b : Status) → IsOfInputs a → IsOfInputs b → Refuses form i a
     → Refuses form i b → a ≡ b
 refused_once forms.Run i told a b of too x y = fresh_refused_once i (told.job tt) a b of too x y
@@ -492,3 +509,5 @@ refused_once forms.ResumeTo i told a b of too x y =
 refused_once (forms.Recover workers) i told a b of too x y = image_refused_once i.image (told.image tt) a b of too x y
 refused_once forms.Check i told a b of too x y = check_refused_once i.job i.image (told.job tt) (told.image tt) a b of too x y
 refused_once forms.Replay i told a b of too x y = replay_refused_once i.job (told.job tt) a b of too x y
+refused_once (forms.Big number) i told a b of too x y = store_refused_once generated_head.layout i.boxes a b of too x y
+refused_once (forms.Bank number) i told a b of too x y = store_refused_once bank_layout i.boxes a b of too x y

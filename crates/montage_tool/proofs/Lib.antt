@@ -1,3 +1,5 @@
+pub mod StoreRefused
+pub mod KeptTotal
 pub mod Readings
 pub mod Told
 pub mod OneFault

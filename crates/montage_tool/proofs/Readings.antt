@@ -151,19 +151,26 @@ module _ (old new : SourceSeen) where
   pub image_unread : (refusal : ImageRefusal) → LosesAtMost (IMAGE_BYTES + 1) old.left new.left
       → refusals.TellsFaults {A = Image} old.faults new.faults (Err refusal)
       → IsRead (IMAGE_BYTES + 1) sources.Image old new (of_image refusal)
-  image_unread bytes.Magic few cause = unread (IMAGE_BYTES + 1) sources.Image old new (of_image bytes.Magic) (λ e. absurd (cc)) (λ w. w) few cause
-  image_unread bytes.Version few cause = unread (IMAGE_BYTES + 1) sources.Image old new (of_image bytes.Version) (λ e. absurd (cc)) (λ w. w) few cause
-  image_unread bytes.Layout few cause = unread (IMAGE_BYTES + 1) sources.Image old new (of_image bytes.Layout) (λ e. absurd (cc)) (λ w. w) few cause
-  image_unread bytes.Clock few cause = unread (IMAGE_BYTES + 1) sources.Image old new (of_image bytes.Clock) (λ e. absurd (cc)) (λ w. w) few cause
-  image_unread (bytes.Short words) few cause = unread (IMAGE_BYTES + 1) sources.Image old new (of_image (bytes.Short words)) (λ e. absurd (cc)) (λ w. w) few cause
-  image_unread bytes.Long few cause = unread (IMAGE_BYTES + 1) sources.Image old new (of_image bytes.Long) (λ e. absurd (cc)) (λ w. w) few cause
+  image_unread bytes.Magic few cause =
+      unread (IMAGE_BYTES + 1) sources.Image old new (of_image bytes.Magic) (λ e. absurd (cc)) (λ w. w) few cause
+  image_unread bytes.Version few cause =
+      unread (IMAGE_BYTES + 1) sources.Image old new (of_image bytes.Version) (λ e. absurd (cc)) (λ w. w) few cause
+  image_unread bytes.Layout few cause =
+      unread (IMAGE_BYTES + 1) sources.Image old new (of_image bytes.Layout) (λ e. absurd (cc)) (λ w. w) few cause
+  image_unread bytes.Clock few cause =
+      unread (IMAGE_BYTES + 1) sources.Image old new (of_image bytes.Clock) (λ e. absurd (cc)) (λ w. w) few cause
+  image_unread (bytes.Short words) few cause =
+      unread (IMAGE_BYTES + 1) sources.Image old new (of_image (bytes.Short words)) (λ e. absurd (cc)) (λ w. w) few cause
+  image_unread bytes.Long few cause =
+      unread (IMAGE_BYTES + 1) sources.Image old new (of_image bytes.Long) (λ e. absurd (cc)) (λ w. w) few cause
   image_unread bytes.Read few cause = record {
     few = few;
     ended = λ written. absurd written;
     failed = λ e. cause.1;
     kept = λ others. absurd (others refl);
   }
-  image_unread bytes.Memory few cause = unread (IMAGE_BYTES + 1) sources.Image old new (of_image bytes.Memory) (λ e. absurd (cc)) (λ w. w) few cause
+  image_unread bytes.Memory few cause =
+      unread (IMAGE_BYTES + 1) sources.Image old new (of_image bytes.Memory) (λ e. absurd (cc)) (λ w. w) few cause
 
 refused_bytes : (known : Option (List ℕ)) (refusal : ImageRefusal)
     → ((text : List ℕ) → IsAnswerTo (Err refusal) text → image_in text ≡ Err refusal) → IfSome known (IsAnswerTo (Err refusal))

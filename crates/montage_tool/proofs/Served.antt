@@ -1,9 +1,11 @@
 -- What came of a form is what its contract says.
-use Rattle.std.proofs.Common.{◌≡◌, ◌⊎◌, ℕ, List, inl, inr, refl}
+use Rattle.std.proofs.Common.{◌≡◌, ◌⊎◌, ℕ, List, inl, inr, refl, subst}
 use Rattle.std.specs.Prelude.{◌≢◌, Option, Some, None}
 use Rattle.std.specs.Io.KnownBytes.{IsAtEnd}
 use Rattle.job_text.specs.declared.job.Job.{Job}
 use Rattle.job_text.specs.declared.job.JobFault.{JobFault}
+use Rattle.bank_job.specs.Bank.{bank_layout}
+use Rattle.big_job.specs.Generated.{generated_head}
 use Rattle.mont_base.specs.Faults.{Rose}
 use Rattle.montage_tool.specs.declared.forms.Form.{Form}
 use Rattle.montage_tool.specs.declared.forms.Form.TheVariants as forms
@@ -13,11 +15,12 @@ use Rattle.montage_tool.specs.declared.status.SinkName.{SinkName}
 use Rattle.montage_tool.specs.declared.status.SinkName.TheVariants as sinks
 use Rattle.montage_tool.specs.declared.status.SourceName.{SourceName}
 use Rattle.montage_tool.specs.declared.status.SourceName.TheVariants as sources
-use Rattle.montage_tool.specs.Devices.{Devices, HasOutput, IsRead, IsUsed, IsWritten, Output, SinkSeen, SinksFail, SourceSeen, SourcesFail, StopsAtJob, TakesImageFront}
-use Rattle.montage_tool.specs.Forms.{AsksJob, image_bytes, job_bytes}
+use Rattle.montage_tool.specs.Devices.{Devices, HasOutput, IsRead, IsUsed, IsWritten, Output, SinkSeen, SourceSeen, StopsAtJob, TakesImageFront}
+use Rattle.montage_tool.specs.Forms.{AsksJob, KeepsImage, image_bytes, job_bytes}
 use Rattle.montage_tool.specs.Inputs.{Inputs, TellsJob, inputs}
-use Rattle.montage_tool.specs.Service.{Comes, IsOfInputs, MayBeDone, Refuses, RefusesFresh, RefusesImage, RefusesJob, RefusesResumed, Serves, TellsInputs}
+use Rattle.montage_tool.specs.Service.{Comes, Gives, IsOfInputs, MayBeDone, Refuses, RefusesFresh, RefusesImage, RefusesJob, RefusesResumed, Serves, SinksFail, SourcesFail, TellsInputs}
 use Rattle.montage_tool.proofs.Told.{IsOutside, may_outside, never_words, told_not_refused}
+use Rattle.montage_tool.proofs.StoreRefused.{store_quiet}
 use Rattle.montage_tool.proofs.Exactly.{given_not_refused, refused_once}
 
 -- ---- a refusal says that nothing was written
@@ -111,44 +114,66 @@ refuses_quiet forms.Replay i (OtherLayout kinds slots) refused out = out
 refuses_quiet forms.Replay i (BadReport line) refused out = out
 refuses_quiet forms.Replay i (NotAllowed line) refused out = out
 refuses_quiet forms.Replay i (BadSchedule line) refused out = out
+refuses_quiet (forms.Big number) i status refused out = store_quiet generated_head.layout i.boxes status refused out
+refuses_quiet (forms.Bank number) i status refused out = store_quiet bank_layout i.boxes status refused out
 
 -- ---- a sink or a source failed
 front_fails : (image : Option (List ℕ)) (old new : SinkSeen) → TakesImageFront image old new → Rose old.faults new.faults
 front_fails None old new front = absurd front
 front_fails (Some bytes) old new front = front.failed
 
+no_front : (image : Option (List ℕ)) (old new : SinkSeen) → image ≡ None → TakesImageFront image old new → ⊥
+no_front image old new none front = subst (λ (im : Option (List ℕ)). TakesImageFront im old new) none front
+
+-- an image is written by forms that keep one alone
+front_kept : (form : Form) (i : Inputs) (o : Output) → Gives form i o → (old new : SinkSeen) → TakesImageFront o.image old new
+    → KeepsImage form
+front_kept forms.Run i o gives old new front = no_front o.image old new gives.2 front
+front_kept forms.Crash i o gives old new front = tt
+front_kept forms.Resume i o gives old new front = no_front o.image old new gives.2 front
+front_kept forms.ResumeTo i o gives old new front = tt
+front_kept (forms.Recover workers) i o gives old new front = no_front o.image old new gives.1 front
+front_kept forms.Check i o gives old new front = no_front o.image old new gives.1 front
+front_kept forms.Replay i o gives old new front = no_front o.image old new gives.1 front
+front_kept (forms.Big number) i o gives old new front = no_front o.image old new gives.1 front
+front_kept (forms.Bank number) i o gives old new front = no_front o.image old new gives.1 front
+
 module _ (old new : Devices) where
-  write_fails : (o : Output) (which : SinkName) → IsWritten o old.out new.out old.image_out new.image_out (WriteFault which)
-      → SinksFail old new
-  write_fails o sinks.Report written = inl written.0.failed
-  write_fails o sinks.Image written = inr (front_fails o.image old.image_out new.image_out written.1)
+  write_fails : (form : Form) (i : Inputs) (o : Output) (which : SinkName) → Gives form i o
+      → IsWritten o old.out new.out old.image_out new.image_out (WriteFault which) → SinksFail form old new
+  write_fails form i o sinks.Report gives written = inl written.0.failed
+  write_fails form i o sinks.Image gives written =
+      inr (front_kept form i o gives old.image_out new.image_out written.1, front_fails o.image old.image_out new.image_out written.1)
 
   read_fails : (form : Form) (i : Inputs) (which : SourceName) → Refuses form i (ReadFault which)
       → IsUsed (job_bytes form) sources.Job old.job new.job (ReadFault which)
-      → IsUsed (image_bytes form) sources.Image old.image new.image (ReadFault which) → SourcesFail old new
-  read_fails forms.Run i sources.Job refused job image = inl (job.failed refl)
-  read_fails forms.Crash i sources.Job refused job image = inl (job.failed refl)
-  read_fails forms.Resume i sources.Job refused job image = inl (job.failed refl)
-  read_fails forms.ResumeTo i sources.Job refused job image = inl (job.failed refl)
+      → IsUsed (image_bytes form) sources.Image old.image new.image (ReadFault which) → SourcesFail form old new
+  read_fails forms.Run i sources.Job refused job image = inl (tt, job.failed refl)
+  read_fails forms.Crash i sources.Job refused job image = inl (tt, job.failed refl)
+  read_fails forms.Resume i sources.Job refused job image = inl (tt, job.failed refl)
+  read_fails forms.ResumeTo i sources.Job refused job image = inl (tt, job.failed refl)
   read_fails (forms.Recover workers) i sources.Job refused job image = absurd refused
   read_fails forms.Run i sources.Image refused job image = absurd refused
   read_fails forms.Crash i sources.Image refused job image = absurd refused
-  read_fails forms.Resume i sources.Image refused job image = inr (image.failed refl)
-  read_fails forms.ResumeTo i sources.Image refused job image = inr (image.failed refl)
-  read_fails (forms.Recover workers) i sources.Image refused job image = inr (image.failed refl)
-  read_fails forms.Check i sources.Job refused job image = inl (job.failed refl)
-  read_fails forms.Check i sources.Image refused job image = inr (image.failed refl)
-  read_fails forms.Replay i sources.Job refused job image = inl (job.failed refl)
+  read_fails forms.Resume i sources.Image refused job image = inr (tt, image.failed refl)
+  read_fails forms.ResumeTo i sources.Image refused job image = inr (tt, image.failed refl)
+  read_fails (forms.Recover workers) i sources.Image refused job image = inr (tt, image.failed refl)
+  read_fails forms.Check i sources.Job refused job image = inl (tt, job.failed refl)
+  read_fails forms.Check i sources.Image refused job image = inr (tt, image.failed refl)
+  read_fails forms.Replay i sources.Job refused job image = inl (tt, job.failed refl)
   read_fails forms.Replay i sources.Image refused job image = absurd refused
+  read_fails (forms.Big number) i which refused job image = absurd refused
+  read_fails (forms.Bank number) i which refused job image = absurd refused
 
 -- ---- what may be done is done
 module _ (form : Form) (boxes : List ℕ) (old new : Devices) where
   abbrev IsComplete : Status → Type 0
-  IsComplete status = MayBeDone form (inputs old boxes) → ¬ SourcesFail old new → ¬ SinksFail old new → (status ≡ Done) ⊎ (status ≡ Memory)
+  IsComplete status =
+      MayBeDone form (inputs old boxes) → ¬ SourcesFail form old new → ¬ SinksFail form old new → (status ≡ Done) ⊎ (status ≡ Memory)
 
   outside_done : (status : Status) → Refuses form (inputs old boxes) status
       → IsUsed (job_bytes form) sources.Job old.job new.job status
-      → IsUsed (image_bytes form) sources.Image old.image new.image status → IsOutside status → ¬ SourcesFail old new → status ≡ Memory
+      → IsUsed (image_bytes form) sources.Image old.image new.image status → IsOutside status → ¬ SourcesFail form old new → status ≡ Memory
   outside_done (ReadFault which) refused job image outside none =
       absurd (none (read_fails old new form (inputs old boxes) which refused job image))
   outside_done Memory refused job image outside none = refl
@@ -163,32 +188,32 @@ module _ (form : Form) (boxes : List ℕ) (old new : Devices) where
   outside_done (NotAllowed number) refused job image outside none = absurd outside
   outside_done (BadSchedule number) refused job image outside none = absurd outside
 
-  written_done : (status : Status) (o : Output) → IsWritten o old.out new.out old.image_out new.image_out status → ¬ SinksFail old new
-      → status ≡ Done
-  written_done Done o written none = refl
-  written_done (WriteFault which) o written none = absurd (none (write_fails old new o which written))
-  written_done BadWords o written none = absurd written
-  written_done (BadJob line fault) o written none = absurd written
-  written_done (BadImage fault) o written none = absurd written
-  written_done (ReadFault which) o written none = absurd written
-  written_done Memory o written none = absurd written
-  written_done (BadIndex unit len) o written none = absurd written
-  written_done (OtherLayout kinds slots) o written none = absurd written
-  written_done (BadReport number) o written none = absurd written
-  written_done (NotAllowed number) o written none = absurd written
-  written_done (BadSchedule number) o written none = absurd written
+  written_done : (status : Status) (o : Output) → Gives form (inputs old boxes) o
+      → IsWritten o old.out new.out old.image_out new.image_out status → ¬ SinksFail form old new → status ≡ Done
+  written_done Done o gives written none = refl
+  written_done (WriteFault which) o gives written none = absurd (none (write_fails old new form (inputs old boxes) o which gives written))
+  written_done BadWords o gives written none = absurd written
+  written_done (BadJob line fault) o gives written none = absurd written
+  written_done (BadImage fault) o gives written none = absurd written
+  written_done (ReadFault which) o gives written none = absurd written
+  written_done Memory o gives written none = absurd written
+  written_done (BadIndex unit len) o gives written none = absurd written
+  written_done (OtherLayout kinds slots) o gives written none = absurd written
+  written_done (BadReport number) o gives written none = absurd written
+  written_done (NotAllowed number) o gives written none = absurd written
+  written_done (BadSchedule number) o gives written none = absurd written
 
   completes : (status : Status) → Comes form (inputs old boxes) old new status
       → IsUsed (job_bytes form) sources.Job old.job new.job status
       → IsUsed (image_bytes form) sources.Image old.image new.image status → IsComplete status
   completes status (inl refused) job image may none able =
       inr (outside_done status refused.0 job image (may_outside form (inputs old boxes) may status refused.0) none)
-  completes status (inr written) job image may none able = inl (written_done status written.0 written.2 able)
+  completes status (inr written) job image may none able = inl (written_done status written.0 written.1 written.2 able)
 
   exactly : (status : Status) → Comes form (inputs old boxes) old new status
       → IsUsed (job_bytes form) sources.Job old.job new.job status
       → IsUsed (image_bytes form) sources.Image old.image new.image status → (other : Status) → IsOfInputs other
-      → TellsInputs form (inputs old boxes) → Refuses form (inputs old boxes) other → ¬ SourcesFail old new
+      → TellsInputs form (inputs old boxes) → Refuses form (inputs old boxes) other → ¬ SourcesFail form old new
       → (status ≡ other) ⊎ (status ≡ Memory)
   exactly status (inr written) job image other of told refused none =
       absurd (given_not_refused form (inputs old boxes) told written.0 written.1 other of refused)

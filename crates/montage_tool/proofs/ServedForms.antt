@@ -2,6 +2,8 @@
 use Rattle.std.proofs.Common.{◌≡◌, ◌⊎◌, ◌↔◌, ℕ, ◌+◌, List, [], ◌∷◌, length, codes, inl, inr, refl, sym, ap, ◌∙◌, subst, arith}
 use Rattle.std.specs.Prelude.{Option, Some, None, IfErr, IfOk, OnOk, Result, Ok, Err}
 use Rattle.std.specs.Io.KnownBytes.{IsAtEnd}
+use Rattle.bank_job.specs.Bank.{bank_layout}
+use Rattle.big_job.specs.Generated.{generated_head}
 use Rattle.job_text.specs.declared.limits.TheConstants.{READ_BYTES}
 use Rattle.mont_image.specs.declared.image_text.TheConstants.{IMAGE_BYTES}
 use Rattle.montage_tool.specs.declared.forms.Form.{Form}
@@ -14,6 +16,7 @@ use Rattle.montage_tool.specs.Devices.{Devices, HasOutput, IsQuiet, IsRead, IsUs
 use Rattle.montage_tool.specs.Forms.{AreHelp, AreVersion, AsksImage, AsksJob, HaveForm, IsForm, image_bytes, job_bytes}
 use Rattle.replay.specs.declared.schedule_limits.TheConstants.{SCHEDULE_BYTES}
 use Rattle.montage_tool.specs.declared.reading.TheConstants.{REPORT_BYTES}
+use Rattle.montage_tool.specs.GeneratedForms.{IsBankText, IsBigText, RefusesStore}
 use Rattle.montage_tool.specs.Judged.{IsHeld, IsReplayed, RefusesCheck, RefusesReplay}
 use Rattle.montage_tool.specs.Inputs.{inputs}
 use Rattle.montage_tool.specs.Service.{AreContents, Gives, IsFreshRun, IsResumedRun, Refuses, RefusesFresh, RefusesImage, RefusesResumed, Serves}
@@ -21,7 +24,7 @@ use Rattle.montage_tool.specs.declared.about.Question.{Question}
 use Rattle.montage_tool.specs.declared.about.Question.TheVariants as questions
 use Rattle.montage_tool.specs.declared.about.TheConstants.{HELP, VERSION}
 use Rattle.montage_tool.specs.Program.{Answers, IsTold}
-use Rattle.montage_tool.proofs.FormWords.{same_form}
+use Rattle.montage_tool.proofs.FormWords.{first_byte, same_form}
 use Rattle.montage_tool.proofs.Served.{read_on, refuses_quiet, serves, written_out}
 
 -- ---- results
@@ -190,6 +193,29 @@ module _
       refused sent unsent source unasked
       (err_map (λ s. Unit {0}) (λ s. StopsAtJob s → new.image ≡ old.image) made (λ s t stops. unasked) (any_err made)) (λ asks. whole))
 
+  -- the text of a run of what is generated, for which no source is asked
+  module _ (unasked : new.job ≡ old.job) (unasked_too : new.image ≡ old.image) (sent : WritesReport) where
+    never_stops : IfErr made (λ s. StopsAtJob s → new.image ≡ old.image)
+    never_stops = err_map (λ s. Unit {0}) (λ s. StopsAtJob s → new.image ≡ old.image) made (λ s t stops. unasked_too) (any_err made)
+
+    pub serves_big : (form : Form) (number : ℕ) → form ≡ forms.Big number → IfOk made (λ a. IsBigText number boxes (report a))
+        → IfErr made (RefusesStore generated_head.layout boxes) → Serves form boxes old new status
+    serves_big form number is told refused =
+        subst (λ (f : Form). Serves f boxes old new status) (sym is)
+        (serves_made (forms.Big number) boxes old new status (λ a. record { text = report a; image = None }) made
+        (ok_map (λ a. IsBigText number boxes (report a))
+        (λ a. Gives (forms.Big number) (inputs old boxes) (record { text = report a; image = None })) made (λ a sum. (sum, refl)) told)
+        refused sent unsent unasked unasked_too never_stops (λ asks. absurd asks))
+
+    pub serves_bank : (form : Form) (number : ℕ) → form ≡ forms.Bank number → IfOk made (λ a. IsBankText number boxes (report a))
+        → IfErr made (RefusesStore bank_layout boxes) → Serves form boxes old new status
+    serves_bank form number is told refused =
+        subst (λ (f : Form). Serves f boxes old new status) (sym is)
+        (serves_made (forms.Bank number) boxes old new status (λ a. record { text = report a; image = None }) made
+        (ok_map (λ a. IsBankText number boxes (report a))
+        (λ a. Gives (forms.Bank number) (inputs old boxes) (record { text = report a; image = None })) made (λ a bank. (bank, refl)) told)
+        refused sent unsent unasked unasked_too never_stops (λ asks. absurd asks))
+
 -- ---- devices that stay as they were
 module _ {A : Type 0} (output : A → Output) (made : Result A Status) (status : Status) (old new image_out kept : SinkSeen)
     (sent : IfOk made (λ a. IsWritten (output a) old new image_out kept status)) where
@@ -257,10 +283,6 @@ serves_words words a of boxes old new status is form too =
     subst (λ (f : Form). Serves f boxes old new status) (same_form words a form of too) is
 
 -- words that ask the program of itself have no form
-abbrev first_byte : List ℕ → ℕ
-first_byte [] = 0
-first_byte (byte ∷ bytes) = byte
-
 abbrev name_of : List (List ℕ) → List ℕ
 name_of [] = []
 name_of (name ∷ words) = name
@@ -277,6 +299,8 @@ question_none words question dash is (forms.Replay, of) =
     let n : first_byte question ≡ 114 = ap (λ (ws : List (List ℕ)). first_byte (name_of ws)) (sym is ∙ of) in
     absurd (omega arith)
 question_none words question dash is (forms.Recover workers, of) = let n = ap length (sym is ∙ of.2.1) in absurd (omega arith)
+question_none words question dash is (forms.Big number, of) = let n = ap length (sym is ∙ of.1) in absurd (omega arith)
+question_none words question dash is (forms.Bank number, of) = let n = ap length (sym is ∙ of.1) in absurd (omega arith)
 
 pub help_none : (words : List (List ℕ)) → AreHelp words → HaveForm words → ⊥
 help_none words is have = question_none words (codes "--help") refl is have

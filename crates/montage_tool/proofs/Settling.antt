@@ -72,9 +72,12 @@ module _ (before middle last : ℕ) (rose : Rose middle last) where
   gives_image forms.ResumeTo i o keeps gives taken = front_lost o.image gives.0 gives.2 taken
   gives_image (forms.Recover workers) i o keeps gives taken = absurd keeps
   gives_image forms.Check i o keeps gives taken = absurd keeps
+  gives_image (forms.Big number) i o keeps gives taken = absurd keeps
+  gives_image (forms.Bank number) i o keeps gives taken = absurd keeps
   gives_image forms.Replay i o keeps gives taken = absurd keeps
 
-module _ (boxes : List ℕ) (job image : SourceSeen) (out : SinkSeen) (before middle last : ℕ) (read image_read : SourceSeen) (told : SinkSeen) where
+module _ (boxes : List ℕ) (job image : SourceSeen) (out : SinkSeen) (before middle last : ℕ) (read image_read : SourceSeen)
+    (told : SinkSeen) where
   abbrev behind : ℕ → Devices
   behind faults = with read image_read told faults
 
@@ -111,6 +114,8 @@ module _ (boxes : List ℕ) (job image : SourceSeen) (out : SinkSeen) (before mi
     keeps_image (forms.Recover workers) is = some (ap (λ (f : FileWords). f.image_out) is)
     keeps_image forms.Check is = some (ap (λ (f : FileWords). f.image_out) is)
     keeps_image forms.Replay is = some (ap (λ (f : FileWords). f.image_out) is)
+    keeps_image (forms.Big number) is = some (ap (λ (f : FileWords). f.image_out) is)
+    keeps_image (forms.Bank number) is = some (ap (λ (f : FileWords). f.image_out) is)
 
     formless : ¬ HaveForm words → ⊥
     formless none = some (ap (λ (f : FileWords). f.image_out) (others none))

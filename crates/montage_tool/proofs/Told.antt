@@ -28,13 +28,17 @@ use Rattle.replay.proofs.OneSchedule.{schedule_once}
 use Rattle.replay.proofs.Reaching.{all_or_none}
 use Rattle.replay.proofs.ScheduleFronts.{not_refused}
 use Rattle.montage_tool.specs.Judged.{HasFaultyBytes, IsOldImage, IsScheduleOf, IsWrongReport, MayBeHeld, MayBeReplayed, RefusesCheck, RefusesNewImage, RefusesReplay, RefusesReport, TellsReport}
+use Rattle.bank_job.specs.Bank.{bank_layout}
+use Rattle.big_job.specs.Generated.{generated_head}
 use Rattle.store.specs.MapBoxes.{HaveEmptyBoxes, IsFirstLack}
 use Rattle.montage_tool.specs.declared.forms.Form.{Form}
 use Rattle.montage_tool.specs.declared.forms.Form.TheVariants as forms
 use Rattle.montage_tool.specs.declared.status.Status.{Status}
 use Rattle.montage_tool.specs.declared.status.Status.TheVariants.{Done, BadWords, BadJob, BadImage, ReadFault, WriteFault, Memory, BadIndex, OtherLayout, BadReport, NotAllowed, BadSchedule}
+use Rattle.montage_tool.specs.GeneratedForms.{RefusesStore}
 use Rattle.montage_tool.specs.Inputs.{AreOf, HasBadBytes, HasBadLine, HasImageFault, HoldsFault, Inputs, IsImageOf, IsJobOf, TellsImage, TellsJob}
 use Rattle.montage_tool.specs.Service.{MayBeDone, MayRunFresh, MayRunResumed, Refuses, RefusesFresh, RefusesImage, RefusesJob, RefusesResumed}
+use Rattle.montage_tool.proofs.StoreRefused.{boxed_lacks_none, refused_store}
 
 -- ---- a job
 module _ (left : Option (List ℕ)) (j : Job) (told : TellsJob left j) where
@@ -89,10 +93,6 @@ module _ (left : Option (List ℕ)) (p : ImageParts) (told : TellsImage left p) 
   no_fault accepted (faults.Slot slot fault) bad = no_held accepted (held.Slot slot fault) (λ e. absurd (cc)) bad
   no_fault accepted (faults.Twice slot other) bad = no_held accepted (held.Twice slot other) (λ e. absurd (cc)) bad
   no_fault accepted (faults.Object unit slot fault) bad = no_held accepted (held.Object unit slot fault) (λ e. absurd (cc)) bad
-
--- ---- boxes
-pub boxed_lacks_none : (s : Shape) (boxes : List ℕ) (unit : ℕ) (len : Option ℕ) → HaveEmptyBoxes s boxes → IsFirstLack s boxes unit len → ⊥
-boxed_lacks_none s boxes unit len boxed lack = lack.lacks (sym lack.has ∙ boxed unit lack.map)
 
 -- ---- what may be done
 -- a source failed, or memory ran out
@@ -283,6 +283,11 @@ replay_outside left may Memory refused = tt
 replay_outside left may (BadIndex unit len) refused = refused
 replay_outside left may (OtherLayout kinds slots) refused = refused
 
+-- ---- of a store that is made
+store_outside : (s : Shape) (boxes : List ℕ) → HaveEmptyBoxes s boxes → (status : Status) → RefusesStore s boxes status → IsOutside status
+store_outside s boxes boxed status refused =
+    refused_store IsOutside s boxes (λ unit len lack. absurd (boxed_lacks_none s boxes unit len boxed lack)) tt status refused
+
 -- what may be done is refused for what a source or memory did
 pub may_outside : (form : Form) (i : Inputs) → MayBeDone form i → (status : Status) → Refuses form i status → IsOutside status
 may_outside forms.Run i may status refused = fresh_outside i may status refused
@@ -292,6 +297,8 @@ may_outside forms.ResumeTo i may status refused = resumed_outside i may status r
 may_outside (forms.Recover workers) i may status refused = image_outside i.image may.parts may.told may.accepted status refused
 may_outside forms.Check i may status refused = check_outside i.job i.image may status refused
 may_outside forms.Replay i may status refused = replay_outside i.job may status refused
+may_outside (forms.Big number) i may status refused = store_outside generated_head.layout i.boxes may status refused
+may_outside (forms.Bank number) i may status refused = store_outside bank_layout i.boxes may status refused
 
 -- a job that is told isn't refused for a line
 pub told_not_refused : (form : Form) (i : Inputs) (j : Job) → TellsJob i.job j → (line : ℕ) (fault : JobFault)
@@ -306,6 +313,8 @@ told_not_refused (forms.Recover workers) i j told line fault refused = refused
 told_not_refused forms.Check i j told line fault (inl refused) = refused
 told_not_refused forms.Check i j told line fault (inr refused) = refused.1
 told_not_refused forms.Replay i j told line fault refused = refused
+told_not_refused (forms.Big number) i j told line fault refused = refused
+told_not_refused (forms.Bank number) i j told line fault refused = refused
 
 -- no form refuses its own words
 pub never_words : (form : Form) (i : Inputs) → Refuses form i BadWords → ⊥
@@ -319,3 +328,5 @@ never_words (forms.Recover workers) i refused = refused
 never_words forms.Check i (inl refused) = refused
 never_words forms.Check i (inr refused) = refused.1
 never_words forms.Replay i refused = refused
+never_words (forms.Big number) i refused = refused
+never_words (forms.Bank number) i refused = refused

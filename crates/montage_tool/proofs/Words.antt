@@ -8,13 +8,14 @@ one_word f [] x text some few is spelled = absurd (omega arith)
 one_word f (y ∷ []) x text some few is spelled = ap (λ z. f z ∷ []) (sym is) ∙ ap (λ (t : List ℕ). t ∷ []) spelled
 one_word f (y ∷ z ∷ xs) x text some few is spelled = absurd (omega arith)
 
--- what holds of two words, or of three, whatever the second is, holds of a command line of so many
-pub two_words : {A : Type 0} (f : A → List ℕ) (xs : List A) (x : A) → 2 ≤ length xs → length xs < 3 → x ≡ get_or xs 0 x
-    → (P : List (List ℕ) → Type 0) → ((file : List ℕ) → P (f x ∷ file ∷ [])) → P (map f xs)
-two_words f [] x some few is P has = absurd (omega arith)
-two_words f (y ∷ []) x some few is P has = absurd (omega arith)
-two_words f (y ∷ z ∷ []) x some few is P has = subst (λ (w : _). P (f w ∷ f z ∷ [])) is (has (f z))
-two_words f (y ∷ z ∷ w ∷ xs) x some few is P has = absurd (omega arith)
+-- what holds of two words, or of three, whatever the second of three is, holds of a command line of so many
+pub two_words : {A : Type 0} (f : A → List ℕ) (xs : List A) (x y : A) → 2 ≤ length xs → length xs < 3 → x ≡ get_or xs 0 x
+    → y ≡ get_or xs 1 y → (P : List (List ℕ) → Type 0) → P (f x ∷ f y ∷ []) → P (map f xs)
+two_words f [] x y some few is last P has = absurd (omega arith)
+two_words f (a ∷ []) x y some few is last P has = absurd (omega arith)
+two_words f (a ∷ b ∷ []) x y some few is last P has =
+    subst (λ (v : _). P (f v ∷ f b ∷ [])) is (subst (λ (w : _). P (f x ∷ f w ∷ [])) last has)
+two_words f (a ∷ b ∷ c ∷ xs) x y some few is last P has = absurd (omega arith)
 
 pub three_words : {A : Type 0} (f : A → List ℕ) (xs : List A) (x y : A) → 3 ≤ length xs → length xs < 4 → x ≡ get_or xs 0 x
     → y ≡ get_or xs 2 y → (P : List (List ℕ) → Type 0) → ((file : List ℕ) → P (f x ∷ file ∷ f y ∷ [])) → P (map f xs)

@@ -1,5 +1,5 @@
 -- What is seen of the devices, and what was read of a source and written to a sink.
-use Rattle.std.specs.Prelude.{◌≡◌, ◌≢◌, ◌⊎◌, ℕ, List, Option, Some, None, IfSome, Result, Ok, Err}
+use Rattle.std.specs.Prelude.{◌≡◌, ◌≢◌, ℕ, List, Option, Some, None, IfSome, Result, Ok, Err}
 use Rattle.std.specs.Io.KnownBytes.{Appends, IsAtEnd}
 use Rattle.mont_base.specs.declared.sink.Sink as sink_trait
 use Rattle.mont_base.specs.declared.source.Source as source_trait
@@ -34,14 +34,6 @@ source_seen of s = record { left = of.left s; faults = of.faults s }
 
 abbrev pub sink_seen : {K : Type 0} → sink_trait.Ghosts K → K → SinkSeen
 sink_seen of s = record { taken = of.taken s; faults = of.faults s }
-
--- a count of faults rose, or stands at its last value
-abbrev pub SourcesFail : Devices → Devices → Type 0
-SourcesFail old new = Rose old.job.faults new.job.faults ⊎ Rose old.image.faults new.image.faults
-
-abbrev pub SinksFail : Devices → Devices → Type 0
-SinksFail old new =
-    Rose old.out.faults new.out.faults ⊎ Rose old.image_out.faults new.image_out.faults
 
 -- ---- by how it ended
 -- all was written, or what could be

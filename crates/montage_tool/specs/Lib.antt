@@ -4,6 +4,7 @@ pub mod Forms
 pub mod Devices
 pub mod Inputs
 pub mod Judged
+pub mod GeneratedForms
 pub mod Service
 pub mod Program
 pub mod CommandLine

@@ -1,9 +1,12 @@
 -- What each form of words is answered: what may be written, and why nothing is.
 use Rattle.std.specs.Prelude.{◌≡◌, ◌≢◌, ◌⊎◌, ℕ, List, false, Option, Some, None}
 use Rattle.std.specs.Io.KnownBytes.{IsAtEnd}
+use Rattle.mont_base.specs.Faults.{Rose}
 use Rattle.mont_base.specs.Image.{IsRecovered, clock_of}
 use Rattle.mont_base.specs.Layout.{Shape, shape}
 use Rattle.mont_base.specs.State.{State}
+use Rattle.bank_job.specs.Bank.{bank_layout}
+use Rattle.big_job.specs.Generated.{generated_head}
 use Rattle.job_store.specs.Base.{Base, IsBaseIn, nothing}
 use Rattle.job_store.specs.ImageNow.{AreWordsNow, IsAccepted}
 use Rattle.job_store.specs.ResumedRun.{Fits, IsOfOther, MayBeResumed}
@@ -15,12 +18,13 @@ use Rattle.job_text.specs.ReportText.{contents_text, report_text}
 use Rattle.mont_image.specs.ImageText.{ImageParts, IsTextOf, image_text}
 use Rattle.store.specs.MapBoxes.{HaveEmptyBoxes, IsFirstLack}
 use Rattle.montage_tool.specs.declared.forms.Form.{Form}
-use Rattle.montage_tool.specs.declared.forms.Form.TheVariants.{Run, Crash, Resume, ResumeTo, Recover, Check, Replay}
+use Rattle.montage_tool.specs.declared.forms.Form.TheVariants.{Run, Crash, Resume, ResumeTo, Recover, Check, Replay, Big, Bank}
 use Rattle.montage_tool.specs.declared.status.Status.{Status}
 use Rattle.montage_tool.specs.declared.status.Status.TheVariants.{Done, BadJob, BadImage, OtherLayout, ReadFault, Memory, BadIndex, BadReport, NotAllowed, BadSchedule}
 use Rattle.montage_tool.specs.declared.status.SourceName.TheVariants as sources
-use Rattle.montage_tool.specs.Devices.{Devices, HasOutput, IsQuiet, IsUsed, IsWritten, Output, SinksFail, SourcesFail, StopsAtJob}
-use Rattle.montage_tool.specs.Forms.{AsksImage, AsksJob, image_bytes, job_bytes}
+use Rattle.montage_tool.specs.Devices.{Devices, HasOutput, IsQuiet, IsUsed, IsWritten, Output, StopsAtJob}
+use Rattle.montage_tool.specs.Forms.{AsksImage, AsksJob, KeepsImage, image_bytes, job_bytes}
+use Rattle.montage_tool.specs.GeneratedForms.{IsBankText, IsBigText, RefusesStore}
 use Rattle.montage_tool.specs.Judged.{IsHeld, IsReplayed, MayBeHeld, MayBeReplayed, RefusesCheck, RefusesReplay}
 use Rattle.montage_tool.specs.Inputs.{AreOf, HasBadLine, HasImageFault, Inputs, IsImageOf, IsJobOf, TellsImage, TellsJob, inputs}
 
@@ -85,6 +89,8 @@ Gives ResumeTo i o = (image : List ℕ) × IsResumedRun i o.text image × (o.ima
 Gives (Recover workers) i o = AreContents i.image o.text × (o.image ≡ None)
 Gives Check i o = IsHeld i.job i.image o.text × (o.image ≡ None)
 Gives Replay i o = IsReplayed i.job o.text × (o.image ≡ None)
+Gives (Big number) i o = IsBigText number i.boxes o.text × (o.image ≡ None)
+Gives (Bank number) i o = IsBankText number i.boxes o.text × (o.image ≡ None)
 
 -- ---- why nothing is: the first of these that holds, but that memory may run out at any time
 -- the source of the job fails, or its bytes are no job's
@@ -127,6 +133,8 @@ Refuses ResumeTo i status = RefusesResumed i status
 Refuses (Recover workers) i status = RefusesImage i.image status
 Refuses Check i status = RefusesCheck i.job i.image status
 Refuses Replay i status = RefusesReplay i.job status
+Refuses (Big number) i status = RefusesStore generated_head.layout i.boxes status
+Refuses (Bank number) i status = RefusesStore bank_layout i.boxes status
 
 -- a refusal for what the inputs are, and not for what a source or memory did
 abbrev pub IsOfInputs : Status → Type 0
@@ -173,8 +181,21 @@ MayBeDone ResumeTo i = MayRunResumed i
 MayBeDone (Recover workers) i = MayTellContents i
 MayBeDone Check i = MayBeHeld i.job i.image
 MayBeDone Replay i = MayBeReplayed i.job
+MayBeDone (Big number) i = HaveEmptyBoxes generated_head.layout i.boxes
+MayBeDone (Bank number) i = HaveEmptyBoxes bank_layout i.boxes
 
 -- ---- what came of a form
+-- the count of faults of a source or a sink that it asks rose, or stands at its last value
+abbrev pub SourcesFail : Form → Devices → Devices → Type 0
+SourcesFail form old new =
+    (AsksJob form × Rose old.job.faults new.job.faults)
+    ⊎ (AsksImage form × Rose old.image.faults new.image.faults)
+
+abbrev pub SinksFail : Form → Devices → Devices → Type 0
+SinksFail form old new =
+    Rose old.out.faults new.out.faults
+    ⊎ (KeepsImage form × Rose old.image_out.faults new.image_out.faults)
+
 -- why nothing was written, or what was
 abbrev pub Comes : Form → Inputs → Devices → Devices → Status → Type 0
 Comes form i old new status =
@@ -195,12 +216,13 @@ pub record Serves (form : Form) (boxes : List ℕ) (old new : Devices) (status :
   pub accepted :
       (job : Job) (line : ℕ) (fault : JobFault) → TellsJob old.job.left job
       → status ≢ BadJob line fault
-  -- a refusal that the inputs have is told where no source fails, unless memory runs out
+  -- a refusal that the inputs have is told where no source that is asked fails, unless memory runs
+  -- out
   pub exact :
       (other : Status) → IsOfInputs other → TellsInputs form (inputs old boxes)
-      → Refuses form (inputs old boxes) other → ¬ SourcesFail old new
+      → Refuses form (inputs old boxes) other → ¬ SourcesFail form old new
       → (status ≡ other) ⊎ (status ≡ Memory)
-  -- where the form may be done and no device fails, it is, unless memory runs out
+  -- where the form may be done and no device that is asked fails, it is, unless memory runs out
   pub complete :
-      MayBeDone form (inputs old boxes) → ¬ SourcesFail old new → ¬ SinksFail old new
+      MayBeDone form (inputs old boxes) → ¬ SourcesFail form old new → ¬ SinksFail form old new
       → (status ≡ Done) ⊎ (status ≡ Memory)

@@ -15,6 +15,10 @@ usage:
   montage check FILE             holds the report on standard input against the image
                                  FILE: yes, or no and the first that differs
   montage replay                 replays the schedule on standard input, step by step
+  montage big NUMBER             runs the generated job of a number, 20000 lines on
+                                 threads, and writes sums of what a crash leaves
+  montage bank NUMBER            runs the generated bank of a number, transfers on
+                                 threads, and writes them with the accounts' total
   montage --help                 this text
   montage --version              the version
 
@@ -27,6 +31,8 @@ examples:
   montage resume a.image b.image < examples/reads.job > b.report
   montage check b.image < b.report
   montage replay < examples/put.schedule
+  montage big 7
+  montage bank 7
 
 A job is lines of text. The first is
   montage-job 3 KINDS S N A MASK

@@ -2,7 +2,7 @@
 ghost use Rattle.std.specs.Prelude.{◌≡◌, ℕ, List, [], ◌∷◌, map, string_bytes, MatchOption};
 ghost use Rattle.montage_tool.specs.Forms.{FormsAreOne, HaveForm, IsForm, files_in, no_files};
 
-use job_text::number_within;
+use job_text::{number, number_within};
 
 /// More workers aren't asked of `recover`.
 const MOST_WORKERS: u64 = 64;
@@ -36,6 +36,10 @@ pub enum Form {
     Check,
     /// `replay`: the schedule of standard input is replayed.
     Replay,
+    /// `big NUMBER`: the generated job of a number is run, and its summary is written.
+    Big { number: u64 },
+    /// `bank NUMBER`: the generated bank of a number is run, and its text is written.
+    Bank { number: u64 },
 }
 
 /// The law that words are of one form at most.
@@ -53,6 +57,7 @@ pub fn files_of(words: &[String]) -> FileWords
         Some(Form::Crash) => (None, Some(1)),
         Some(Form::Resume | Form::Recover { .. } | Form::Check) => (Some(1), None),
         Some(Form::ResumeTo) => (Some(1), Some(2)),
+        Some(Form::Big { .. } | Form::Bank { .. }) => (None, None),
         Some(Form::Run | Form::Replay) | None => (None, None),
     };
     FileWords { image, image_out }
@@ -65,7 +70,7 @@ pub(crate) fn form_of(words: &[String]) -> Option<Form>
 {
     match words {
         [name] => form_alone(name),
-        [name, _] => form_with_file(name),
+        [name, behind] => form_with_one(name, behind),
         [name, _, last] => form_with_two(name, last),
         _ => None,
     }
@@ -82,15 +87,21 @@ fn form_alone(name: &str) -> Option<Form>
     }
 }
 
-// The form of a word and a file.
-fn form_with_file(name: &str) -> Option<Form>
-    ensures { (file : List ℕ) → MatchOption result (¬ HaveForm (name.now ∷ file ∷ []))
-        (IsForm (name.now ∷ file ∷ [])) }
+// The form of two words, the second a file or a number.
+fn form_with_one(name: &str, behind: &str) -> Option<Form>
+    ensures { MatchOption result (¬ HaveForm (name.now ∷ behind.now ∷ []))
+        (IsForm (name.now ∷ behind.now ∷ [])) }
 {
     match name {
         "crash" => Some(Form::Crash),
         "resume" => Some(Form::Resume),
         "check" => Some(Form::Check),
+        "big" => Some(Form::Big {
+            number: number(behind.as_bytes())?,
+        }),
+        "bank" => Some(Form::Bank {
+            number: number(behind.as_bytes())?,
+        }),
         _ => None,
     }
 }

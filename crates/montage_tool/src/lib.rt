@@ -8,6 +8,7 @@ mod command_line;
 mod contents;
 mod file_sink;
 mod forms;
+mod generated_runs;
 mod job_runs;
 mod kind_letters;
 mod program;

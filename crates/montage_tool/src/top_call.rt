@@ -7,6 +7,7 @@ ghost use Rattle.montage_tool.specs.Service.{Serves};
 
 use crate::contents::contents_of;
 use crate::forms::{Form, form_of};
+use crate::generated_runs::{bank_run, big_run};
 use crate::job_runs::{fresh_run, resumed_run};
 use crate::replayed_text::replayed_text;
 use crate::sending::{send_both, send_report, send_text};
@@ -24,9 +25,10 @@ use std::thread::Threads;
 /// is what the operations of all epochs but the last two lead to (buffered durable linearizability,
 /// DISC 2016). `crash` writes that image too, behind the whole report. `resume` goes on from an
 /// image, and `recover` tells what one holds. `check` holds a report against an image, and `replay`
-/// replays a schedule. Each map unit is given the next of the boxes, which is to be empty;
-/// `recover`, `check` and `replay` drop them. Nothing is written before all was read and run. What a
-/// form doesn't use isn't asked.
+/// replays a schedule. `big` runs the generated job of a number and tells its summary, and `bank`
+/// the generated bank, whose accounts keep their total. Each map unit is given the next of the
+/// boxes, which is to be empty; `recover`, `check` and `replay` drop them. Nothing is written before
+/// all was read and run. What a form doesn't use isn't asked.
 pub fn montage<R: AllocGlobal + Threads + Wait + Sync, J: Source, I: Source, O: Sink, K: Sink>(
     rt: &R,
     words: &[String],
@@ -115,5 +117,13 @@ fn serve_form<R: AllocGlobal + Threads + Wait + Sync, J: Source, I: Source, O: S
         Form::Recover { workers } => send_text(out, contents_of(rt, image, workers)),
         Form::Check => send_text(out, verdict_of(rt, job, image)),
         Form::Replay => send_text(out, replayed_text(rt.alloc(), job)),
+        Form::Big { number } => {
+            let text = big_run::<_, Box<dyn Index + Send>>(rt, number, indexes);
+            send_text(out, text)
+        }
+        Form::Bank { number } => {
+            let text = bank_run::<_, Box<dyn Index + Send>>(rt, number, indexes);
+            send_text(out, text)
+        }
     }
 }

@@ -5,10 +5,11 @@ use Rattle.montage_tool.proofs.forms.form_of.Goals as goal
 
 pub returns-in-len2 : goal.returns-in-len2
 returns-in-len2 c =
-    let found : List (List ℕ) → Type 0 = λ ws. MatchOption c.form_with_file.result (¬ HaveForm ws) (IsForm ws) in
-    two_words string_bytes c.args.words.now c.name-item-then-words-lt3.result c.in-len2.len_at_least c.in-len2.len_below
-    c.name-item-then-words-lt3.is found
-    (λ file. subst (λ (name : List ℕ). found (name ∷ file ∷ [])) c.deref-in-len2.ensures (c.form_with_file.ensures file))
+    let found : List (List ℕ) → Type 0 = λ ws. MatchOption c.form_with_one.result (¬ HaveForm ws) (IsForm ws) in
+    two_words string_bytes c.args.words.now c.name-item-then-words-lt3.result c.behind-item.result c.in-len2.len_at_least
+    c.in-len2.len_below c.name-item-then-words-lt3.is c.behind-item.is found
+    (subst (λ (name : List ℕ). found (name ∷ string_bytes c.behind-item.result ∷ [])) c.deref-in-len2.ensures
+    (subst (λ (behind : List ℕ). found (c.deref-in-len2.result.now ∷ behind ∷ [])) c.deref-in-len2-2.ensures c.form_with_one.ensures))
 
 pub returns-in-len3 : goal.returns-in-len3
 returns-in-len3 c =

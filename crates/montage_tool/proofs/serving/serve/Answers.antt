@@ -16,10 +16,10 @@ returns-then-is_some-clause-answered g c =
     let many = c.loop-pair.invariant in
     let test = c.loop-pair-test.false in
     let words = map string_bytes c.args.words.now in
-    answered_by g.J.Source g.O.Sink words c.args.job.now c.answer-status.new.job c.args.out.now c.answer-status.new.out c.settled.result _ _ _
-    _ _ (length-map c.loop-pair.indexes.items _ ∙ omega (arith, many, test))
-    (settled_answers _ _ _ _ c.in_ok-image_out.image_out.faults c.answer-status.new.image_out.faults c.settled.new.image_out.faults _ _ _ words
-    c.files_of-files.result c.files_of-files.ensures.named c.files_of-files.ensures.others
+    answered_by g.J.Source g.O.Sink words c.args.job.now c.answer-status.new.job c.args.out.now c.answer-status.new.out c.settled.result
+    _ _ _ _ _ (length-map c.loop-pair.indexes.items _ ∙ omega (arith, many, test))
+    (settled_answers _ _ _ _ c.in_ok-image_out.image_out.faults c.answer-status.new.image_out.faults c.settled.new.image_out.faults _ _ _
+    words c.files_of-files.result c.files_of-files.ensures.named c.files_of-files.ensures.others
     (some_of c.files_of-files.result.image_out c.is_some.result c.is_some.ensures c.if-is_some.true) c.answer-status.result
     c.settled.result c.settled.ensures c.answer-status.ensures.answered)
     c.answer-status.ensures.job

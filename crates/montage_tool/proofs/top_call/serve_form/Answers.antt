@@ -2,7 +2,7 @@ use Rattle.std.proofs.Common.{None, refl, sym, subst}
 use Rattle.mont_image.specs.ImageText.{image_text}
 use Rattle.montage_tool.specs.Devices.{sink_seen, source_seen}
 use Rattle.montage_tool.specs.Forms.{AsksImage}
-use Rattle.montage_tool.proofs.ServedForms.{err_status, first_seen, never_first, quiet_one, quiet_two, serves_check, serves_crash, serves_recover, serves_replay, serves_resume, serves_resume_to, serves_run, stays_quiet, stays_unasked}
+use Rattle.montage_tool.proofs.ServedForms.{err_status, first_seen, never_first, quiet_one, quiet_two, serves_bank, serves_big, serves_check, serves_crash, serves_recover, serves_replay, serves_resume, serves_resume_to, serves_run, stays_quiet, stays_unasked}
 use Rattle.montage_tool.proofs.top_call.serve_form.Goals as goal
 
 pub returns-in-Run-clause-serves : goal.returns-in-Run-clause-serves
@@ -39,8 +39,9 @@ returns-in-Resume-clause-serves g c =
     c.resumed_run-run.result
     (quiet_one (sink_seen g.O.Sink) c.resumed_run-run.result c.send_report-in-Resume.result c.args.out.now
     c.send_report-in-Resume.new.out _ _ refl refl refl c.send_report-in-Resume.ensures.refused)
-    made.made made.refused made.job made.whole made.image (first_seen (source_seen g.I.Source) c.resumed_run-run.result c.args.image.now c.resumed_run-run.new.image made.first)
-    c.args.form c.in-Resume.is (c.send_report-in-Resume.ensures.made (sink_seen g.K.Sink c.args.image_out.now))
+    made.made made.refused made.job made.whole made.image
+    (first_seen (source_seen g.I.Source) c.resumed_run-run.result c.args.image.now c.resumed_run-run.new.image made.first) c.args.form
+    c.in-Resume.is (c.send_report-in-Resume.ensures.made (sink_seen g.K.Sink c.args.image_out.now))
 
 pub returns-in-Resume-clause-image : goal.returns-in-Resume-clause-image
 returns-in-Resume-clause-image g c =
@@ -143,3 +144,33 @@ returns-in-Replay-clause-out g c =
     stays_quiet (λ t. record { text = t.items; image = None }) c.replayed_text.result c.send_text-in-Replay.result
     (sink_seen g.O.Sink c.args.out.now) (sink_seen g.O.Sink c.send_text-in-Replay.new.out) kept kept
     (c.send_text-in-Replay.ensures.made kept) c.args.out.now c.send_text-in-Replay.new.out c.send_text-in-Replay.ensures.refused
+
+pub returns-in-Big-clause-serves : goal.returns-in-Big-clause-serves
+returns-in-Big-clause-serves g c =
+    let made = c.big_run-text.ensures in
+    serves_big _ _ _ c.send_text-in-Big.result (λ t. t.items) (λ t. t.items) c.big_run-text.result
+    (quiet_one (sink_seen g.O.Sink) c.big_run-text.result c.send_text-in-Big.result c.args.out.now c.send_text-in-Big.new.out _ _ refl refl
+    refl c.send_text-in-Big.ensures.refused) refl refl (c.send_text-in-Big.ensures.made (sink_seen g.K.Sink c.args.image_out.now))
+    c.args.form c.in-Big.number c.in-Big.is made.told made.refused
+
+pub returns-in-Big-clause-out : goal.returns-in-Big-clause-out
+returns-in-Big-clause-out g c =
+    let kept = sink_seen g.K.Sink c.args.image_out.now in
+    stays_quiet (λ t. record { text = t.items; image = None }) c.big_run-text.result c.send_text-in-Big.result
+    (sink_seen g.O.Sink c.args.out.now) (sink_seen g.O.Sink c.send_text-in-Big.new.out) kept kept (c.send_text-in-Big.ensures.made kept)
+    c.args.out.now c.send_text-in-Big.new.out c.send_text-in-Big.ensures.refused
+
+pub returns-in-Bank-clause-serves : goal.returns-in-Bank-clause-serves
+returns-in-Bank-clause-serves g c =
+    let made = c.bank_run-text.ensures in
+    serves_bank _ _ _ c.send_text-in-Bank.result (λ t. t.items) (λ t. t.items) c.bank_run-text.result
+    (quiet_one (sink_seen g.O.Sink) c.bank_run-text.result c.send_text-in-Bank.result c.args.out.now c.send_text-in-Bank.new.out _ _ refl
+    refl refl c.send_text-in-Bank.ensures.refused) refl refl (c.send_text-in-Bank.ensures.made (sink_seen g.K.Sink c.args.image_out.now))
+    c.args.form c.in-Bank.number c.in-Bank.is made.told made.refused
+
+pub returns-in-Bank-clause-out : goal.returns-in-Bank-clause-out
+returns-in-Bank-clause-out g c =
+    let kept = sink_seen g.K.Sink c.args.image_out.now in
+    stays_quiet (λ t. record { text = t.items; image = None }) c.bank_run-text.result c.send_text-in-Bank.result
+    (sink_seen g.O.Sink c.args.out.now) (sink_seen g.O.Sink c.send_text-in-Bank.new.out) kept kept (c.send_text-in-Bank.ensures.made kept)
+    c.args.out.now c.send_text-in-Bank.new.out c.send_text-in-Bank.ensures.refused
