@@ -10,3 +10,6 @@ pub mod Reaching
 pub mod RecoveredMemories
 pub mod StatesKept
 pub mod UnitStates
+pub mod RecordsKept
+pub mod LeavesJudged
+pub mod NewestBehind

@@ -57,7 +57,7 @@ after_entry s (g ∷ h) e = after_entry (step s g.op).state h e
 entry_set : (us : List UnitPart) (u : ℕ) (p : UnitPart) → histories_of (slice_set us u p) ≡ slice_set (histories_of us) u p.history
 entry_set us u p = map-set (λ (x : UnitPart). x.history) us u p
 
-row_of : {A : Type 0} (o : Option A) (P : A → Type 0) → RowHas o P → (x : A) × (o ≡ Some x) × P x
+pub row_of : {A : Type 0} (o : Option A) (P : A → Type 0) → RowHas o P → (x : A) × (o ≡ Some x) × P x
 row_of None P h = absurd h
 row_of (Some x) P h = (x, refl, h)
 
@@ -146,13 +146,13 @@ answered_states c d u p q e layout units history =
     (let number : 0 + u ≡ u = omega arith in
     ap (λ (n : ℕ). state_of_history c.layout (n, p.history ++ e ∷ [])) number ∙ after_entry (base_state (nothing c.layout) u) p.history e)
 
-read_row : (c : Core) (u k : ℕ) (o : Op) (r : Reply) (p : UnitPart) (q : CallerPart) → slice_get c.units u ≡ Some p
+pub read_row : (c : Core) (u k : ℕ) (o : Op) (r : Reply) (p : UnitPart) (q : CallerPart) → slice_get c.units u ≡ Some p
     → slice_get c.callers k ≡ Some q → after c (events.Read u k o r) ≡ read c u p k q (entry_of k q o r (clock c))
 read_row c u k o r p q at by =
     (λ i. on_row (at i) c (λ x. on_row (slice_get c.callers k) c (λ y. read c u x k y (entry_of k y o r (clock c)))))
     ∙ (λ i. on_row (by i) c (λ y. read c u p k y (entry_of k y o r (clock c))))
 
-leave_row : (c : Core) (u k : ℕ) (o : Op) (r : Reply) (p : UnitPart) (q : CallerPart) → slice_get c.units u ≡ Some p
+pub leave_row : (c : Core) (u k : ℕ) (o : Op) (r : Reply) (p : UnitPart) (q : CallerPart) → slice_get c.units u ≡ Some p
     → slice_get c.callers k ≡ Some q → after c (events.Leave u k o r) ≡ leave c u p k q (entry_of k q o r (epoch_of p.stage))
 leave_row c u k o r p q at by =
     (λ i. on_row (at i) c (λ x. on_row (slice_get c.callers k) c (λ y. leave c u x k y (entry_of k y o r (epoch_of x.stage)))))
@@ -195,11 +195,11 @@ pub record IsAnswered (c : Core) (u k : ℕ) (o : Op) (r : Reply) (x : State) : 
 
 module _ (c : Core) (sound : IsSound (nothing c.layout) c) (u k : ℕ) (o : Op) (r : Reply) (x : State)
     (at : slice_get (unit_states c) u ≡ Some x) where
-  own_unit : (p : UnitPart) → slice_get c.units u ≡ Some p → x ≡ unit_state c u p
+  pub own_unit : (p : UnitPart) → slice_get c.units u ≡ Some p → x ≡ unit_state c u p
   own_unit p here =
       let both : ◌≡◌ {A = Option State} (Some x) (Some (unit_state c u p)) = sym at ∙ state_there c u p here in cc
 
-  shown : (p : UnitPart) → slice_get c.units u ≡ Some p → HasStructure c.layout u p.records (unit_state c u p)
+  pub shown : (p : UnitPart) → slice_get c.units u ≡ Some p → HasStructure c.layout u p.records (unit_state c u p)
   shown p here =
       let f = sound.units u p here in
       shown_whole c.layout (durable_clock c) u (base_state (nothing c.layout) u) p.records p.history f.objects (limit_of (clock c) p.stage) f.reached

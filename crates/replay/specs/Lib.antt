@@ -4,3 +4,4 @@ pub mod Schedules
 pub mod ScheduleText
 pub mod SchedulesRead
 pub mod Replays
+pub mod NewestBeside

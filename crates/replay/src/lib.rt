@@ -6,10 +6,14 @@
 #![tactic(auto)]
 
 mod core_lines;
+mod effects_written;
 mod event_reader;
+mod leaves;
+mod leaving;
 mod making;
 mod memories;
 mod move_ranges;
+mod newest_kept;
 mod reads;
 mod replay_refusal;
 mod replaying;

@@ -1,14 +1,17 @@
 // One event of a schedule made, with the run beside it.
-ghost use Rattle.std.specs.Prelude.{◌≡◌, ◌↔◌, Some, Err, IsTrue, OnOk, map};
+ghost use Rattle.std.specs.Prelude.{◌≡◌, ◌↔◌, None, Some, Err, IsTrue, OnOk, map, slice_set};
 ghost use Rattle.std.specs.Bool.{OnTrue, OnFalse};
 ghost use Rattle.mont_base.specs.State.{IsShortOp, run_of};
 ghost use Rattle.mont_laws.specs.Effects.{IsOpOf};
 ghost use Rattle.plain.specs.States.{state_of};
 ghost use Rattle.core_steps.specs.Events.{OfUnit, after};
 ghost use Rattle.core_steps.specs.Sound.{IsSound};
+ghost use Rattle.replay.specs.NewestBeside.{AreKept};
 ghost use Rattle.replay.specs.Replays.{MayMake, HasItsRun, IsRunOn, nothing, unit_state, unit_states};
 
-use crate::reads::{answered, make_read};
+use crate::leaves::make_leave;
+use crate::newest_kept::NewestKept;
+use crate::reads::make_read;
 use core_run::{StepRefusal, step};
 use core_steps::{Core, Event};
 use mont_base::{Op, PairList, Reply, Sequence, Text, Unit};
@@ -16,20 +19,23 @@ use plain::UnitState;
 use std::alloc::Global;
 
 /// Makes an event that the core allows and beside which the run of its unit's state stands, and
-/// keeps the states of the units beside the core. It is NotAllowed where the core doesn't allow the
-/// event, or the run is another.
+/// keeps the states of the units and their newest records beside the core. It is NotAllowed where
+/// the core doesn't allow the event, or the run is another.
 pub fn make(
     alloc: Global,
     core: &mut Core,
     states: &mut Sequence<UnitState>,
+    kept: &mut Sequence<Option<NewestKept>>,
     event: &Event,
     run: &[(Text, Text)],
 ) -> Result<(), StepRefusal>
     requires sound { IsSound (nothing core.old.layout) core.old }
     requires states { map state_of states.old ≡ unit_states core.old }
+    requires kept { AreKept kept.old core.old.units }
     ensures made { OnOk result (MayMake core.old (event.now, run.now)) }
     ensures ok { OnOk result (core.new ≡ after core.old event.now) }
     ensures states { OnOk result (map state_of states.new ≡ unit_states core.new) }
+    ensures kept { OnOk result (AreKept kept.new core.new.units) }
     ensures refused { result ≡ Err StepRefusal.NotAllowed
         → MayMake core.old (event.now, run.now) → ⊥ }
 {
@@ -37,18 +43,33 @@ pub fn make(
         return Err(StepRefusal::NotAllowed);
     }
     match event {
-        Event::Leave { unit, op, .. } => {
-            step(alloc, core, event)?;
-            let _reply = answered(states, *unit, op)?;
-            Ok(())
-        }
+        Event::Leave {
+            unit,
+            caller,
+            op,
+            reply,
+        } => make_leave(alloc, core, states, kept, *unit, *caller, op, reply),
         Event::Read {
             unit,
             caller,
             op,
             reply,
         } => make_read(alloc, core, states, *unit, *caller, op, reply),
+        Event::PersistClose { unit } => {
+            forget(kept, *unit);
+            step(alloc, core, event)
+        }
         _ => step(alloc, core, event),
+    }
+}
+
+// Keeps nothing of a unit, whose records a closed slot leaves. They are looked through again where
+// it leaves an epoch.
+fn forget(kept: &mut Sequence<Option<NewestKept>>, unit: Unit)
+    ensures { kept.new ≡ slice_set kept.old unit None }
+{
+    if unit < kept.len() {
+        kept.set(unit, None);
     }
 }
 

@@ -99,13 +99,15 @@ fn is_ready_to_read(part: &UnitPart, caller: &CallerPart) -> bool
     part.frozen.is_none() && part.stage == UnitStage::Idle && has_numbers(part, caller)
 }
 
-fn has_numbers(part: &UnitPart, caller: &CallerPart) -> bool
+/// Whether there are numbers for an entry more.
+pub fn has_numbers(part: &UnitPart, caller: &CallerPart) -> bool
     ensures { IsTrue result ↔ HasNumbers part.now caller.now }
 {
     part.history.len() <= LAST && caller.calls <= LAST
 }
 
-fn are_none_lost(units: &[UnitPart]) -> bool
+/// Whether no unit has a lost slot.
+pub fn are_none_lost(units: &[UnitPart]) -> bool
     ensures { IsTrue result ↔ AreNoneLost units.now }
 {
     for part in units {
@@ -116,8 +118,8 @@ fn are_none_lost(units: &[UnitPart]) -> bool
     true
 }
 
-// Whether an operation is one of the unit.
-fn is_op_of(layout: Layout, unit: Unit, op: &Op) -> bool
+/// Whether an operation is one of the unit.
+pub fn is_op_of(layout: Layout, unit: Unit, op: &Op) -> bool
     ensures { IsTrue result ↔ IsOpOf layout unit op.now }
 {
     read_texts(op);
@@ -143,7 +145,8 @@ fn changes_nothing(alloc: Global, state: &UnitState, op: &Op) -> Result<bool, Al
     Ok(effects.is_empty())
 }
 
-fn is_reply(told: &Option<Reply>, reply: &Reply) -> bool
+/// Whether this was answered.
+pub fn is_reply(told: &Option<Reply>, reply: &Reply) -> bool
     ensures { IsTrue result ↔ (told.now ≡ Some reply.now) }
 {
     match told {

@@ -1,5 +1,5 @@
 // A schedule replayed from the fresh core.
-ghost use Rattle.std.specs.Prelude.{◌≡◌, ◌++◌, ℕ, Err, IfOk, OnOk, MatchResult, map};
+ghost use Rattle.std.specs.Prelude.{◌≡◌, ◌++◌, ℕ, Err, None, IfOk, OnOk, MatchResult, map, replicate};
 ghost use Rattle.std.specs.List.{enumerate_from};
 ghost use Rattle.std.specs.String.{string_bytes};
 ghost use Rattle.job_text.specs.Lines.{text_of};
@@ -10,14 +10,15 @@ ghost use Rattle.replay.specs.Replays.{IsReplay, IsFirstNotAllowed, IsAllAllowed
 use crate::core_lines::write_core;
 use crate::making::make;
 use crate::memories::write_memories;
+use crate::newest_kept::NewestKept;
 use crate::replay_refusal::ReplayRefusal;
 use crate::schedule::Schedule;
 use core_run::StepRefusal;
 use core_steps::{Core, Event};
 use job_text::Run;
-use mont_base::{Reply, Text};
+use mont_base::{Reply, Sequence, Text};
 use plain::Contents;
-use std::alloc::Global;
+use std::alloc::{AllocError, Global};
 
 /// The text of the cores that the events of a schedule reach one after another from the fresh core,
 /// and of what recovery rebuilds of the last one's words.
@@ -54,10 +55,11 @@ fn replay_events(
     let _units = schedule.layout.units();
     let mut core = Core::fresh(alloc, schedule.layout, schedule.callers)?;
     let mut states = Contents::empty(alloc, schedule.layout)?.units;
+    let mut kept = nothing_kept(alloc, schedule.layout.units())?;
     let mut runs = schedule.runs.as_slice();
     for (place, event) in schedule.events.as_slice().iter().enumerate() {
         let (run, behind) = next_run(event, runs);
-        match make(alloc, &mut core, &mut states, event, run) {
+        match make(alloc, &mut core, &mut states, &mut kept, event, run) {
             Ok(()) => {}
             Err(StepRefusal::NotAllowed) => {
                 return Err(ReplayRefusal::NotAllowed {
@@ -70,6 +72,17 @@ fn replay_events(
         runs = behind;
     }
     Ok(core)
+}
+
+// Nothing is kept of the newest records of so many units.
+fn nothing_kept(alloc: Global, units: u64) -> Result<Sequence<Option<NewestKept>>, AllocError>
+    ensures { IfOk result (λ k. k ≡ replicate units None) }
+{
+    let mut kept = Sequence::new(alloc);
+    for _unit in 0..units {
+        kept.push(None)?;
+    }
+    Ok(kept)
 }
 
 // The run beside an event's reply, and the runs that are left.

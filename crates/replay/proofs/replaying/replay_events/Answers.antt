@@ -1,4 +1,4 @@
-use Rattle.std.proofs.Common.{◌≡◌, ◌<◌, ◌+◌, ℕ, List, length, get_or, Result, Err, sym, ap, ◌∙◌, subst, arith}
+use Rattle.std.proofs.Common.{◌≡◌, ◌<◌, ◌+◌, ℕ, List, length, get_or, Result, Option, Err, sym, ap, ◌∙◌, subst, arith}
 use Rattle.std.specs.String.{string_bytes}
 use Rattle.std.proofs.lemmas.List.{append-nil}
 use Rattle.std.specs.List.{enumerate_from}
@@ -10,6 +10,9 @@ use Rattle.replay.specs.declared.replay_refusal.ReplayRefusal.{ReplayRefusal}
 use Rattle.replay.specs.declared.replay_refusal.ReplayRefusal.TheVariants.{NotAllowed}
 use Rattle.replay.specs.Replays.{MayMake, fresh_core, reached, core_words}
 use Rattle.replay.proofs.Reaching.{HasMade, none_made, one_made, none_allowed, line_more, all_made, lines_past}
+use Rattle.replay.specs.declared.newest_kept.NewestKept.{NewestKept}
+use Rattle.replay.specs.NewestBeside.{AreKept}
+use Rattle.replay.proofs.RecordsKept.{none_kept}
 use Rattle.replay.proofs.UnitStates.{fresh_kept, fresh_sound, sound_kept}
 use Rattle.replay.proofs.replaying.replay_events.Goals as goal
 
@@ -23,6 +26,8 @@ loop-place-init c =
       sym (append-nil (string_bytes c.args.text.now)),
       fresh_sound c.in_ok-core.core s.layout s.callers c.units-units.ensures.layout c.in_ok-core.ensures,
       fresh_kept c.in_ok-core.core s.layout s.callers _ c.in_ok-core.ensures c.in_ok-states.ensures,
+      subst (λ (ns : List (Option NewestKept)). AreKept ns c.in_ok-core.core.units) (sym c.in_ok-kept.ensures)
+          (none_kept _ c.in_ok-core.core.units),
     )
 
 pub returns-in-Err-NotAllowed-clause-refused : goal.returns-in-Err-NotAllowed-clause-refused
@@ -54,6 +59,7 @@ loop-place-preserved c =
           c.in_ok-write_core.ensures,
       sound_kept core c.make.new.core event c.loop-place.invariant.2 may.allowed c.in-Ok.ensures.ok,
       c.in-Ok.ensures.states,
+      c.in-Ok.ensures.kept,
     )
 
 pub returns-clause-allowed : goal.returns-clause-allowed

@@ -1,0 +1,15 @@
+use Rattle.std.proofs.Common.{get_or, sym, ap, ◌∙◌}
+use Rattle.std.specs.Prelude.{Option}
+use Rattle.mont_base.specs.declared.record.Held.{Held}
+use Rattle.mont_base.specs.Versions.{later_of, only_of}
+use Rattle.core_answer.proofs.NewestRecords.{no_record, newest_more}
+use Rattle.replay.proofs.newest_kept.NewestKept.among.Goals as goal
+
+pub loop-held-preserved : goal.loop-held-preserved
+loop-held-preserved c =
+    λ q.
+    let more = newest_more q c.args.records.now c.loop-held.held-index no_record c.loop-held-test.true in
+    c.in_ok-keep.ensures q
+    ∙ ap (λ (o : Option Held). later_of o (only_of q (get_or c.args.records.now c.loop-held.held-index no_record)))
+    (c.loop-held.invariant q)
+    ∙ sym more
