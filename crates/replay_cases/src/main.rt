@@ -2,8 +2,13 @@
 //! isn't allowed, and the text of the others' replay.
 #![tactic(auto)]
 
+mod drawn_replays;
+mod event_draws;
 mod replay_answers;
 mod replay_outcome;
+mod told_walks;
+mod walks;
+mod written_stores;
 
 use anyhow::Result;
 use case_file::try_cases;

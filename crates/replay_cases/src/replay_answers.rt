@@ -1,9 +1,10 @@
 // What comes of a case on a schedule.
+use crate::drawn_replays::drawn_answer;
 use crate::replay_outcome::ReplayOutcome;
 use case_file::{Case, Subject, Unanswered, numbers_in};
 use std::alloc::Global;
 
-/// Answers cases with a part `schedule`. Its source gives it in pieces of the sizes of the part
+/// Answers cases with a part `schedule`, and those on drawn schedules. Its source gives it in pieces of the sizes of the part
 /// `pieces`, and fails in the calls of the part `failing calls`.
 #[derive(Drop)]
 pub struct ReplayCases {
@@ -12,6 +13,9 @@ pub struct ReplayCases {
 
 impl Subject for ReplayCases {
     fn answer(&self, case: &Case) -> Result<Vec<u8>, Unanswered> {
+        if let Some(drawn) = case.part("drawn") {
+            return drawn_answer(self.alloc, case, drawn);
+        }
         let text = case.needed("schedule")?;
         let pieces = match case.part("pieces") {
             Some(words) => numbers_in(self.alloc, "pieces", words)?,

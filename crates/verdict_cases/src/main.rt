@@ -1,6 +1,8 @@
 //! Tries worked cases of a report and an image: the verdict on them.
 #![tactic(auto)]
 
+mod agreement;
+mod changed_reports;
 mod image_words;
 mod verdict_answers;
 mod verdict_trial;

@@ -1,4 +1,5 @@
 // The verdict on the report and the image of a case.
+use crate::changed_reports::changed_answer;
 use crate::image_words::image_of;
 use case_file::{Case, Unanswered, numbers_in, with_other_lines};
 use job_text::{Report, ReportRefusal, read_report};
@@ -13,7 +14,8 @@ const CALLERS: &str = "callers";
 
 /// The verdict on the report of the part `report` and the image of the part `image`. Where there
 /// is a part `other lines`, the report has these lines in the place of some; where there is a part
-/// `callers`, it has so many callers.
+/// `callers`, it has so many callers. With a part `changed` the report is changed in one byte at a
+/// time.
 pub fn answer_to(
     rt: &(impl AllocGlobal + Threads + Sync),
     case: &Case,
@@ -24,6 +26,9 @@ pub fn answer_to(
         report.callers = number_in(alloc, callers)?;
     }
     let image = image_of(alloc, case.needed("image")?)?;
+    if let Some(changed) = case.part("changed") {
+        return changed_answer(rt, case.needed("report")?, &report, &image, changed);
+    }
     let verdict = check(rt, alloc, &report, &image, WORKERS)?;
     Ok(format!(in alloc; "{verdict}\n")?.into_bytes())
 }
