@@ -6,6 +6,19 @@ use std::alloc::{AllocError, Global};
 // How many bytes a report and an image have at most.
 const MOST_BYTES: u64 = 1_048_576;
 
+/// A device of the process.
+#[derive(Clone, Copy, Debug, PartialEq, Eq)]
+pub enum Device {
+    /// The source of the job.
+    Job,
+    /// The source of the image.
+    Image,
+    /// The sink of the report.
+    Out,
+    /// The sink of the image.
+    ImageOut,
+}
+
 /// How the devices of a case give and take bytes.
 #[derive(Drop)]
 pub struct Devices {
@@ -32,6 +45,21 @@ impl Devices {
             writes: numbers_of(alloc, case, "failing writes")?,
             image_writes: numbers_of(alloc, case, "failing image writes")?,
         })
+    }
+
+    /// How many bytes a call gives or takes.
+    pub fn piece(&self) -> u64 {
+        self.piece
+    }
+
+    /// Lets these calls of a device fail, and no others of it.
+    pub fn fail(&mut self, device: Device, calls: Vec<u64>) {
+        match device {
+            Device::Job => self.reads = calls,
+            Device::Image => self.image_reads = calls,
+            Device::Out => self.writes = calls,
+            Device::ImageOut => self.image_writes = calls,
+        }
     }
 
     /// A source of a job.

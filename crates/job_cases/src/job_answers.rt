@@ -2,7 +2,10 @@
 use crate::boxes::{BoxKind, boxes_in, empty_boxes};
 use crate::devices_told::{Devices, first_number};
 use crate::ended_process::ended;
+use crate::failing_table::{EACH_FAILING, failing_table};
 use crate::image_told::tell_image;
+use crate::short_answer::in_short;
+use crate::stop_table::{STOPS, stop_table};
 use case_file::{Case, Unanswered, is_wanted};
 use case_image::{has_image, image_text};
 use index_kit::{Index, ProbeIndex, SortedIndex};
@@ -30,6 +33,12 @@ pub fn answer<R: AllocGlobal + Files + Threads + Wait + Sync>(
     case: &Case,
 ) -> Result<Vec<u8>, Unanswered> {
     let alloc = rt.alloc();
+    if let Some(steps) = case.part(STOPS) {
+        return stop_table(rt, case, steps);
+    }
+    if let Some(devices) = case.part(EACH_FAILING) {
+        return failing_table(rt, case, devices);
+    }
     if let Some(told) = case.part("boxes") {
         return answer_with(rt, case, &boxes_in(alloc, told)?);
     }
@@ -66,7 +75,7 @@ fn answer_with<R: AllocGlobal + Files + Threads + Wait + Sync>(
             }
         }
     }
-    Ok(answer)
+    in_short(alloc, case, answer)
 }
 
 // Adds what the process answers these words, and gives the image that it writes.
@@ -133,8 +142,8 @@ fn ended_with<R: AllocGlobal + Threads + Wait + Sync>(
     Ok(ended(rt, words, job, image, indexes, out, image_out))
 }
 
-// The image that a case has, or no byte.
-fn image_of(alloc: Global, case: &Case) -> Result<Vec<u8>, Unanswered> {
+/// The image that a case has, or no byte.
+pub fn image_of(alloc: Global, case: &Case) -> Result<Vec<u8>, Unanswered> {
     if has_image(case) {
         image_text(alloc, case)
     } else {
@@ -142,8 +151,8 @@ fn image_of(alloc: Global, case: &Case) -> Result<Vec<u8>, Unanswered> {
     }
 }
 
-// The standard input: the part with this head, or the file that the part `job file` names.
-fn job_of<R: AllocGlobal + Files>(
+/// The standard input: the part with this head, or the file that the part `job file` names.
+pub fn job_of<R: AllocGlobal + Files>(
     rt: &R,
     case: &Case,
     head: &'static str,
@@ -161,8 +170,8 @@ fn job_of<R: AllocGlobal + Files>(
     }
 }
 
-// The words of a command line.
-fn words_in(alloc: Global, text: &[u8]) -> Result<Vec<String>, Unanswered> {
+/// The words of a command line.
+pub fn words_in(alloc: Global, text: &[u8]) -> Result<Vec<String>, Unanswered> {
     let Ok(line) = str::from_utf8(text) else {
         return Err(Unanswered::Unclear { head: "words" });
     };

@@ -4,9 +4,14 @@
 mod boxes;
 mod devices_told;
 mod ended_process;
+mod failing_table;
 mod image_told;
 mod job_answers;
 mod job_trial;
+mod number_ranges;
+mod one_process;
+mod short_answer;
+mod stop_table;
 
 use anyhow::Result;
 use job_trial::try_jobs;
