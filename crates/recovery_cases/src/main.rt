@@ -4,11 +4,16 @@
 
 mod asked_image;
 mod chains;
+mod damage;
+mod damaged_images;
 mod drawn_images;
 mod found_text;
 mod leftovers;
 mod now;
+mod plain_front;
+mod plain_judge;
 mod plain_records;
+mod plain_slots;
 mod plain_store;
 mod recovery_answers;
 mod recovery_trial;

@@ -3,6 +3,7 @@ ghost use Rattle.std.specs.Prelude.{◌≡◌, false};
 
 use crate::asked_image::Asked;
 use crate::chains::follow_chains;
+use crate::damaged_images::{DAMAGED, damaged_images};
 use crate::now::{ReadImage, image_now};
 use crate::sweep_table::sweep_table;
 use crate::tellings::{told_by_all, told_image, told_parts, told_units};
@@ -12,7 +13,7 @@ use mont_image::Image;
 use std::alloc::Global;
 use std::thread::Threads;
 
-/// What comes of a case: of its chains, or of its image what each line of the part `ask` asks.
+/// What comes of a case: of its chains, of images that are damaged, or of its image what each line of the part `ask` asks.
 pub fn answer_to(
     rt: &(impl AllocGlobal + Threads + Sync),
     case: &Case,
@@ -20,6 +21,9 @@ pub fn answer_to(
     let alloc = rt.alloc();
     if let Some(chains) = case.part("chains") {
         return follow_chains(rt, alloc, chains);
+    }
+    if let Some(count) = case.part(DAMAGED) {
+        return damaged_images(rt, alloc, case, count);
     }
     let text = image_text(alloc, case)?;
     match image_now(alloc, text.as_slice())? {

@@ -35,8 +35,8 @@ pub fn told_by_all(
     Ok(told)
 }
 
-// What recovery with so many workers finds.
-fn told_by(
+/// What recovery with so many workers finds.
+pub fn told_by(
     rt: &(impl Threads + Sync),
     alloc: Global,
     image: &Image,
