@@ -109,6 +109,8 @@ fn told_in_line(alloc: Global, run: &Came, verdict: &Came) -> Result<String, All
             write!(line, "{told}, ")?;
         }
     }
-    line.push_str(str::from_utf8(&verdict.out).unwrap_or("").trim_end())?;
+    if let Ok(said) = str::from_utf8(&verdict.out) {
+        line.push_str(said.trim_end())?;
+    }
     Ok(line)
 }
