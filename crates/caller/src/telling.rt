@@ -1,5 +1,6 @@
 // What one caller has seen goes to another.
 ghost use Rattle.std.specs.Prelude.{◌≡◌, IfOk};
+ghost use Rattle.heap_rule.specs.SeenEntries.{SeesBoth};
 ghost use Rattle.heap_rule.specs.Views.{caller_heard, note_of_caller};
 ghost use Rattle.caller.specs.Telling.{TakesGreater};
 
@@ -30,6 +31,8 @@ pub fn hear<G: Gate>(heap: &Heap, pass: &mut Pass<G>, news: News)
       table = pass.old.ticket.table;
       known = caller_heard pass.old.ticket.known news.known;
     } }
+    ensures seen { SeesBoth pass.old.ticket.known.entries news.known.entries
+        pass.new.ticket.known.entries }
     ensures greater { TakesGreater pass.old.ticket.known.part news.known.note
         pass.new.ticket.known.part }
     ensures gate { pass.new.gate ≡ pass.old.gate }

@@ -1,12 +1,13 @@
 // Notes of a caller that are carried to others.
 ghost use Rattle.std.specs.Prelude.{◌≡◌, length, IfOk};
 ghost use Rattle.core_steps.specs.Notes.{greater_fronts};
-ghost use Rattle.heap_rule.specs.Views.{caller_heard, note_of_caller};
+ghost use Rattle.heap_rule.specs.SeenEntries.{SeesBoth};
+ghost use Rattle.heap_rule.specs.Views.{caller_heard, caller_view, news_view, note_of_caller, the_caller, the_note};
 
 use crate::heap::Heap;
 use crate::seats::Ticket;
 use atomic_table::Seat;
-use heap_rule::{Cell, CopiesCaller, HearsNews, View};
+use heap_rule::{Cell, CopiesCaller, HearsNews, TakesNotes, View};
 use mont_base::{Epoch, Sequence};
 use std::alloc::{AllocError, Global};
 use std::marker::Model;
@@ -54,14 +55,17 @@ impl Heap {
         })
     }
 
-    /// The ticket takes the note.
+    /// The ticket takes the note. What it has then seen begins with what it had seen, and with what
+    /// the note had.
     pub fn hear_news(&self, ticket: &mut Ticket, news: News)
         requires ticket { ticket.old.table ≡ self.now.table }
         requires news { news.table ≡ self.now.table }
-        ensures { ticket.new ≡ record {
+        ensures caller { ticket.new ≡ record {
           table = ticket.old.table;
           known = caller_heard ticket.old.known news.known;
         } }
+        ensures seen { SeesBoth ticket.old.known.entries news.known.entries
+            ticket.new.known.entries }
     {
         let News {
             seat,
@@ -69,12 +73,30 @@ impl Heap {
             newest,
             durable,
         } = news;
-        self.table
-            .shared
-            .join_seat::<HearsNews>(&mut ticket.seat, seat);
+        let shared = &self.table.shared;
+        shared.join_seat::<TakesNotes>(&mut ticket.seat, seat);
+        self.load_news(&mut ticket.seat);
         raise_each(&mut ticket.fronts, &fronts);
         ticket.newest = ticket.newest.max(newest);
         ticket.durable = ticket.durable.max(durable);
+    }
+
+    // The load by which the caller takes the note, by a seat that has both.
+    fn load_news(&self, seat: &mut Seat<Cell, View>)
+        requires heap { seat.old.table_id ≡ self.now.table }
+        requires view { seat.old.me.0
+            ≡ news_view (the_caller seat.old.me.0) (the_note seat.old.me.0) }
+        ensures seat { seat.new.table_id ≡ seat.old.table_id }
+        ensures view { seat.new.me
+            ≡ (
+              caller_view
+                  (caller_heard (the_caller seat.old.me.0) (the_note seat.old.me.0)),
+              seat.old.me.1,
+            ) }
+        ensures seen { SeesBoth (the_caller seat.old.me.0).entries (the_note seat.old.me.0).entries
+            (caller_heard (the_caller seat.old.me.0) (the_note seat.old.me.0)).entries }
+    {
+        let _clock = self.table.shared.load::<HearsNews>(seat, 0);
     }
 }
 

@@ -27,14 +27,16 @@ use Rattle.heap_rule.specs.declared.views.CallerKnown.{CallerKnown}
 use Rattle.heap_rule.specs.declared.views.NoteKnown.{NoteKnown}
 use Rattle.heap_rule.specs.declared.views.UnitKnown.{UnitKnown}
 use Rattle.heap_rule.specs.declared.views.View.{View}
-use Rattle.heap_rule.specs.Views.{Cell, pair_view, note_of_unit, note_of_advancer, longer, longer_each, caller_heard}
+use Rattle.heap_rule.specs.SeenEntries.{SeesBoth}
+use Rattle.heap_rule.specs.Views.{Cell, caller_view, pair_view, news_view, note_of_unit, note_of_advancer, longer, longer_each, caller_heard}
 use Rattle.heap_rule.specs.Rule.{Owners, Board, seen_in, FitsUnit, FitsAdvancer, FitsCaller, FitsNote, ShowsCore}
-use Rattle.heap_rule.specs.Plays.{IsNotBeyond, HasSeenAll, heard as was_heard}
+use Rattle.heap_rule.specs.Plays.{IsNotBeyond, HasSeenAll, heard as was_heard, heard_news}
 use Rattle.heap_rule.proofs.RuleFrames.{Reached, goes, stays, Moves, loads}
 use Rattle.heap_rule.proofs.RunFacts.{unit_sound}
 use Rattle.heap_rule.proofs.Growing.{sweeps_itself}
 use Rattle.heap_rule.proofs.CoreFacts.{at_row, clean_both, seen_at, not_beyond}
 use Rattle.heap_rule.proofs.AnswerPlays.{seen_set}
+use Rattle.heap_rule.proofs.SeenFronts.{sees_both}
 
 -- ---- fronts
 -- no front rises by fronts of 0
@@ -247,5 +249,30 @@ hears o slots seat h q c s k long at small =
         low,
         seen_all hs h q (caller_heard q n) there (omega arith) low refl fits.entries,
         (clock core, durable_clock core, unit_sound o s k core (stays o s k) refl h f.part f.clean),
+      ),
+    )
+
+-- ---- a load by which it takes the note of another
+pub hears_news : (o : Opening) (slots seat : ℕ) (q : CallerKnown) (n : NoteKnown) (c : List (ℕ × Cell))
+    → Allows (ShowsCore o) slots seat (news_view q n, c) 0 (λ n. n) (heard_news (step slots 0 0 0 none) (news_view q n, c))
+hears_news o slots seat q n c s k long at small =
+    let view = k.views seat (news_view q n) at in
+    let g = view.callers.0 in
+    let note = view.notes.0 in
+    let hs = histories_of k.board.core.units in
+    let as_many : length q.part.fronts ≡ length n.note.fronts =
+    (k.sound.callers.each q.caller q.part g.part).seen.units ∙ sym note.is_true.fits.units in
+    let fits = caller_fits o s k seat q n g note k.own seat g.mine in (
+      caller_view (caller_heard q n),
+      keeps,
+      tt,
+      loads o s k seat 0 c (caller_view (caller_heard q n)) keeps (heard_board k.board q n) (heard o s k seat q n g note)
+          (heard_moves o s k seat q n g note (λ j. j ≡ seat) refl) refl k.passed k.homes
+          (record { units = tt; advancers = tt; callers = (fits, tt); notes = tt }),
+      (
+        refl,
+        subst (λ (z : List (List Entry) × List (List Entry) × List (List Entry)). SeesBoth z.0 z.1 z.2)
+            (λ i. (sym g.entries i, sym note.entries i, sym fits.entries i))
+            (sees_both q.part.fronts n.note.fronts hs as_many),
       ),
     )

@@ -19,7 +19,7 @@ use Rattle.heap_rule.specs.declared.views.Learnt.{Learnt}
 use Rattle.heap_rule.specs.declared.views.NoteKnown.{NoteKnown}
 use Rattle.heap_rule.specs.declared.views.UnitKnown.{UnitKnown}
 use Rattle.heap_rule.specs.declared.views.View.{View}
-use Rattle.heap_rule.specs.Views.{Cell, nothing, unit_view, advancer_view, caller_view, note_view, pair_view, heard_view, note_of_advancer, note_of_caller, caller_heard, learnt_more, unit_shown, advancer_shown, without_callers, only_callers, with_units, with_callers, copied_caller, shown_caller, heard_advancer, heard_note}
+use Rattle.heap_rule.specs.Views.{Cell, nothing, unit_view, advancer_view, caller_view, note_view, pair_view, heard_view, note_of_advancer, note_of_caller, caller_heard, learnt_more, unit_shown, advancer_shown, without_callers, only_callers, with_units, with_callers, with_notes, copied_caller, shown_caller, heard_advancer}
 use Rattle.heap_rule.specs.Rule.{Each, Owners, Board, IsLearnt, FitsUnit, FitsAdvancer, FitsCaller, FitsNote, FitsView, ShowsCore}
 use Rattle.heap_rule.proofs.RuleFrames.{each_map, each_zip, each_append, stays, moves_none, Hands, unit_handed, advancer_handed, caller_handed, resplit, rejoin, one_given, given_hit, given_miss}
 use Rattle.heap_rule.proofs.CoreFacts.{clean_both}
@@ -251,6 +251,20 @@ joins_callers o seat v other w s k at apart e =
       notes = f.notes;
     })
 
+-- and the notes
+pub joins_notes : (o : Opening) (seat : ℕ) (v : View) (other : ℕ) (w : View)
+    → Joins (ShowsCore o) seat v other w (with_notes v w) nothing
+joins_notes o seat v other w s k at apart e =
+    let one : View = with_notes v w in
+    let f = view_kept k.board k.own other seat v (k.views seat v at) in
+    let g = view_handed k.board k.own other seat w (k.views other w (sym (set_else s.views seat other one apart) ∙ e)) in
+    rejoin_same o s k seat other one (record {
+      units = f.units;
+      advancers = f.advancers;
+      callers = f.callers;
+      notes = each_append (FitsNote k.board) v.notes w.notes f.notes g.notes;
+    })
+
 -- ---- a note of a caller
 module _ (o : Opening) (s : State Cell View) (k : ShowsCore o s) (own : Owners) (seat : ℕ) (q : CallerKnown)
     (g : FitsCaller k.board own seat q) where
@@ -351,24 +365,6 @@ joins_heard_advancer o seat a other q s k at apart e =
       notes = tt;
     })
 
--- and of another caller, which was copied
-pub joins_news : (o : Opening) (seat : ℕ) (q : CallerKnown) (other : ℕ) (n : NoteKnown)
-    → Joins (ShowsCore o) seat (caller_view q) other (note_view n) (heard_note (caller_view q) (note_view n)) nothing
-joins_news o seat q other n s k at apart e =
-    let one : View = caller_view (caller_heard q n) in
-    let g = (k.views seat (caller_view q) at).callers.0 in
-    let note = (k.views other (note_view n) (sym (set_else s.views seat other one apart) ∙ e)).notes.0 in
-    rejoin_heard o s k seat other q n seat (inl refl) g note one
-    (record {
-      units = tt;
-      advancers = tt;
-      callers = (
-        caller_fits o s k seat q n g note (all_to k.own other seat) seat (heard_mine o s k seat other q n seat (inl refl) g note),
-        tt,
-      );
-      notes = tt;
-    })
-
 -- ---- the same at views that are known
 pub joins_shown_as : (o : Opening) (seat : ℕ) (v : View) (other : ℕ) (w : View) (h : UnitKnown) (q : CallerKnown) → v ≡ unit_view h
     → w ≡ caller_view q → Joins (ShowsCore o) seat v other w (shown_caller v w) nothing
@@ -389,12 +385,6 @@ pub joins_heard_advancer_as : (o : Opening) (seat : ℕ) (v : View) (other : ℕ
 joins_heard_advancer_as o seat v other w a q e f =
     subst (λ (z : View × View). Joins (ShowsCore o) seat z.0 other z.1 (heard_advancer z.0 z.1) nothing) (λ j. (sym e j, sym f j))
     (joins_heard_advancer o seat a other q)
-
-pub joins_news_as : (o : Opening) (seat : ℕ) (v : View) (other : ℕ) (w : View) (q : CallerKnown) (n : NoteKnown) → v ≡ caller_view q
-    → w ≡ note_view n → Joins (ShowsCore o) seat v other w (heard_note v w) nothing
-joins_news_as o seat v other w q n e f =
-    subst (λ (z : View × View). Joins (ShowsCore o) seat z.0 other z.1 (heard_note z.0 z.1) nothing) (λ j. (sym e j, sym f j))
-    (joins_news o seat q other n)
 
 pub copies_caller_as : (o : Opening) (seat : ℕ) (v : View) (q : CallerKnown) → v ≡ caller_view q
     → Splits (ShowsCore o) seat v v (copied_caller v)

@@ -20,16 +20,17 @@ use Rattle.heap_rule.specs.declared.rule.Opening.{Opening}
 use Rattle.heap_rule.specs.declared.views.UnitKnown.{UnitKnown}
 use Rattle.heap_rule.specs.declared.views.AdvKnown.{AdvKnown}
 use Rattle.heap_rule.specs.declared.views.CallerKnown.{CallerKnown}
+use Rattle.heap_rule.specs.declared.views.NoteKnown.{NoteKnown}
 use Rattle.heap_rule.specs.declared.views.View.{View}
-use Rattle.heap_rule.specs.Views.{Seated, listing, list_place, listed_in, unit_view, advancer_view, caller_view, pair_view, home_turn, are_clean, joined, slots_written, slot_at_hand, field_at_hand, word_in_hand, odd_announcement}
+use Rattle.heap_rule.specs.Views.{Seated, listing, list_place, listed_in, unit_view, advancer_view, caller_view, pair_view, news_view, home_turn, are_clean, joined, slots_written, slot_at_hand, field_at_hand, word_in_hand, odd_announcement}
 use Rattle.heap_rule.specs.TableWords.{durable_place, announcement_place}
 use Rattle.heap_rule.specs.Rule.{ShowsCore}
-use Rattle.heap_rule.specs.Plays.{gave_list, gave_empty, checked, closed, confirmed, frozen, heard, left, loaded_durable, loaded_word, looked, persisted, persisted_clock, persisted_word, read, saw_durable, set_clock, told, took_full, took_list, withdrew, wrote}
+use Rattle.heap_rule.specs.Plays.{gave_list, gave_empty, checked, closed, confirmed, frozen, heard, heard_news, left, loaded_durable, loaded_word, looked, persisted, persisted_clock, persisted_word, read, saw_durable, set_clock, told, took_full, took_list, withdrew, wrote}
 use Rattle.heap_rule.proofs.UnitPlays.{looks, tells, confirms, withdraws, loads_durable}
 use Rattle.heap_rule.proofs.StorePlays.{stores, closes_label, persists_close}
 use Rattle.heap_rule.proofs.FlushPlays.{checks, loads_word, persists_word, sets_clock, persists_clock}
 use Rattle.heap_rule.proofs.AnswerPlays.{freezes, sees_durable, leaves, reads}
-use Rattle.heap_rule.proofs.HearPlays.{hears}
+use Rattle.heap_rule.proofs.HearPlays.{hears, hears_news}
 use Rattle.heap_rule.proofs.ListPlays.{gives_list, gives_empty, takes_list, takes_full}
 
 pub looks_as : (o : Opening) (slots seat i : ℕ) (m : Seated) (h : UnitKnown) → m.0 ≡ unit_view h → i ≡ 0 → can_look h.part ≡ true
@@ -176,6 +177,12 @@ hears_as o w slots seat i m h q same is at =
     subst (λ (z : ℕ × View × Opening). Allows (ShowsCore o) slots seat (z.1, m.1) z.0 (λ n. n) (heard z.2 (step slots z.0 0 0 none)
     (z.1, m.1)))
     (λ j. (sym at j, sym is j, sym same j)) (hears o slots seat h q m.1)
+
+pub hears_news_as : (o : Opening) (slots seat i : ℕ) (m : Seated) (q : CallerKnown) (n : NoteKnown) → m.0 ≡ news_view q n → i ≡ 0
+    → Allows (ShowsCore o) slots seat m i (λ n. n) (heard_news (step slots i 0 0 none) m)
+hears_news_as o slots seat i m q n is at =
+    subst (λ (z : ℕ × View). Allows (ShowsCore o) slots seat (z.1, m.1) z.0 (λ n. n) (heard_news (step slots z.0 0 0 none) (z.1, m.1)))
+    (λ j. (sym at j, sym is j)) (hears_news o slots seat q n m.1)
 
 pub takes_list_as : (o : Opening) (slots seat i : ℕ) (m : Seated) (h : UnitKnown) → m.0 ≡ unit_view h → i ≡ 0
     → is_within h.part.stage ≡ true → h.turn.out ≡ false

@@ -1,19 +1,20 @@
 -- What a caller has seen stands first in what it has seen once it was answered, or took a note.
-use Rattle.std.proofs.Common.{◌≡◌, ◌≢◌, ℕ, zero, suc, List, [], ◌∷◌, ◌++◌, length, take, set, replicate, cond, Bool, true, false, sym, refl, ap, ◌∙◌, subst, arith, append_assoc}
-use Rattle.std.specs.Prelude.{slice_get, slice_index, nat_lt, drop, Some}
+use Rattle.std.proofs.Common.{◌≡◌, ◌≢◌, ℕ, ◌≤◌, zero, suc, List, [], ◌∷◌, ◌++◌, length, take, set, replicate, cond, Bool, true, false, sym, refl, ap, ◌∙◌, subst, arith, append_assoc}
+use Rattle.std.specs.Prelude.{slice_get, slice_index, nat_lt, max, drop, Some}
 use Rattle.std.proofs.lemmas.Bool.{le-ltb}
-use Rattle.std.proofs.lemmas.List.{append-nil, take-append-drop}
+use Rattle.std.proofs.lemmas.List.{append-nil, take-append-drop, take-take}
 use Rattle.std.proofs.lemmas.Option.{same_Some}
 use mathlib.Core.Logic.{dite}
 use native.Mathlib.Decide.{ℕ_discrete}
 use Rattle.mont_base.specs.declared.operation.Entry.{Entry}
-use Rattle.core_steps.specs.Notes.{BeginsWith}
+use Rattle.core_steps.specs.Notes.{BeginsWith, greater_fronts}
 use Rattle.core_steps.proofs.Rows.{row_here, row_else}
 use Rattle.heap_rule.specs.declared.views.AdvKnown.{AdvKnown}
 use Rattle.heap_rule.specs.declared.views.CallerKnown.{CallerKnown}
 use Rattle.heap_rule.specs.declared.views.UnitKnown.{UnitKnown}
 use Rattle.heap_rule.specs.Views.{longer, longer_each, caller_answered, caller_heard, note_of_unit, note_of_advancer}
-use Rattle.heap_rule.specs.SeenEntries.{AreFronts}
+use Rattle.heap_rule.specs.SeenEntries.{AreFronts, SeesBoth}
+use Rattle.heap_rule.specs.Rule.{seen_in}
 use Rattle.heap_rule.specs.Plays.{IsNotBeyond}
 
 -- ---- one unit's
@@ -85,6 +86,40 @@ fronts_longer (f ∷ fs) (suc n) (suc unit) front whole at begins =
         → AreFronts (f ∷ longer_each fs (set (replicate n []) unit whole)) (f ∷ fs)
     behind a zero seen there = record { whole = f; there = refl; begins = subst (BeginsWith f) (same_Some f seen there) (begins_same f) }
     behind a (suc u) seen there = let s = a u seen there in record { whole = s.whole; there = s.there; begins = s.begins }
+
+-- of two numbers of one unit's entries, those of either stand first among those of the greater
+begins_raised : (n m : ℕ) (whole : List Entry) → n ≤ m → BeginsWith (take m whole) (take n whole)
+begins_raised n m whole low = subst (BeginsWith (take m whole)) (take-take n m whole low) (begins_taken (take m whole) n)
+
+raised_own : (ns ms : List ℕ) (hs : List (List Entry)) → AreFronts (seen_in (greater_fronts ns ms) hs) (seen_in ns hs)
+raised_own [] ms hs unit front there = absurd (cc)
+raised_own (n ∷ ns) ms [] unit front there = absurd (cc)
+raised_own (n ∷ ns) [] (h ∷ hs) unit front there = fronts_same (seen_in (n ∷ ns) (h ∷ hs)) unit front there
+raised_own (n ∷ ns) (m ∷ ms) (h ∷ hs) zero front there = record {
+  whole = take (max n m) h;
+  there = refl;
+  begins = subst (BeginsWith (take (max n m) h)) (same_Some (take n h) front there) (begins_raised n (max n m) h (omega arith));
+}
+raised_own (n ∷ ns) (m ∷ ms) (h ∷ hs) (suc unit) front there =
+    let s = raised_own ns ms hs unit front there in record { whole = s.whole; there = s.there; begins = s.begins }
+
+raised_others : (ns ms : List ℕ) (hs : List (List Entry)) → length ns ≡ length ms
+    → AreFronts (seen_in (greater_fronts ns ms) hs) (seen_in ms hs)
+raised_others ns [] hs many unit front there = absurd (cc)
+raised_others [] (m ∷ ms) hs many unit front there = absurd (omega arith)
+raised_others (n ∷ ns) (m ∷ ms) [] many unit front there = absurd (cc)
+raised_others (n ∷ ns) (m ∷ ms) (h ∷ hs) many zero front there = record {
+  whole = take (max n m) h;
+  there = refl;
+  begins = subst (BeginsWith (take (max n m) h)) (same_Some (take m h) front there) (begins_raised m (max n m) h (omega arith));
+}
+raised_others (n ∷ ns) (m ∷ ms) (h ∷ hs) many (suc unit) front there =
+    let s = raised_others ns ms hs (omega arith) unit front there in record { whole = s.whole; there = s.there; begins = s.begins }
+
+-- so they do where a caller hears another
+pub sees_both : (ns ms : List ℕ) (hs : List (List Entry)) → length ns ≡ length ms
+    → SeesBoth (seen_in ns hs) (seen_in ms hs) (seen_in (greater_fronts ns ms) hs)
+sees_both ns ms hs many = record { own = raised_own ns ms hs; others = raised_others ns ms hs many }
 
 -- ---- a caller
 module _ (q : CallerKnown) (h : UnitKnown) (seen : IsNotBeyond q h) where

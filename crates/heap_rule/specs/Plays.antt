@@ -19,7 +19,9 @@ use Rattle.heap_rule.specs.declared.views.Learnt.{Learnt}
 use Rattle.heap_rule.specs.declared.views.UnitKnown.{UnitKnown}
 use Rattle.heap_rule.specs.declared.views.AdvKnown.{AdvKnown}
 use Rattle.heap_rule.specs.declared.views.CallerKnown.{CallerKnown}
-use Rattle.heap_rule.specs.Views.{Cell, Seated, listing, list_place, list_at, listed_in, unit_view, advancer_view, caller_view, pair_view, the_unit, the_advancer, the_caller, unit_looked, unit_told, unit_confirmed, unit_wrote, unit_withdrew, unit_loaded_durable, unit_closed, unit_persisted, unit_left, unit_read, unit_frozen, unit_took, unit_gave, advancer_checked, advancer_loaded, advancer_persisted, advancer_set, advancer_rested, advancer_took, advancer_gave, place_at_hand, caller_answered, caller_saw, caller_cut, caller_heard, note_of_unit}
+use Rattle.heap_rule.specs.declared.views.NoteKnown.{NoteKnown}
+use Rattle.heap_rule.specs.Views.{Cell, Seated, listing, list_place, list_at, listed_in, unit_view, advancer_view, caller_view, pair_view, the_unit, the_advancer, the_caller, the_note, unit_looked, unit_told, unit_confirmed, unit_wrote, unit_withdrew, unit_loaded_durable, unit_closed, unit_persisted, unit_left, unit_read, unit_frozen, unit_took, unit_gave, advancer_checked, advancer_loaded, advancer_persisted, advancer_set, advancer_rested, advancer_took, advancer_gave, place_at_hand, caller_answered, caller_saw, caller_cut, caller_heard, note_of_unit}
+use Rattle.heap_rule.specs.SeenEntries.{SeesBoth}
 use Rattle.heap_rule.specs.TableWords.{slot_at, field_at}
 use Rattle.heap_rule.specs.SoundUnits.{IsSoundUnit}
 
@@ -100,6 +102,14 @@ heard o s m found n =
     × IsNotBeyond q h
     × HasSeenAll r h
     × ((now durable : ℕ) × IsSoundUnit o now durable h)
+
+-- The caller takes the note of another, by such a load too.
+abbrev pub heard_news : Step Cell → Seated → ℕ → Seated → Type 0
+heard_news s m found n =
+    let q : CallerKnown = the_caller m.0 in
+    let w : NoteKnown = the_note m.0 in
+    let r : CallerKnown = caller_heard q w in
+    (n ≡ (caller_view r, m.1)) × SeesBoth q.entries w.entries r.entries
 
 -- ---- answers
 -- the entry of a caller's operation

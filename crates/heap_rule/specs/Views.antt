@@ -73,6 +73,10 @@ pair_view h q = record { units = h ∷ []; advancers = []; callers = q ∷ []; n
 abbrev pub heard_view : AdvKnown → CallerKnown → View
 heard_view a q = record { units = []; advancers = a ∷ []; callers = q ∷ []; notes = [] }
 
+-- a caller with the note of another
+abbrev pub news_view : CallerKnown → NoteKnown → View
+news_view q n = record { units = []; advancers = []; callers = q ∷ []; notes = n ∷ [] }
+
 -- ---- turns
 -- a list that is at home with nothing pushed, and lists of which none was taken
 abbrev pub home_turn : UnitTurn
@@ -460,6 +464,9 @@ with_units v w = record v { units = v.units ++ w.units }
 abbrev pub with_callers : View → View → View
 with_callers v w = record v { callers = v.callers ++ w.callers }
 
+abbrev pub with_notes : View → View → View
+with_notes v w = record v { notes = v.notes ++ w.notes }
+
 -- the unit or the advancer of the one takes a note of the caller of the other
 abbrev pub shown_caller : View → View → View
 shown_caller v w = let q : CallerKnown = the_caller w in record {
@@ -473,10 +480,4 @@ shown_caller v w = let q : CallerKnown = the_caller w in record {
 abbrev pub heard_advancer : View → View → View
 heard_advancer v w = let q : CallerKnown = the_caller w in record v {
   callers = caller_heard q (note_of_advancer (length q.part.fronts) (the_advancer v)) ∷ [];
-}
-
--- the caller of the one takes the note of the other
-abbrev pub heard_note : View → View → View
-heard_note v w = record v {
-  callers = caller_heard (the_caller v) (the_note w) ∷ [];
 }

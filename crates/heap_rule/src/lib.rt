@@ -13,14 +13,14 @@ mod seat_moves;
 mod views;
 
 pub use plays::{
-    Answer, Checks, ClosesLabel, Confirms, Freezes, GivesEmpty, GivesList, HearsUnit, Leaves,
-    LoadsDurable, LoadsWord, Looks, Opened, PersistsClock, PersistsClose, PersistsWord, Reads,
-    SeesDurable, SetsClock, Stores, TakesFull, TakesList, Tells, Withdraws,
+    Answer, Checks, ClosesLabel, Confirms, Freezes, GivesEmpty, GivesList, HearsNews, HearsUnit,
+    Leaves, LoadsDurable, LoadsWord, Looks, Opened, PersistsClock, PersistsClose, PersistsWord,
+    Reads, SeesDurable, SetsClock, Stores, TakesFull, TakesList, Tells, Withdraws,
 };
 pub use rule::{Opening, Rule};
 pub use seat_moves::{
-    Callers, CopiesCaller, FirstCaller, FirstUnit, HearsAdvancer, HearsNews, ShowsCaller,
-    TakesCallers, TakesUnits, Whole,
+    Callers, CopiesCaller, FirstCaller, FirstUnit, HearsAdvancer, ShowsCaller, TakesCallers,
+    TakesNotes, TakesUnits, Whole,
 };
 pub use views::{
     AdvKnown, CallerKnown, Cell, FullTurn, Learnt, LeftWithin, NoteKnown, UnitKnown, UnitTurn, View,

@@ -52,6 +52,15 @@ impl<N: Opened> Play<Cell, View> for HearsUnit<N> {
     ghost then = { heard N.opening };
 }
 
+/// The caller takes the note of another.
+pub struct HearsNews;
+
+impl Play<Cell, View> for HearsNews {
+    ghost use Rattle.heap_rule.specs.Plays.{heard_news};
+
+    ghost then = { heard_news };
+}
+
 /// The unit leaves its epoch with an answer.
 pub struct Leaves<N> {
     of: PhantomData<N>,

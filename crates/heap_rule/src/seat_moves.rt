@@ -101,13 +101,13 @@ impl Join<View> for HearsAdvancer {
     ghost spent = { nothing };
 }
 
-/// The caller takes the note of another seat.
-pub struct HearsNews;
+/// A seat takes the notes of another.
+pub struct TakesNotes;
 
-impl Join<View> for HearsNews {
-    ghost use Rattle.heap_rule.specs.Views.{heard_note, nothing};
+impl Join<View> for TakesNotes {
+    ghost use Rattle.heap_rule.specs.Views.{with_notes, nothing};
 
-    ghost both = { heard_note };
+    ghost both = { with_notes };
 
     ghost spent = { nothing };
 }

@@ -8,4 +8,4 @@ pub returns-clause-greater : goal.returns-clause-greater
 returns-clause-greater g c =
     let old = c.args.pass.now.ticket.known.part in
     let news = c.args.news.known.note in
-    subst (λ (v : CallerShown). TakesGreater old news v.known.part) (sym c.hear_news.ensures) (takes_greater old news)
+    subst (λ (v : CallerShown). TakesGreater old news v.known.part) (sym c.hear_news.ensures.caller) (takes_greater old news)
