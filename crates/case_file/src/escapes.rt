@@ -83,8 +83,10 @@ fn push_times<'a>(text: &mut Vec<u8>, bytes: &'a [u8]) -> Result<&'a [u8], CaseF
 fn split_once(bytes: &[u8], byte: u8) -> Result<(&[u8], &[u8]), CaseFault>
     ensures { IfOk result (λ p. length p.1.now < length bytes.now) }
 {
-    match bytes.iter().position(|b| *b == byte) {
-        Some(at) => Ok((&bytes[..at], &bytes[at + 1..])),
-        None => Err(CaseFault::Escape),
+    for (at, one) in bytes.iter().enumerate() {
+        if *one == byte {
+            return Ok((&bytes[..at], &bytes[at + 1..]));
+        }
     }
+    Err(CaseFault::Escape)
 }
