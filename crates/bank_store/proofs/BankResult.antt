@@ -6,20 +6,18 @@ use Rattle.std.specs.declared.result.Result.{Result}
 use Rattle.std.proofs.lemmas.Option.{same_Some}
 use Rattle.mont_base.specs.declared.constants.TheConstants.{FIRST_CLOCK}
 use Rattle.mont_base.specs.declared.operation.Receipt.{Receipt}
-use Rattle.mont_base.specs.Image.{IsPermitted, IsRecovered, IsWellFormed, clock_of, cut_of, empty_states, records_of}
+use Rattle.mont_base.specs.Image.{IsPermitted, IsRecovered, IsWellFormed, clock_of, cut_of, empty_states}
 use Rattle.mont_base.specs.Layout.{Shape}
 use Rattle.mont_base.specs.State.{State}
-use Rattle.mont_base.specs.Versions.{live_objects}
 use Rattle.plain.specs.declared.contents.Contents.{Contents}
 use Rattle.plain.specs.States.{states_of}
-use Rattle.plain.proofs.Single.{same_structure}
+use Rattle.plain.proofs.Single.{recovered_once}
 use Rattle.core_steps.specs.Fresh.{fresh_words}
 use Rattle.heap_rule.specs.declared.rule.Opening.{Opening}
 use Rattle.heap.specs.FreshOpening.{fresh_opening}
 use Rattle.heap.specs.HeapShown.{HeapShown, CallerShown}
 use Rattle.store_stop.specs.declared.headline.Stopped.{Stopped}
 use Rattle.store_stop.specs.Headline.{IsBaseOf, IsStopped, cut_states}
-use Rattle.store_stop.proofs.Items.{same_items}
 use Rattle.bank_job.specs.Bank.{bank_layout}
 use Rattle.bank_job.specs.Shifts.{first_shifts}
 use Rattle.bank_store.specs.BankCallers.{HaveShifted}
@@ -34,18 +32,12 @@ use Rattle.bank_store.proofs.BankTotal.{total_kept}
 use Rattle.bank_store.proofs.BankUnits.{legal_bank}
 use Rattle.bank_store.proofs.StoppedBank.{ends, names}
 
--- recovery gives one base
-one_base : (s : Shape) (words : List ℕ) (a b : List State) → IsRecovered s words a → IsRecovered s words b → a ≡ b
-one_base s words a b x y =
-    same_items a b (x.0 ∙ sym y.0)
-    (λ unit v w e f. same_structure s unit (live_objects (records_of s words unit)) v w (x.1 unit v e) (y.1 unit w f))
-
 pub base_is_empty : (heap : HeapShown) (t : Stopped) → heap.opening ≡ fresh_opening bank_layout 4
     → IsBaseOf heap.opening t.base_clock (states_of t.base) → states_of t.base ≡ empty_states bank_layout
 base_is_empty heap t o base =
     let there : IsRecovered bank_layout (fresh_words bank_layout) (states_of t.base) =
     subst (λ (x : Opening). IsRecovered x.layout x.words (states_of t.base)) o base.recovered in
-    one_base bank_layout (fresh_words bank_layout) (states_of t.base) (empty_states bank_layout) there bank_recovers
+    recovered_once bank_layout (fresh_words bank_layout) (states_of t.base) (empty_states bank_layout) there bank_recovers
 
 pub base_is_first : (heap : HeapShown) (t : Stopped) → heap.opening ≡ fresh_opening bank_layout 4
     → IsBaseOf heap.opening t.base_clock (states_of t.base) → t.base_clock ≡ FIRST_CLOCK

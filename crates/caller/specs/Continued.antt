@@ -59,3 +59,4 @@ pub record HasContinued (o : Opening) (q r : CallerKnown) (op : Op) (receipt : R
   pub calls : r.part.calls ≡ q.part.calls + 1
   pub receipts : r.part.receipts ≡ q.part.receipts ++ receipt ∷ []
   pub cuts : r.part.cuts ≡ q.part.cuts
+  pub synced : r.part.synced ≡ q.part.synced

@@ -3,6 +3,7 @@ use Rattle.std.proofs.Common.{◌≡◌, ℕ, List, sym, ap, ◌∙◌, subst}
 use Rattle.mont_base.specs.State.{State}
 use Rattle.mont_base.specs.Image.{clock_of}
 use Rattle.plain.specs.States.{states_of}
+use Rattle.plain.proofs.Single.{recovered_once}
 use Rattle.job_text.specs.declared.job.Job.{Job}
 use Rattle.job_text.specs.Report.{Report}
 use Rattle.rounds.specs.Rounds.{Round, IsRoundOfStore, round_of}
@@ -10,7 +11,6 @@ use Rattle.rounds.proofs.StoredRounds.{stopped_stores_make_rounds}
 use Rattle.job_store.specs.Base.{Base}
 use Rattle.job_store.specs.RunRounds.{RunsGoOn, RunsMakeRounds, round_told}
 use Rattle.job_store.specs.WholeRun.{IsRun}
-use Rattle.job_store.proofs.Opened.{same_states}
 
 module _ (j : Job) (b : Base) (r : Report) (image : List ℕ) (is : IsRun j b r image) where
   same_round : round_of is.of_store.store (clock_of image) ≡ round_told r
@@ -34,5 +34,5 @@ runs_make_rounds = made
 pub runs_go_on : RunsGoOn
 runs_go_on j b next r image is opens = record {
   clock = opens.clock ∙ sym is.of_store.clock;
-  states = same_states j.layout image next.states r.contents opens.recovered is.of_store.rebuilt;
+  states = recovered_once j.layout image next.states r.contents opens.recovered is.of_store.rebuilt;
 }

@@ -6,14 +6,12 @@ use Rattle.std.specs.List.{range_with_len}
 use Rattle.mont_base.specs.Image.{IsRecovered, records_of}
 use Rattle.mont_base.specs.Layout.{Shape, IsLayout, units_of}
 use Rattle.mont_base.specs.State.{State}
-use Rattle.mont_base.specs.Versions.{live_objects}
-use Rattle.plain.proofs.Single.{same_structure}
+use Rattle.plain.proofs.Single.{recovered_once}
 use Rattle.core_steps.specs.declared.parts.UnitPart.{UnitPart}
 use Rattle.core_steps.specs.Fresh.{fresh_words}
 use Rattle.heap_rule.specs.declared.rule.Opening.{Opening}
 use Rattle.heap.specs.FreshOpening.{fresh_opening}
 use Rattle.heap.proofs.EmptyStores.{nothing_recovered, opens_empty}
-use Rattle.store_stop.proofs.Items.{same_items}
 use Rattle.job_text.specs.declared.job.Job.{Job}
 use Rattle.job_text.specs.Grammar.{IsJob}
 use Rattle.job_store.specs.declared.whole_run.WholeRun.{WholeRun}
@@ -21,15 +19,10 @@ use Rattle.job_store.specs.WholeRun.{IsRunFrom, IsRunOn}
 use Rattle.job_store.specs.Base.{Base, IsBaseIn, BasesAreOne, FreshStoresHoldNothing, nothing}
 
 -- ---- one base
-pub same_states : (s : Shape) (image : List ℕ) (a b : List State) → IsRecovered s image a → IsRecovered s image b → a ≡ b
-same_states s image a b x y =
-    same_items a b (x.0 ∙ sym y.0)
-    (λ unit v w e f. same_structure s unit (live_objects (records_of s image unit)) v w (x.1 unit v e) (y.1 unit w f))
-
 pub bases_are_one : BasesAreOne
 bases_are_one s image a b x y = λ i. record {
   clock = (x.clock ∙ sym y.clock) i;
-  states = same_states s image a.states b.states x.recovered y.recovered i;
+  states = recovered_once s image a.states b.states x.recovered y.recovered i;
   records = (x.records ∙ sym y.records) i;
 }
 

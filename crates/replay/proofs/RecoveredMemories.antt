@@ -9,7 +9,6 @@ use Rattle.mont_base.specs.State.{State}
 use Rattle.mont_base.specs.Image.{IsPermitted, IsWellFormed, IsRecovered, records_of}
 use Rattle.mont_base.specs.Versions.{live_objects}
 use Rattle.mont_base.specs.Structure.{IsStructure}
-use Rattle.plain.proofs.Single.{same_structure}
 use Rattle.core_steps.specs.declared.event.Event.{Event}
 use Rattle.core_steps.specs.declared.event.Event.TheVariants as events
 use Rattle.core_steps.specs.declared.parts.Core.{Core}
@@ -118,22 +117,6 @@ module _ (c : Core) (sound : IsSound (nothing c.layout) c) where
         subst (λ (t : State). IsStructure c.layout u (live_objects (records_of c.layout image u)) t) (sym is)
         ((images_hold_cuts (nothing c.layout) c image sound permitted).cut u own.0 own.1),
   )
-
--- ---- recovery rebuilds one state of each unit
-equal_lists : {X : Type 0} (xs ys : List X) → length xs ≡ length ys
-    → ((u : ℕ) (x y : X) → slice_get xs u ≡ Some x → slice_get ys u ≡ Some y → x ≡ y) → xs ≡ ys
-equal_lists [] [] long each = refl
-equal_lists [] (y ∷ ys) long each = absurd (omega (arith, long))
-equal_lists (x ∷ xs) [] long each = absurd (omega (arith, long))
-equal_lists (x ∷ xs) (y ∷ ys) long each =
-    let first : x ≡ y = each 0 x y refl refl in
-    let others : xs ≡ ys = equal_lists xs ys (omega (arith, long)) (λ u a b p q. each (suc u) a b p q) in
-    cc
-
-pub recovered_once : (s : Shape) (image : List ℕ) (ss ts : List State) → IsRecovered s image ss → IsRecovered s image ts → ss ≡ ts
-recovered_once s image ss ts h i =
-    equal_lists ss ts (h.0 ∙ sym i.0)
-    (λ u a b p q. same_structure s u (live_objects (records_of s image u)) a b (h.1 u a p) (i.1 u b q))
 
 -- ---- the lines of both
 abbrev Row : Type 0

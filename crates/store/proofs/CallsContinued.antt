@@ -81,4 +81,5 @@ module _ (heap : HeapShown) (before behind : RegionShown) (q r : CallerShown) (o
     receipts = ap (λ (x : CallerShown). x.known.part.receipts) a.caller
         ∙ ap (λ (x : Receipt). q.known.part.receipts ++ x ∷ []) receipt_again;
     cuts = ap (λ (x : CallerShown). x.known.part.cuts) a.caller;
+    synced = ap (λ (x : CallerShown). x.known.part.synced) a.caller;
   }

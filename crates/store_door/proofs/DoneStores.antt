@@ -4,12 +4,11 @@ use Rattle.std.specs.Prelude.{slice_get, Some, All}
 use Rattle.std.proofs.lemmas.List.{length-map}
 use Rattle.std.proofs.lemmas.Option.{same_Some, slice_get-get_or, slice_get_within}
 use Rattle.mont_base.specs.declared.gate.Gate.{Ghosts}
-use Rattle.mont_base.specs.Image.{IsRecovered, empty_states, records_of}
+use Rattle.mont_base.specs.Image.{IsRecovered, empty_states}
 use Rattle.mont_base.specs.Layout.{Shape}
 use Rattle.mont_base.specs.State.{State}
-use Rattle.mont_base.specs.Versions.{live_objects}
 use Rattle.plain.specs.States.{states_of}
-use Rattle.plain.proofs.Single.{same_structure}
+use Rattle.plain.proofs.Single.{recovered_once}
 use Rattle.core_steps.specs.Fresh.{fresh_words}
 use Rattle.core_steps.proofs.RowFacts.{all_at, row_of_map, row_in_map}
 use Rattle.heap_rule.specs.declared.rule.Opening.{Opening}
@@ -144,12 +143,6 @@ as_many_works {G} {asks} heap first many all e =
     e ∙ sym all.many ∙ length-map first (λ (x : Pass G asks). x.ticket)
 
 -- ---- a store that was never used
--- recovery gives one base
-one_base : (s : Shape) (words : List ℕ) (a b : List State) → IsRecovered s words a → IsRecovered s words b → a ≡ b
-one_base s words a b x y =
-    same_items a b (x.0 ∙ sym y.0)
-    (λ unit v w e f. same_structure s unit (live_objects (records_of s words unit)) v w (x.1 unit v e) (y.1 unit w f))
-
 pub done_fresh : {W : Type 0} (did : Deed W) (layout : Shape) (heap : HeapShown) (olds news : List W) (t : Stopped)
     → heap.opening ≡ fresh_opening layout (length olds) → IsRecovered layout (fresh_words layout) (empty_states layout)
     → IsDone did heap olds news t → IsDoneFresh did layout olds news t
@@ -161,5 +154,5 @@ done_fresh did layout heap olds news t opened empty done =
       opened = opened;
       done = done;
       first = base.clock_is;
-      empty = one_base layout (fresh_words layout) (states_of t.base) (empty_states layout) base.recovered empty;
+      empty = recovered_once layout (fresh_words layout) (states_of t.base) (empty_states layout) base.recovered empty;
     }

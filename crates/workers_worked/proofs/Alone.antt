@@ -77,6 +77,7 @@ continued_alone layout clock newest calls entries receipts cuts op reply unit se
   calls = refl;
   receipts = refl;
   cuts = refl;
+  synced = refl;
 }
 
 -- ---- what it has of a refusal

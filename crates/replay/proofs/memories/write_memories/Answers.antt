@@ -2,10 +2,11 @@ use Rattle.std.proofs.Common.{◌≡◌, ◌++◌, List, ℕ, map, codes, sym, a
 use Rattle.std.specs.String.{string_bytes}
 use Rattle.mont_base.specs.Image.{IsWellFormed, IsRecovered}
 use Rattle.plain.specs.States.{state_of, states_of}
+use Rattle.plain.proofs.Single.{recovered_once}
 use Rattle.job_text.specs.Lines.{text_of}
 use Rattle.job_text.specs.ReportText.{contents_lines}
 use Rattle.replay.specs.Replays.{cut_states}
-use Rattle.replay.proofs.RecoveredMemories.{durable_permitted, current_permitted, well_formed, recovered, recovered_once, lines_told}
+use Rattle.replay.proofs.RecoveredMemories.{durable_permitted, current_permitted, well_formed, recovered, lines_told}
 use Rattle.replay.proofs.memories.write_memories.Goals as goal
 
 pub recover-requires : goal.recover-requires
