@@ -1,77 +1,24 @@
 // The trial of all cases of some files. A case's answer starts threads, which only what is handed
 // the runtime can do, so it is no subject of `case_file`.
 use crate::job_answers::answer;
-use anyhow::{Context, Result, anyhow};
-use case_file::{Case, is_wanted, read_cases, said};
+use anyhow::Result;
+use case_file::{Tally, cases_of};
+use std::env;
 use std::process::ExitCode;
 use std::rt::{Env, Files};
 use std::sync::Wait;
 use std::thread::Threads;
-use std::{env, fs};
-
-// How many cases were tried, and of how many came what isn't wanted.
-#[derive(Clone, Copy)]
-struct Tally {
-    tried: u64,
-    differing: u64,
-}
 
 /// Tries the cases of the files that the words of the command line name. For each it prints a line,
 /// and at last how many there were. The exit status is 0 where of each came what is wanted.
 pub fn try_jobs<R: Print + AllocGlobal + Files + Env + Threads + Wait + Sync>(
     rt: &R,
 ) -> Result<ExitCode> {
-    let mut tally = Tally {
-        tried: 0,
-        differing: 0,
-    };
+    let mut tally = Tally::new();
     for path in env::args(rt)?.skip(1) {
-        try_file(rt, path.as_str(), &mut tally)?;
-    }
-    let Tally { tried, differing } = tally;
-    println!(rt; "{tried} cases, {differing} of which came to what isn't wanted")?;
-    if differing == 0 {
-        Ok(ExitCode::SUCCESS)
-    } else {
-        Ok(ExitCode::FAILURE)
-    }
-}
-
-// Tries the cases of a file.
-fn try_file<R: Print + AllocGlobal + Files + Threads + Wait + Sync>(
-    rt: &R,
-    path: &str,
-    tally: &mut Tally,
-) -> Result<()> {
-    let text = fs::read(rt, path).context(format_args!("{path}"))?;
-    let cases = match read_cases(rt.alloc(), text.as_slice()) {
-        Ok(cases) => cases,
-        Err(refusal) => {
-            let (line, fault) = (refusal.line, refusal.fault);
-            return Err(anyhow!("{path}, line {line}: {fault}"));
+        for case in &cases_of(rt, path.as_str())? {
+            tally.take(rt, case, answer(rt, case))?;
         }
-    };
-    for case in &cases {
-        try_case(rt, case, tally)?;
     }
-    Ok(())
-}
-
-fn try_case<R: Print + AllocGlobal + Files + Threads + Wait + Sync>(
-    rt: &R,
-    case: &Case,
-    tally: &mut Tally,
-) -> Result<()> {
-    let name = case.name.as_str();
-    let got = match answer(rt, case) {
-        Ok(got) => got,
-        Err(why) => return Err(anyhow!("{name}: {why}")),
-    };
-    tally.tried = tally.tried.saturating_add(1);
-    if !is_wanted(case, got.as_slice()) {
-        tally.differing = tally.differing.saturating_add(1);
-    }
-    let line = said(rt.alloc(), case, got.as_slice())?;
-    println!(rt; "{line}")?;
-    Ok(())
+    tally.end(rt)
 }
