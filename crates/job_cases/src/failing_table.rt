@@ -1,10 +1,10 @@
-// Devices that fail in each of their calls. A line of a part `each failing` is `reads`, `image reads`,
-// `writes` or `image writes`: each call of that device fails in turn, and no other. Behind the word
-// `all`, as in `all writes`, the calls behind it fail too.
+// Devices that fail in each of their calls. A line of a part `each failing` is `reads`,
+// `image reads`, `writes` or `image writes`: each call of that device fails in turn, and no other.
+// Behind the word `all`, as in `all writes`, the calls behind it fail too.
 //
 // For each line the table has the numbers of the calls with what is said of the fault, up to the
-// first call that isn't made. What the sinks took besides is looked at: of the device that fails the
-// front that its calls before took, of an image nothing before the whole report.
+// first call that isn't made. What the sinks took besides is looked at: of the device that fails
+// the front that its calls before took, of an image nothing before the whole report.
 use crate::devices_told::{Device, Devices};
 use crate::job_answers::{image_of, job_of, words_in};
 use crate::number_ranges::NumberRanges;

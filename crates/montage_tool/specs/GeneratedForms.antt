@@ -1,5 +1,5 @@
--- The generated job or the generated bank of a number, run on a store of its own: what may be written
--- of it, and why nothing is. No source is asked: boxes are all that is given.
+-- The generated job or the generated bank of a number, run on a store of its own: what may be
+-- written of it, and why nothing is. No source is asked: boxes are all that is given.
 use Rattle.std.specs.Prelude.{◌≡◌, ℕ, ◌<◌, List, [], ◌∷◌, ◌++◌, codes}
 use Rattle.mont_base.specs.declared.constants.TheConstants.{LAST}
 use Rattle.mont_base.specs.declared.operation.Entry.{Entry}

@@ -1,5 +1,5 @@
--- A report that is held against an image, and a schedule that is replayed: what is given, what may be
--- written of it, and why nothing is.
+-- A report that is held against an image, and a schedule that is replayed: what is given, what may
+-- be written of it, and why nothing is.
 use Rattle.std.specs.Prelude.{◌≡◌, ◌⊎◌, ℕ, ◌<◌, ◌≤◌, List, [], ◌∷◌, ◌++◌, length, false, true, Option, Some, IfSome}
 use Rattle.image_units.specs.declared.image_fault.ImageFault.{ImageFault}
 use Rattle.image_units.specs.declared.image_fault.ImageFault.TheVariants.{Magic, Version, Layout, Clock, Short, Long, Slot, Twice, Object}
@@ -33,7 +33,8 @@ pub record TellsReport (left : Option (List ℕ)) (r : Report) : Type 0 where
   pub told : left ≡ Some (report_text r)
   pub few : length (report_text r) ≤ REPORT_BYTES
 
--- its bytes are too many, which is told as line 0, or no report's text, which is refused at this line
+-- its bytes are too many, which is told as line 0, or no report's text, which is refused at this
+-- line
 abbrev pub IsWrongReport : List ℕ → ℕ → Type 0
 IsWrongReport text line =
     ((line ≡ 0) × (REPORT_BYTES < length text))

@@ -13,7 +13,8 @@ use mont_image::Image;
 use std::alloc::Global;
 use std::thread::Threads;
 
-/// What comes of a case: of its chains, of images that are damaged, or of its image what each line of the part `ask` asks.
+/// What comes of a case: of its chains, of images that are damaged, or of its image what each line
+/// of the part `ask` asks.
 pub fn answer_to(
     rt: &(impl AllocGlobal + Threads + Sync),
     case: &Case,

@@ -13,7 +13,8 @@ use Rattle.replay.specs.Replays.{unit_words, core_words}
 -- the words of a unit, behind a space each
 pub shown : (was : List ℕ) (a b : ℕ) (s t : List ℕ) → a ≡ b → s ≡ t
     → was ++ (32 ∷ (decimal a ++ 32 ∷ s)) ≡ was ++ ((32 ∷ decimal b) ++ ((32 ∷ t) ++ []))
-shown was a b s t e f = (λ i. was ++ (32 ∷ (decimal (e i) ++ 32 ∷ f i))) ∙ ap (λ (bs : List ℕ). was ++ (32 ∷ (decimal b ++ 32 ∷ bs))) (sym (append-nil t))
+shown was a b s t e f = (λ i. was ++ (32 ∷ (decimal (e i) ++ 32 ∷ f i))) ∙ ap (λ (bs : List ℕ). was ++ (32 ∷ (decimal b ++ 32 ∷ bs)))
+    (sym (append-nil t))
 
 nested : {X : Type 0} (f : X → List (List ℕ)) (xs : List X)
     → flat_map (λ (word : List ℕ). 32 ∷ word) (flat_map f xs) ≡ flat_map (λ (x : X). flat_map (λ (word : List ℕ). 32 ∷ word) (f x)) xs
@@ -28,7 +29,8 @@ regroup old s f e = simp append_assoc
 -- the clocks, what each unit shows, and a line feed
 pub core_line : (old begun told now : List ℕ) (n : ℕ) (c : Core)
     → begun ≡ old ++ (decimal n ++ 32 ∷ (decimal (clock c) ++ 32 ∷ decimal (durable_clock c)))
-    → told ≡ begun ++ flat_map (λ (p : ℕ × UnitPart). flat_map (λ (word : List ℕ). 32 ∷ word) (unit_words c.told p)) (enumerate_from 0 c.units)
+    → told ≡ begun ++ flat_map (λ (p : ℕ × UnitPart). flat_map (λ (word : List ℕ). 32 ∷ word) (unit_words c.told p))
+        (enumerate_from 0 c.units)
     → now ≡ told ++ 10 ∷ [] → now ≡ old ++ line_of (core_words (n, c))
 core_line old begun told now n c e f g =
     let front : List ℕ = decimal n ++ 32 ∷ (decimal (clock c) ++ 32 ∷ decimal (durable_clock c)) in

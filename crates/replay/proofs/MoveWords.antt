@@ -117,7 +117,8 @@ event_seen (events.Join part note) run h beside = absurd h
 event_seen (events.Exchange part) run h beside = absurd h
 
 -- ---- and are few
-few_answer : (o : Op) (r : Reply) (run : Run) → IsOp o → IsReply (is_of_key o) r → IsRunOf r run → 4 + length (answer_words o r run) ≤ MOST_WORDS
+few_answer : (o : Op) (r : Reply) (run : Run) → IsOp o → IsReply (is_of_key o) r → IsRunOf r run → 4 + length
+    (answer_words o r run) ≤ MOST_WORDS
 few_answer o r run is fits of =
     let short : length (entry_words 0 (record { caller = 0; call = 0; op = o; reply = r; epoch = 0 }, run)) ≤ MOST_WORDS =
     (entry_part 1 0 (lit≤ tt, lit< tt)).short (record { caller = 0; call = 0; op = o; reply = r; epoch = 0 }, run)
@@ -163,7 +164,8 @@ same_args e f a b h i same =
 
 part_once : (p q : Part) → IsPartName p → IsPartName q → part_words p ≡ part_words q → p ≡ q
 part_once (parts.Unit u) (parts.Unit v) h i e = let n : u ≡ v = decimal_injective u v h i (let d : decimal u ≡ decimal v = cc in d) in cc
-part_once (parts.Caller u) (parts.Caller v) h i e = let n : u ≡ v = decimal_injective u v h i (let d : decimal u ≡ decimal v = cc in d) in cc
+part_once (parts.Caller u) (parts.Caller v) h i e = let n : u ≡ v =
+    decimal_injective u v h i (let d : decimal u ≡ decimal v = cc in d) in cc
 part_once (parts.Unit u) (parts.Caller v) h i e = let w : codes "unit" ≡ codes "caller" = cc in absurd (omega (arith, ap length w))
 part_once (parts.Caller u) (parts.Unit v) h i e = let w : codes "caller" ≡ codes "unit" = cc in absurd (omega (arith, ap length w))
 part_once parts.Advancer q h i e = absurd h
@@ -179,7 +181,8 @@ event_once (events.Look unit) (events.Look v) a b h i of too e =
 event_once (events.Look unit) f a b h i of too e =
     let n : names.Look ≡ name_of f = same_name (events.Look unit) f a b h i e in absurd (cc)
 event_once (events.Tell unit epoch) (events.Tell v x) a b h i of too e =
-    let args : decimal unit ∷ decimal epoch ∷ [] ≡ decimal v ∷ decimal x ∷ [] = same_args (events.Tell unit epoch) (events.Tell v x) a b h i e in
+    let args : decimal unit ∷ decimal epoch ∷ [] ≡ decimal v ∷ decimal x ∷ [] =
+        same_args (events.Tell unit epoch) (events.Tell v x) a b h i e in
     let n0 : unit ≡ v = decimal_injective unit v h.0 i.0 (let d : decimal unit ≡ decimal v = cc in d) in
     let n1 : epoch ≡ x = decimal_injective epoch x h.1 i.1 (let d : decimal epoch ≡ decimal x = cc in d) in
     (cc, of ∙ sym too)
@@ -192,7 +195,8 @@ event_once (events.Confirm unit) (events.Confirm v) a b h i of too e =
 event_once (events.Confirm unit) f a b h i of too e =
     let n : names.Confirm ≡ name_of f = same_name (events.Confirm unit) f a b h i e in absurd (cc)
 event_once (events.Store unit slot field value) (events.Store v t g w) a b h i of too e =
-    let args : decimal unit ∷ decimal slot ∷ decimal field ∷ decimal value ∷ [] ≡ decimal v ∷ decimal t ∷ decimal g ∷ decimal w ∷ [] = same_args (events.Store unit slot field value) (events.Store v t g w) a b h i e in
+    let args : decimal unit ∷ decimal slot ∷ decimal field ∷ decimal value ∷ [] ≡ decimal v ∷ decimal t ∷ decimal g ∷ decimal w ∷ [] =
+        same_args (events.Store unit slot field value) (events.Store v t g w) a b h i e in
     let n0 : unit ≡ v = decimal_injective unit v h.0 i.0 (let d : decimal unit ≡ decimal v = cc in d) in
     let n1 : slot ≡ t = decimal_injective slot t h.1 i.1 (let d : decimal slot ≡ decimal t = cc in d) in
     let n2 : field ≡ g = decimal_injective field g h.2 i.2 (let d : decimal field ≡ decimal g = cc in d) in
@@ -231,7 +235,8 @@ event_once (events.Withdraw unit) (events.Withdraw v) a b h i of too e =
 event_once (events.Withdraw unit) f a b h i of too e =
     let n : names.Withdraw ≡ name_of f = same_name (events.Withdraw unit) f a b h i e in absurd (cc)
 event_once (events.Freeze unit caller) (events.Freeze v j) a b h i of too e =
-    let args : decimal unit ∷ decimal caller ∷ [] ≡ decimal v ∷ decimal j ∷ [] = same_args (events.Freeze unit caller) (events.Freeze v j) a b h i e in
+    let args : decimal unit ∷ decimal caller ∷ [] ≡ decimal v ∷ decimal j ∷ [] =
+        same_args (events.Freeze unit caller) (events.Freeze v j) a b h i e in
     let n0 : unit ≡ v = decimal_injective unit v h.0 i.0 (let d : decimal unit ≡ decimal v = cc in d) in
     let n1 : caller ≡ j = decimal_injective caller j h.1 i.1 (let d : decimal caller ≡ decimal j = cc in d) in
     (cc, of ∙ sym too)
@@ -243,7 +248,8 @@ event_once (events.LoadDurable part) (events.LoadDurable q) a b h i of too e =
 event_once (events.LoadDurable part) f a b h i of too e =
     let n : names.Durable ≡ name_of f = same_name (events.LoadDurable part) f a b h i e in absurd (cc)
 event_once (events.CloseLabel unit slot) (events.CloseLabel v t) a b h i of too e =
-    let args : decimal unit ∷ decimal slot ∷ [] ≡ decimal v ∷ decimal t ∷ [] = same_args (events.CloseLabel unit slot) (events.CloseLabel v t) a b h i e in
+    let args : decimal unit ∷ decimal slot ∷ [] ≡ decimal v ∷ decimal t ∷ [] =
+        same_args (events.CloseLabel unit slot) (events.CloseLabel v t) a b h i e in
     let n0 : unit ≡ v = decimal_injective unit v h.0 i.0 (let d : decimal unit ≡ decimal v = cc in d) in
     let n1 : slot ≡ t = decimal_injective slot t h.1 i.1 (let d : decimal slot ≡ decimal t = cc in d) in
     (cc, of ∙ sym too)

@@ -51,7 +51,8 @@ same_records c (events.Store u slot field value) less =
     (λ p. store_kept p slot field value)
 same_records c (events.Leave u k op reply) less = absurd less
 same_records c (events.Read u k op reply) less =
-    both_rows records c u _ _ (λ p q. read c u p k q (entry_of k q op reply (clock c))) (λ p q. after_read p (entry_of k q op reply (clock c))) refl
+    both_rows records c u _ _ (λ p q. read c u p k q (entry_of k q op reply (clock c)))
+        (λ p q. after_read p (entry_of k q op reply (clock c))) refl
     (λ p q. refl) (λ p q. refl)
 same_records c (events.Withdraw u) less = unit_row records c u _ (λ p. withdraw c u p) (λ p. after_withdraw p) refl (λ p. refl) (λ p. refl)
 same_records c (events.Freeze u k) less =
@@ -74,7 +75,8 @@ same_records c (events.Join parts.Advancer note) less = refl
 same_records c (events.Join (parts.Caller k) note) less = caller_row records c _ (λ q. hear c k q note) (λ q. refl)
 same_records c (events.Exchange part) less = refl
 
-pub recordless_of : (e : Event) → ((u k : ℕ) (o : Op) (r : Reply) → e ≡ events.Leave u k o r → ⊥) → ((u : ℕ) → e ≡ events.PersistClose u → ⊥)
+pub recordless_of : (e : Event) → ((u k : ℕ) (o : Op) (r : Reply) → e ≡ events.Leave u k o r → ⊥)
+    → ((u : ℕ) → e ≡ events.PersistClose u → ⊥)
     → IsRecordless e
 recordless_of (events.Leave u k o r) l m = l u k o r refl
 recordless_of (events.PersistClose u) l m = m u refl

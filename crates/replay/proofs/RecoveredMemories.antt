@@ -84,7 +84,8 @@ last_sound s layout all =
     (all_law (nothing s.layout) (fresh_core s) s.events (fresh_cores_are_sound s.layout s.callers layout) (each_allowed s all))
 
 -- an item of a numbered list
-pub numbered_state : {X Y : Type 0} (f : ℕ × X → Y) (k : ℕ) (xs : List X) (u : ℕ) (y : Y) → slice_get (map f (enumerate_from k xs)) u ≡ Some y
+pub numbered_state : {X Y : Type 0} (f : ℕ × X → Y) (k : ℕ) (xs : List X) (u : ℕ) (y : Y) → slice_get
+    (map f (enumerate_from k xs)) u ≡ Some y
     → (x : X) × (slice_get xs u ≡ Some x) × (y ≡ f (k + u, x))
 numbered_state {X} {Y} f k [] u y at = absurd (let none : ◌≡◌ {A = Option Y} None (Some y) = at in cc)
 numbered_state {X} {Y} f k (x ∷ xs) zero y at =

@@ -91,7 +91,8 @@ module _ (text : List ℕ) (s : Schedule) (rest more : List ℕ) (f : IsSoFar te
   grown : IsFront (text ++ more) (schedule_lines s) (rest ++ more)
   grown = front_more text (schedule_lines s) rest more (front_of text s rest f)
 
-  line_refused : NoneGoesOn (text ++ more) (schedule_lines s) (rest ++ more) grown → IsFirstRefused (text ++ more) (length (schedule_lines s) + 1)
+  line_refused : NoneGoesOn (text ++ more) (schedule_lines s) (rest ++ more) grown → IsFirstRefused (text ++ more)
+      (length (schedule_lines s) + 1)
   line_refused none = record {
     place = length (schedule_lines s);
     counted = refl;
@@ -133,7 +134,8 @@ abbrev pub with_move : Schedule → Move → Schedule
 with_move s m = record s { events = s.events ++ m.0 ∷ []; runs = s.runs ++ kept_run (has_pairs m.0) m.1 }
 
 module _ (text : List ℕ) (s : Schedule) (rest : List ℕ) (f : IsSoFar text s rest) (m : Move) (line after : List ℕ)
-    (b : BeginsWith rest (length (schedule_lines s)) line after) (is : IsMove s.layout s.callers m) (same : line ≡ spaced (move_words m)) where
+    (b : BeginsWith rest (length (schedule_lines s)) line after) (is : IsMove s.layout s.callers m)
+        (same : line ≡ spaced (move_words m)) where
   moves_more : moves (with_move s m) ≡ moves s ++ m ∷ []
   moves_more = moves_push s.events s.runs m.0 m.1 f.is_schedule.runs (run_suits m.0 m.1 is.run)
 

@@ -168,7 +168,8 @@ no_confirm args none (events.Confirm unit) run h beside n same = none (unit ∷ 
 no_confirm args none _ run h beside n same = absurd (cc)
 
 pub no_store : (args : List (List ℕ)) → NoNumbers 4 args → NoneNamed names.Store args
-no_store args none (events.Store unit slot field value) run h beside n same = none (unit ∷ slot ∷ field ∷ value ∷ []) refl (four_numbers unit slot field value h.0 h.1 h.2 h.3) same
+no_store args none (events.Store unit slot field value) run h beside n same =
+    none (unit ∷ slot ∷ field ∷ value ∷ []) refl (four_numbers unit slot field value h.0 h.1 h.2 h.3) same
 no_store args none _ run h beside n same = absurd (cc)
 
 pub no_withdraw : (args : List (List ℕ)) → NoNumbers 1 args → NoneNamed names.Withdraw args

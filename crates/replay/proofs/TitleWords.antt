@@ -39,7 +39,8 @@ title_seen s n is =
 pub title_tail_words : (line rest : List ℕ) (s : Shape) (n : ℕ) → line ≡ codes "montage-schedule 1 " ++ rest → IsTitle s n
     → line ≡ spaced (title_words s n) → words_of rest ≡ title_tail s n
 title_tail_words line rest s n front is same =
-    words_from_line rest (letters_of s.kinds) (decimal s.slots ∷ decimal n ∷ []) (words_lack 32 (omega arith) (title_tail s n) (tail_seen s n is))
+    words_from_line rest (letters_of s.kinds) (decimal s.slots ∷ decimal n ∷ [])
+        (words_lack 32 (omega arith) (title_tail s n) (tail_seen s n is))
     (append_cancel_left (codes "montage-schedule 1 ") rest (spaced (title_tail s n)) (sym front ∙ same))
 
 -- three words, each by itself
@@ -86,7 +87,8 @@ title_told line rest ws None front own h = λ s n is same. h s n is (own ∙ tit
 title_told line rest ws (Some p) front own h = (h.0, title_from_tail line rest p.0 p.1 front (sym own ∙ h.1))
 
 -- a line is the first of one layout and one number of callers
-pub title_once : (s t : Shape) (m n : ℕ) → IsTitle s m → IsTitle t n → spaced (title_words s m) ≡ spaced (title_words t n) → (s ≡ t) × (m ≡ n)
+pub title_once : (s t : Shape) (m n : ℕ) → IsTitle s m → IsTitle t n → spaced (title_words s m) ≡ spaced (title_words t n)
+    → (s ≡ t) × (m ≡ n)
 title_once s t m n is are same =
     let words : title_words s m ≡ title_words t n =
     words_once (codes "montage-schedule") (codes "montage-schedule") (codes "1" ∷ title_tail s m) (codes "1" ∷ title_tail t n)

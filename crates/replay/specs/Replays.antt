@@ -49,7 +49,8 @@ unit_states c = map (state_of_history c.layout) (enumerate_from 0 (histories_of 
 -- ---- which events are allowed
 -- the run beside a number of pairs is what the range gives of the unit's state
 abbrev pub IsRunOn : Core → ℕ → Op → Reply → Run → Type 0
-IsRunOn c u op (replies.Pairs number) run = OfUnit c u (λ p. run_of (unit_state c u p) op ≡ Some run)
+IsRunOn c u op (replies.Pairs number) run =
+    OfUnit c u (λ p. run_of (unit_state c u p) op ≡ Some run)
 IsRunOn c u op _ run = Unit {0}
 
 abbrev pub HasItsRun : Core → Event → Run → Type 0
@@ -97,7 +98,8 @@ last_core s = after_all (fresh_core s) s.events
 
 -- of each unit the state of its history, cut two epochs before the clock of an image
 abbrev pub cut_state : Core → List ℕ → ℕ × UnitPart → State
-cut_state c image p = state_after (base_state (nothing c.layout) p.0) (cut_at (cut_of image) p.1.history)
+cut_state c image p =
+    state_after (base_state (nothing c.layout) p.0) (cut_at (cut_of image) p.1.history)
 
 abbrev pub cut_states : Core → List ℕ → List State
 cut_states c image = map (cut_state c image) (enumerate_from 0 c.units)

@@ -66,7 +66,8 @@ single_holds lost x q is = and_from (leb x q) (leb q x) (le-leb x q (omega arith
 
 held_single : (lost : Bool) (q : ℕ) (xs : List ℕ) (ds : List Column) → Has q xs → Held q (map (single lost) xs ++ ds)
 held_single lost q [] ds has = absurd has
-held_single lost q (x ∷ xs) ds has = elim has [ inl here ↦ inl (single_holds lost x q here) | inr more ↦ inr (held_single lost q xs ds more) ]
+held_single lost q (x ∷ xs) ds has = elim has
+    [ inl here ↦ inl (single_holds lost x q here) | inr more ↦ inr (held_single lost q xs ds more) ]
 
 held_behind : (q : ℕ) (cs ds : List Column) → Held q ds → Held q (cs ++ ds)
 held_behind q [] ds held = held
@@ -190,7 +191,8 @@ held_in lost End es low q up has =
                 (elim (has_either q (between es) zs later) [
                   | inl middle ↦ inl (subst (λ (d : Column). holds d q ≡ true) (between_ends lost es many)
                       (held_fold lost End q upper.0 (between es) zs upper.1 middle))
-                  | inr last ↦ inr (subst (λ (cs : List Column). Held q cs) (append-nil (map (single lost) zs)) (held_single lost q zs [] last))
+                  | inr last ↦ inr (subst (λ (cs : List Column). Held q cs) (append-nil (map (single lost) zs))
+                      (held_single lost q zs [] last))
                 ])
           ]
     ]) refl

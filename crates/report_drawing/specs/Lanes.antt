@@ -56,7 +56,11 @@ is_entry _ = false
 
 abbrev pub outcome_shown : ℕ → ℕ → Outcome → Shown
 outcome_shown image_clock epoch o =
-    record { epoch = epoch; lost = is_entry o && is_lost image_clock epoch; label = outcome_label o }
+    record {
+      epoch = epoch;
+      lost = is_entry o && is_lost image_clock epoch;
+      label = outcome_label o;
+    }
 
 abbrev pub caller_lane : Report → List Outcome → List Shown
 caller_lane r os =

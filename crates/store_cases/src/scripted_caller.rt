@@ -87,8 +87,8 @@ impl<N: HeapName> Caller<N> {
         }
     }
 
-    /// Shifts an amount between the numbers under two keys: the receipts of both. There is no answer
-    /// where the store has no map.
+    /// Shifts an amount between the numbers under two keys: the receipts of both. There is no
+    /// answer where the store has no map.
     pub fn shift<R: Wait, I: Index>(
         &mut self,
         rt: &R,

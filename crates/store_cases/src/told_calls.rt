@@ -7,8 +7,8 @@ use job_text::Outcome;
 use mont_base::{CallRefusal, Epoch, PairList, Receipt, Reply};
 use std::alloc::{AllocError, Global};
 
-/// Tells what an operation was answered: `at UNIT PLACE EPOCH = REPLY`, and behind that the pairs of
-/// a range, or why it was refused.
+/// Tells what an operation was answered: `at UNIT PLACE EPOCH = REPLY`, and behind that the pairs
+/// of a range, or why it was refused.
 pub fn tell_call(
     told: &mut String,
     alloc: Global,

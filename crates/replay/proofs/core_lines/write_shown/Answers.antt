@@ -12,7 +12,8 @@ pub loop-unit-preserved : goal.loop-unit-preserved
 loop-unit-preserved c =
     let told = c.args.told.now in
     let part = c.index-units-unit.result in
-    numbered_item (λ (p : ℕ × UnitPart). flat_map (λ (word : List ℕ). 32 ∷ word) (unit_words told p)) c.args.units.now c.loop-unit.unit part part
+    numbered_item (λ (p : ℕ × UnitPart). flat_map (λ (word : List ℕ). 32 ∷ word) (unit_words told p)) c.args.units.now
+        c.loop-unit.unit part part
     (string_bytes c.args.text.now) (string_bytes c.loop-unit.text) (string_bytes c.write.new.self) (omega arith) c.index-units-unit.is
     c.loop-unit.invariant
     (c.in_ok-write.ensures.bytes

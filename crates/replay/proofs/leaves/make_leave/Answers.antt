@@ -24,7 +24,8 @@ returns-then-not-is_leaving-clause-refused c = λ same h.
     let needs = leave_needs core c.requires.sound a.unit a.caller a.op.now a.reply.now x at rs c.in_ok-newest.ensures.newest h in
     let yes =
     c.is_leaving.ensures.1
-    (subst (λ (es : List Effect). IsLeaving core a.unit a.caller rs a.op.now es) (sym (c.deref.ensures.value ∙ c.in_ok-effects.ensures)) needs.0) in
+    (subst (λ (es : List Effect). IsLeaving core a.unit a.caller rs a.op.now es)
+        (sym (c.deref.ensures.value ∙ c.in_ok-effects.ensures)) needs.0) in
     let no = c.if-not-is_leaving.true in
     absurd (cc)
 
@@ -36,7 +37,8 @@ returns-then-not-is_reply-clause-refused c = λ same h.
     let rs = values c.in_ok-newest.newest.records in
     let at = some_there core a.states.now c.requires.states a.unit c.in-Some.state.now c.in-Some.ensures in
     let needs = leave_needs core c.requires.sound a.unit a.caller a.op.now a.reply.now x at rs c.in_ok-newest.ensures.newest h in
-    let told = told_reply core (map state_of a.states.now) (map state_of c.answered.new.states) c.requires.states a.unit a.op.now c.in_ok-told.told x
+    let told = told_reply core (map state_of a.states.now)
+        (map state_of c.answered.new.states) c.requires.states a.unit a.op.now c.in_ok-told.told x
     c.in_ok-told.ensures at in
     let yes = c.is_reply.ensures.1 (told ∙ ap Some (sym needs.1)) in
     let no = c.if-not-is_reply.true in
@@ -49,7 +51,8 @@ leave-requires-clause-allowed c =
     let x = state_of c.in-Some.state.now in
     let rs = values c.in_ok-newest.newest.records in
     let at = some_there core a.states.now c.requires.states a.unit c.in-Some.state.now c.in-Some.ensures in
-    let told = told_reply core (map state_of a.states.now) (map state_of c.answered.new.states) c.requires.states a.unit a.op.now c.in_ok-told.told x
+    let told = told_reply core (map state_of a.states.now)
+        (map state_of c.answered.new.states) c.requires.states a.unit a.op.now c.in_ok-told.told x
     c.in_ok-told.ensures at in
     leave_may core c.requires.sound a.unit a.caller a.op.now a.reply.now x at rs c.in_ok-newest.ensures.newest
     (subst (λ (es : List Effect). IsLeaving core a.unit a.caller rs a.op.now es) (c.deref.ensures.value ∙ c.in_ok-effects.ensures)
@@ -63,7 +66,8 @@ returns-clause-allowed c =
     let x = state_of c.in-Some.state.now in
     let rs = values c.in_ok-newest.newest.records in
     let at = some_there core a.states.now c.requires.states a.unit c.in-Some.state.now c.in-Some.ensures in
-    let told = told_reply core (map state_of a.states.now) (map state_of c.answered.new.states) c.requires.states a.unit a.op.now c.in_ok-told.told x
+    let told = told_reply core (map state_of a.states.now)
+        (map state_of c.answered.new.states) c.requires.states a.unit a.op.now c.in_ok-told.told x
     c.in_ok-told.ensures at in
     leave_may core c.requires.sound a.unit a.caller a.op.now a.reply.now x at rs c.in_ok-newest.ensures.newest
     (subst (λ (es : List Effect). IsLeaving core a.unit a.caller rs a.op.now es) (c.deref.ensures.value ∙ c.in_ok-effects.ensures)
@@ -77,7 +81,8 @@ returns-clause-states c =
     let x = state_of c.in-Some.state.now in
     let rs = values c.in_ok-newest.newest.records in
     let at = some_there core a.states.now c.requires.states a.unit c.in-Some.state.now c.in-Some.ensures in
-    let told = told_reply core (map state_of a.states.now) (map state_of c.answered.new.states) c.requires.states a.unit a.op.now c.in_ok-told.told x
+    let told = told_reply core (map state_of a.states.now)
+        (map state_of c.answered.new.states) c.requires.states a.unit a.op.now c.in_ok-told.told x
     c.in_ok-told.ensures at in
     let allowed =
     leave_may core c.requires.sound a.unit a.caller a.op.now a.reply.now x at rs c.in_ok-newest.ensures.newest
@@ -95,13 +100,15 @@ returns-clause-kept c =
     let x = state_of c.in-Some.state.now in
     let rs = values c.in_ok-newest.newest.records in
     let at = some_there core a.states.now c.requires.states a.unit c.in-Some.state.now c.in-Some.ensures in
-    let told = told_reply core (map state_of a.states.now) (map state_of c.answered.new.states) c.requires.states a.unit a.op.now c.in_ok-told.told x
+    let told = told_reply core (map state_of a.states.now)
+        (map state_of c.answered.new.states) c.requires.states a.unit a.op.now c.in_ok-told.told x
     c.in_ok-told.ensures at in
     let allowed =
     leave_may core c.requires.sound a.unit a.caller a.op.now a.reply.now x at rs c.in_ok-newest.ensures.newest
     (subst (λ (es : List Effect). IsLeaving core a.unit a.caller rs a.op.now es) (c.deref.ensures.value ∙ c.in_ok-effects.ensures)
     (c.is_leaving.ensures.0 c.if-not-is_leaving.false))
     (same_reply _ _ c.in_ok-told.told told (c.is_reply.ensures.0 c.if-not-is_reply.false)) in
-    subst (λ ns. AreKept ns c.leave.new.core.units) (sym (c.put_newest.ensures ∙ ap (λ ns. slice_set ns a.unit (Some c.leave.new.newest)) c.in_ok-newest.ensures.rest))
+    subst (λ ns. AreKept ns c.leave.new.core.units)
+        (sym (c.put_newest.ensures ∙ ap (λ ns. slice_set ns a.unit (Some c.leave.new.newest)) c.in_ok-newest.ensures.rest))
     (left_kept core c.leave.new.core a.unit a.caller a.op.now a.reply.now (slice_set a.kept.now a.unit None) c.leave.new.newest allowed
     c.in_ok-leave.ensures.ok c.in_ok-leave.ensures.newest (forgot a.kept.now core.units a.unit c.requires.kept))
