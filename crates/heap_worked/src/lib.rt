@@ -10,7 +10,7 @@ mod openings;
 #[cfg(test)]
 mod queue_steps;
 #[cfg(test)]
-mod side_by_side;
+mod stepping_threads;
 #[cfg(test)]
 mod tests;
 

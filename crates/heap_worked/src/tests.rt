@@ -2,7 +2,7 @@
 use crate::bench::Bench;
 use crate::openings::{begin, stop};
 use crate::queue_steps::{count, take_back};
-use crate::side_by_side::run_beside;
+use crate::stepping_threads::run_beside;
 use std::test::Fail;
 
 // What the first caller has seen of the unit comes to the other by a note, and by the seats of the
@@ -40,7 +40,7 @@ fn notes_are_taken(rt: HostRuntime) -> Result<(), Fail> {
 // An announcement is taken back, and then the unit and a caller step in threads of their own while
 // the clock moves on.
 #[test]
-fn seats_step_side_by_side(rt: HostRuntime) -> Result<(), Fail> {
+fn seats_step_stepping_threads(rt: HostRuntime) -> Result<(), Fail> {
     let Bench {
         heap,
         mut queue,

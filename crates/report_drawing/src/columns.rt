@@ -5,7 +5,7 @@ ghost use Rattle.report_drawing.specs.declared.lanes.Cell.{Cell};
 ghost use Rattle.report_drawing.specs.Lanes.{cells_of};
 ghost use Rattle.report_drawing.specs.Columns.{epochs_in, single, columns_in, columns_at, holds, AreColumns};
 
-use crate::counts::{is_lost, last_kept};
+use crate::kept_calls::{is_lost, last_kept};
 use crate::lanes::{Cell, Lane};
 use job_text::Report;
 use mont_base::Epoch;

@@ -3,7 +3,7 @@
 ghost use Rattle.std.specs.Prelude.{◌≡◌, ◌++◌, map, slice_get, IfOk, OnOk};
 ghost use Rattle.report_drawing.specs.Lanes.{is_entry, entry_shown, outcome_shown, told_epoch, epoch_in, unit_lane, caller_lane, unit_lanes, caller_lanes, lanes_of, shown_of, cells_of};
 
-use crate::counts::is_lost;
+use crate::kept_calls::is_lost;
 use crate::labels::{caller_letter, entry_label, kind_word, outcome_label};
 use job_text::{Outcome, Report};
 use mont_base::{Entry, Epoch, Sequence};

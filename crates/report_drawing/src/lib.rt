@@ -3,8 +3,8 @@
 #![tactic(auto)]
 
 mod columns;
-mod counts;
 mod folding;
+mod kept_calls;
 mod label_spelling;
 mod labels;
 mod lanes;

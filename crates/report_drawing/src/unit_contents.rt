@@ -1,6 +1,6 @@
 // The lines below the lanes: of each unit what it held before the run and what recovery finds, and
 // last what was answered, kept and lost.
-use crate::counts::all_calls;
+use crate::kept_calls::all_calls;
 use crate::label_spelling::Word;
 use crate::lanes::unit_name;
 use job_text::Report;

@@ -4,7 +4,7 @@ ghost use Rattle.std.specs.Prelude.{◌≡◌, vec_len, IfOk};
 
 use crate::common_start::Start;
 use crate::crashed_images::picked;
-use crate::drawn_calls::Draws;
+use crate::drawn_operations::Draws;
 use crate::judged_rounds::{expected, has_durable, judge};
 use crate::round_callers::RoundCaller;
 use crate::swept_stores::{behind_cut_sweeps, swept};

@@ -12,7 +12,7 @@ mod common_start;
 #[cfg(test)]
 mod crashed_images;
 #[cfg(test)]
-mod drawn_calls;
+mod drawn_operations;
 #[cfg(test)]
 mod judged_rounds;
 #[cfg(test)]

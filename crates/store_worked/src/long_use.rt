@@ -6,7 +6,7 @@ ghost use Rattle.store.specs.Store.{AreAllCallers};
 ghost use Rattle.store_worked.specs.SameCallers.{IsSameCaller};
 
 use crate::crashed_images::{contents_of, picked};
-use crate::drawn_calls::Draws;
+use crate::drawn_operations::Draws;
 use heap::{Heap, Seats};
 use heap_pass::{HeapName, Pass};
 use index_kit::SortedIndex;

@@ -4,7 +4,7 @@ ghost use Rattle.std.specs.Prelude.{◌≡◌, vec_len, IfOk};
 
 use crate::common_start::Start;
 use crate::crashed_images::{contents_of, picked};
-use crate::drawn_calls::Draws;
+use crate::drawn_operations::Draws;
 use crate::shifting_parties::{FIRST, KEYS, Part, Party};
 use crate::swept_stores::swept;
 use index_kit::SortedIndex;

@@ -4,7 +4,7 @@ ghost use Rattle.std.specs.Prelude.{◌≡◌};
 ghost use Rattle.store.specs.StoreCalls.{IsSamePass};
 
 use crate::common_start::Start;
-use crate::drawn_calls::Draws;
+use crate::drawn_operations::Draws;
 use heap_pass::{HeapName, Pass};
 use index_kit::Index;
 use mont_base::{Fuel, Op, Receipt, Text};

@@ -3,7 +3,7 @@
 ghost use Rattle.std.specs.Prelude.{◌≡◌, ◌≤◌, true, IfOk};
 
 use crate::crashed_images::{have_same_units, picked};
-use crate::drawn_calls::Draws;
+use crate::drawn_operations::Draws;
 use mont_base::{Fuel, Steady};
 use mont_image::Image;
 use plain::Contents;

@@ -5,7 +5,7 @@ ghost use Rattle.mont_base.specs.Layout.{units_of, total_of, words_of};
 ghost use Rattle.mont_base.specs.Image.{clock_of};
 
 use crate::case_rows::{is_shown, layout_of, number_of, numbers_of, rows_in};
-use crate::image_told::{UnitRecords, recovered, unit_records};
+use crate::image_findings::{UnitRecords, recovered, unit_records};
 use crate::layout_answer::push_lines;
 use case_file::{Case, Unanswered};
 use job_text::write_contents;

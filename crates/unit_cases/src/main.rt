@@ -10,7 +10,7 @@ mod entry_shown;
 mod history_answer;
 mod history_told;
 mod image_answer;
-mod image_told;
+mod image_findings;
 mod layout_answer;
 mod step_told;
 mod text_answer;

@@ -2,8 +2,8 @@
 #![tactic(auto)]
 
 mod agreement;
+mod case_words;
 mod changed_reports;
-mod image_words;
 mod verdict_answers;
 mod verdict_trial;
 

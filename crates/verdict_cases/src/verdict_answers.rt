@@ -1,6 +1,6 @@
 // The verdict on the report and the image of a case.
+use crate::case_words::image_of;
 use crate::changed_reports::changed_answer;
-use crate::image_words::image_of;
 use case_file::{Case, Unanswered, numbers_in, with_other_lines};
 use job_text::{Report, ReportRefusal, read_report};
 use report_check::check;

@@ -23,14 +23,14 @@ loop-cell-preserved c =
             let pushed = label_pushed c.loop-cell.labels.items w.push.new.self.items w.in_ok-label_of.field-0 (shown_of x)
             w.in_ok-push.ensures.items w.in_ok-label_of.ensures in
             rw (there, w.labels-is, w.more-is) (one_drawn (most_of column) held
-                (drawn_all c.loop-cell.labels) _ c.loop-cell.more (shown_of x)
+            (drawn_all c.loop-cell.labels) _ c.loop-cell.more (shown_of x)
             before (omega (arith, long, sized, w.len.ensures, w.if-len-most.true, c.most_of-most.ensures)) pushed),
       )
       | then-holds+else-len-most w ↦ (
         omega (arith, c.loop-cell.invariant.0, w.more-is),
         let there = held_one column cells i x (omega arith) c.cell-item.is (sym c.holds.ensures ∙ w.if-holds.true) in
             rw (there, w.labels-is, w.more-is) (one_counted (most_of column) held
-                (drawn_all c.loop-cell.labels) c.loop-cell.more (shown_of x)
+            (drawn_all c.loop-cell.labels) c.loop-cell.more (shown_of x)
             before (omega (arith, long, sized, w.len.ensures, w.if-len-most.false, c.most_of-most.ensures))),
       )
       | else-holds w ↦ (

@@ -1,6 +1,6 @@
 use Rattle.std.proofs.Common.{◌≡◌}
 use Rattle.heap_worked.specs.Benches.{IsSameUnit}
-use Rattle.heap_worked.proofs.side_by_side.look_often.Given as goal
+use Rattle.heap_worked.proofs.stepping_threads.look_often.Given as goal
 
 abbrev pub invariant-loop-load : goal.invariant-loop-load
 invariant-loop-load l =
