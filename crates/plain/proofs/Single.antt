@@ -1,5 +1,5 @@
 -- Objects make one structure, or they have one first fault; an image has one list of states.
-use Rattle.std.proofs.Common.{◌≡◌, ℕ, suc, List, [], ◌∷◌, length, refl, sym, ap, ◌∙◌, absurd, arith}
+use Rattle.std.proofs.Common.{◌≡◌, ℕ, suc, List, [], ◌∷◌, length, refl, sym, ap, ◌∙◌, arith}
 use Rattle.std.specs.Prelude.{Option, Some, slice_get}
 use Rattle.mont_base.specs.declared.kinds.UnitKind.{UnitKind}
 use Rattle.mont_base.specs.declared.record.Object.{Object}

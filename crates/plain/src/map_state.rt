@@ -1,17 +1,17 @@
 // A map unit or an ordered unit in memory.
 ghost use Rattle.std.specs.Prelude.{◌≡◌, ◌≢◌, ◌↔◌, ◌≤◌, IsTrue, IfOk, OnOk, OnErr, [], length};
-ghost use Rattle.std.specs.Ordering.{is_lt, is_le};
 ghost use Rattle.std.specs.FinMap as map;
 ghost use Rattle.mont_base.specs.declared.constants.TheConstants.{MOST_PAIRS};
-ghost use Rattle.mont_base.specs.State.{MapOf, key_cmp, map_step, pair_del, floor_of, rank_of, is_between, range_of};
+ghost use Rattle.mont_base.specs.State.{MapOf, map_step, pair_del, floor_of, rank_of, range_of};
 ghost use Rattle.plain.specs.Ranges.{key_of, pairs_between};
 
 use crate::replies::{earlier_text, key_found};
 use mont_base::{Op, PairList, Reply, Text};
 use std::alloc::{AllocError, Global};
 use std::collections::BTreeMap;
-use std::collections::btree_map::Iter;
+use std::collections::btree_map::{Iter, Range};
 use std::marker::Model;
+use std::ops::Bound;
 
 /// A map from keys to values, which is the state of a map unit and of an ordered one. Contracts see
 /// it as the finite map.
@@ -71,7 +71,7 @@ impl MapState {
                 number: self.rank(&key),
             }),
             Op::ORange { from, to, most, .. } => Ok(Reply::Pairs {
-                number: self.count_between(&from, &to).min(most),
+                number: self.count_between(&from, &to, most),
             }),
             _ => Ok(Reply::Nothing),
         }
@@ -113,22 +113,15 @@ impl MapState {
     pub fn floor(&self, key: &Text) -> Option<Text>
         ensures { result ≡ key_of (floor_of self.now key.now) }
     {
-        let mut floor = None;
-        for (other, _) in self.iter() {
-            if is_at_most(other, key) {
-                floor = Some(*other);
-            }
-        }
-        floor
+        let (floor, _) = self.pairs.range(..=*key).next_back()?;
+        Some(*floor)
     }
 
     /// How many keys are below this one.
     pub fn rank(&self, key: &Text) -> u64
         ensures { result ≡ rank_of self.now key.now }
     {
-        self.iter()
-            .filter(|(other, _)| is_below(other, key))
-            .count() as u64
+        self.pairs.range(..*key).count() as u64
     }
 
     /// Gives the run of a range: the first pairs, at most so many, with a key from one to another.
@@ -137,20 +130,29 @@ impl MapState {
         ensures { pairs.new ≡ range_of self.now from.now to.now most }
     {
         *pairs = PairList::empty();
-        for (key, value) in self.iter() {
-            if pairs.len() < most && is_between(from, to, key) {
-                pairs.push(*key, *value);
-            }
+        for (key, value) in self.pairs_between(from, to).take(most as usize) {
+            pairs.push(*key, *value);
         }
     }
 
-    // How many pairs have a key from one to another.
-    fn count_between(&self, from: &Text, to: &Text) -> u64
-        ensures { result ≡ length (pairs_between self.now from.now to.now) }
+    // How many pairs have a key from one to another, counted up to so many.
+    fn count_between(&self, from: &Text, to: &Text, most: u64) -> u64
+        ensures { result ≡ length (range_of self.now from.now to.now most) }
     {
-        self.iter()
-            .filter(|(key, _)| is_between(from, to, key))
-            .count() as u64
+        self.pairs_between(from, to).take(most as usize).count() as u64
+    }
+
+    // The pairs with a key from one to another, by rising key.
+    fn pairs_between(&self, from: &Text, to: &Text) -> Range<'_, Text, Text>
+        ensures { result ≡ pairs_between self.now from.now to.now }
+    {
+        let end = if from <= to {
+            Bound::Included(*to)
+        } else {
+            // from a key to below it there is none
+            Bound::Excluded(*from)
+        };
+        self.pairs.range((Bound::Included(*from), end))
     }
 
     /// How many pairs there are.
@@ -173,25 +175,4 @@ impl MapState {
     {
         self.pairs.len() == other.pairs.len() && self.pairs == other.pairs
     }
-}
-
-// Whether a key stands before another.
-fn is_below(a: &Text, b: &Text) -> bool
-    ensures { result ≡ is_lt (key_cmp a.now b.now) }
-{
-    a < b
-}
-
-// Whether a key isn't above another.
-fn is_at_most(a: &Text, b: &Text) -> bool
-    ensures { result ≡ is_le (key_cmp a.now b.now) }
-{
-    a <= b
-}
-
-// Whether a key stands from one to another, with both.
-fn is_between(from: &Text, to: &Text, key: &Text) -> bool
-    ensures { result ≡ is_between from.now to.now key.now }
-{
-    is_at_most(from, key) && is_at_most(key, to)
 }
