@@ -30,7 +30,7 @@ regroup old s f e = simp append_assoc
 pub core_line : (old begun told now : List ℕ) (n : ℕ) (c : Core)
     → begun ≡ old ++ (decimal n ++ 32 ∷ (decimal (clock c) ++ 32 ∷ decimal (durable_clock c)))
     → told ≡ begun ++ flat_map (λ (p : ℕ × UnitPart). flat_map (λ (word : List ℕ). 32 ∷ word) (unit_words c.told p))
-        (enumerate_from 0 c.units)
+    (enumerate_from 0 c.units)
     → now ≡ told ++ 10 ∷ [] → now ≡ old ++ line_of (core_words (n, c))
 core_line old begun told now n c e f g =
     let front : List ℕ = decimal n ++ 32 ∷ (decimal (clock c) ++ 32 ∷ decimal (durable_clock c)) in

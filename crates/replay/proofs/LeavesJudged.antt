@@ -47,7 +47,7 @@ module _ (c : Core) (sound : IsSound (nothing c.layout) c) (u k : ℕ) (o : Op) 
       let q = row_of (slice_get c.callers k) _ p.2 in
       let can : CanLeave c.layout u p.0 q.0 o r (epoch_of p.0.stage) =
       leaves c.layout u p.0 q.0 o r rs (kept p.0 p.1) (epoch_of p.0.stage) (step x o).effects q.2.0
-          (answers p.0 p.1 h.of_unit replies) q.2.1 in (
+      (answers p.0 p.1 h.of_unit replies) q.2.1 in (
         h.none_lost,
         subst (λ (row : Option UnitPart). RowHas row (λ y. OfCaller c k (λ z. CanLeave c.layout u y z o r (epoch_of y.stage)))) (sym p.1)
             (subst (λ (row : Option CallerPart). RowHas row (λ z. CanLeave c.layout u p.0 z o r (epoch_of p.0.stage))) (sym q.1) can),
@@ -61,7 +61,7 @@ module _ (c : Core) (sound : IsSound (nothing c.layout) c) (u k : ℕ) (o : Op) 
       let f = sound.units u p.0 p.1 in
       let same =
       judged_state c.layout (durable_clock c) u (base_state (nothing c.layout) u) p.0.records p.0.history f.objects
-          (limit_of (clock c) p.0.stage)
+      (limit_of (clock c) p.0.stage)
       f.reached p.0 o r can.judged refl
       ∙ sym (own_unit c sound u k o r x at p.0 p.1) in
       let replies : r ≡ (step x o).reply = can.judged.replies ∙ ap (λ (s : State). (step s o).reply) same in

@@ -182,7 +182,7 @@ event_once (events.Look unit) f a b h i of too e =
     let n : names.Look ≡ name_of f = same_name (events.Look unit) f a b h i e in absurd (cc)
 event_once (events.Tell unit epoch) (events.Tell v x) a b h i of too e =
     let args : decimal unit ∷ decimal epoch ∷ [] ≡ decimal v ∷ decimal x ∷ [] =
-        same_args (events.Tell unit epoch) (events.Tell v x) a b h i e in
+    same_args (events.Tell unit epoch) (events.Tell v x) a b h i e in
     let n0 : unit ≡ v = decimal_injective unit v h.0 i.0 (let d : decimal unit ≡ decimal v = cc in d) in
     let n1 : epoch ≡ x = decimal_injective epoch x h.1 i.1 (let d : decimal epoch ≡ decimal x = cc in d) in
     (cc, of ∙ sym too)
@@ -196,7 +196,7 @@ event_once (events.Confirm unit) f a b h i of too e =
     let n : names.Confirm ≡ name_of f = same_name (events.Confirm unit) f a b h i e in absurd (cc)
 event_once (events.Store unit slot field value) (events.Store v t g w) a b h i of too e =
     let args : decimal unit ∷ decimal slot ∷ decimal field ∷ decimal value ∷ [] ≡ decimal v ∷ decimal t ∷ decimal g ∷ decimal w ∷ [] =
-        same_args (events.Store unit slot field value) (events.Store v t g w) a b h i e in
+    same_args (events.Store unit slot field value) (events.Store v t g w) a b h i e in
     let n0 : unit ≡ v = decimal_injective unit v h.0 i.0 (let d : decimal unit ≡ decimal v = cc in d) in
     let n1 : slot ≡ t = decimal_injective slot t h.1 i.1 (let d : decimal slot ≡ decimal t = cc in d) in
     let n2 : field ≡ g = decimal_injective field g h.2 i.2 (let d : decimal field ≡ decimal g = cc in d) in
@@ -236,7 +236,7 @@ event_once (events.Withdraw unit) f a b h i of too e =
     let n : names.Withdraw ≡ name_of f = same_name (events.Withdraw unit) f a b h i e in absurd (cc)
 event_once (events.Freeze unit caller) (events.Freeze v j) a b h i of too e =
     let args : decimal unit ∷ decimal caller ∷ [] ≡ decimal v ∷ decimal j ∷ [] =
-        same_args (events.Freeze unit caller) (events.Freeze v j) a b h i e in
+    same_args (events.Freeze unit caller) (events.Freeze v j) a b h i e in
     let n0 : unit ≡ v = decimal_injective unit v h.0 i.0 (let d : decimal unit ≡ decimal v = cc in d) in
     let n1 : caller ≡ j = decimal_injective caller j h.1 i.1 (let d : decimal caller ≡ decimal j = cc in d) in
     (cc, of ∙ sym too)
@@ -249,7 +249,7 @@ event_once (events.LoadDurable part) f a b h i of too e =
     let n : names.Durable ≡ name_of f = same_name (events.LoadDurable part) f a b h i e in absurd (cc)
 event_once (events.CloseLabel unit slot) (events.CloseLabel v t) a b h i of too e =
     let args : decimal unit ∷ decimal slot ∷ [] ≡ decimal v ∷ decimal t ∷ [] =
-        same_args (events.CloseLabel unit slot) (events.CloseLabel v t) a b h i e in
+    same_args (events.CloseLabel unit slot) (events.CloseLabel v t) a b h i e in
     let n0 : unit ≡ v = decimal_injective unit v h.0 i.0 (let d : decimal unit ≡ decimal v = cc in d) in
     let n1 : slot ≡ t = decimal_injective slot t h.1 i.1 (let d : decimal slot ≡ decimal t = cc in d) in
     (cc, of ∙ sym too)

@@ -55,7 +55,7 @@ schedule_once s t is are same =
     let other = front_parts (schedule_text t) (schedule_lines t) [] (front_of (schedule_text t) t [] (alone t are)) in
     let lines : map spaced (schedule_lines s) ≡ map spaced (schedule_lines t) =
     append_cancel_right (map spaced (schedule_lines s)) (map spaced (schedule_lines t)) (parts_of [])
-        (sym own ∙ ap parts_of same ∙ other) in
+    (sym own ∙ ap parts_of same ∙ other) in
     let first : spaced (title_words s.layout s.callers) ≡ spaced (title_words t.layout t.callers) = cc in
     let behind : map spaced (map move_words (moves s)) ≡ map spaced (map move_words (moves t)) = cc in
     let store = title_once s.layout t.layout s.callers t.callers (title_of s is) (title_of t are) first in

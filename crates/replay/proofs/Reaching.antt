@@ -95,7 +95,7 @@ module _ (s : Schedule) (i : ℕ) (c : Core) (runs : List Run) (h : HasMade s i 
     made =
         subst (MayMakeAll (fresh_core s))
         (sym (take_more (moves s) i next (omega (arith, moves_long s.events s.runs)) ∙ ap
-            (λ (m : Move). take i (moves s) ++ m ∷ []) next_is))
+        (λ (m : Move). take i (moves s) ++ m ∷ []) next_is))
         (make_push (fresh_core s) (take i (moves s)) next h.made (subst (λ (x : Core). MayMake x next) (sym made_so_far) may));
     left =
         subst (λ (n : ℕ). moves_of (drop n s.events) (runs_behind (has_pairs e) runs) ≡ drop n (moves s)) (sym (add-one i)) next_left;

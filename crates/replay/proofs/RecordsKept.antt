@@ -52,7 +52,7 @@ same_records c (events.Store u slot field value) less =
 same_records c (events.Leave u k op reply) less = absurd less
 same_records c (events.Read u k op reply) less =
     both_rows records c u _ _ (λ p q. read c u p k q (entry_of k q op reply (clock c)))
-        (λ p q. after_read p (entry_of k q op reply (clock c))) refl
+    (λ p q. after_read p (entry_of k q op reply (clock c))) refl
     (λ p q. refl) (λ p q. refl)
 same_records c (events.Withdraw u) less = unit_row records c u _ (λ p. withdraw c u p) (λ p. after_withdraw p) refl (λ p. refl) (λ p. refl)
 same_records c (events.Freeze u k) less =

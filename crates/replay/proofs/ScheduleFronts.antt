@@ -135,7 +135,7 @@ with_move s m = record s { events = s.events ++ m.0 ∷ []; runs = s.runs ++ kep
 
 module _ (text : List ℕ) (s : Schedule) (rest : List ℕ) (f : IsSoFar text s rest) (m : Move) (line after : List ℕ)
     (b : BeginsWith rest (length (schedule_lines s)) line after) (is : IsMove s.layout s.callers m)
-        (same : line ≡ spaced (move_words m)) where
+    (same : line ≡ spaced (move_words m)) where
   moves_more : moves (with_move s m) ≡ moves s ++ m ∷ []
   moves_more = moves_push s.events s.runs m.0 m.1 f.is_schedule.runs (run_suits m.0 m.1 is.run)
 

@@ -38,7 +38,7 @@ module _ {A : Type 0} (f : UnitPart → A) where
   pub both_rows : (c : Core) (u : ℕ) (o : Option UnitPart) (r : Option CallerPart) (h : UnitPart → CallerPart → Core)
       → (g : UnitPart → CallerPart → UnitPart) → slice_get c.units u ≡ o
       → ((p : UnitPart) (q : CallerPart) → (h p q).units ≡ slice_set c.units u (g p q))
-          → ((p : UnitPart) (q : CallerPart) → f (g p q) ≡ f p)
+      → ((p : UnitPart) (q : CallerPart) → f (g p q) ≡ f p)
       → map f (on_row o c (λ p. on_row r c (λ q. h p q))).units ≡ map f c.units
   both_rows c u None r h g at sets kept = refl
   both_rows c u (Some p) None h g at sets kept = refl
@@ -65,7 +65,7 @@ quiet_kept c (events.Confirm u) quiet = unit_row history c u _ (λ p. confirm c 
     (λ p. refl) (λ p. refl)
 quiet_kept c (events.Store u slot field value) quiet =
     unit_row history c u _ (λ p. store c u p slot field value) (λ p. after_store p slot field value) refl (λ p. refl)
-        (λ p. store_kept p slot field value)
+    (λ p. store_kept p slot field value)
 quiet_kept c (events.Leave u k op reply) quiet = absurd quiet
 quiet_kept c (events.Read u k op reply) quiet = absurd quiet
 quiet_kept c (events.Withdraw u) quiet = unit_row history c u _ (λ p. withdraw c u p) (λ p. after_withdraw p) refl (λ p. refl) (λ p. refl)
@@ -79,7 +79,7 @@ quiet_kept c (events.CloseLabel u slot) quiet =
     unit_row history c u _ (λ p. close_label c u p slot) (λ p. after_close_label p slot) refl (λ p. refl) (λ p. refl)
 quiet_kept c (events.PersistClose u) quiet =
     unit_row history c u _ (λ p. persist_close c u p (closing_of p.stage)) (λ p. after_persist_close p (closing_of p.stage)) refl
-        (λ p. refl) (λ p. refl)
+    (λ p. refl) (λ p. refl)
 quiet_kept c events.Check quiet = refl
 quiet_kept c events.LoadWord quiet = refl
 quiet_kept c events.PersistWord quiet = refl

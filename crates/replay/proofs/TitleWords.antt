@@ -40,7 +40,7 @@ pub title_tail_words : (line rest : List ℕ) (s : Shape) (n : ℕ) → line ≡
     → line ≡ spaced (title_words s n) → words_of rest ≡ title_tail s n
 title_tail_words line rest s n front is same =
     words_from_line rest (letters_of s.kinds) (decimal s.slots ∷ decimal n ∷ [])
-        (words_lack 32 (omega arith) (title_tail s n) (tail_seen s n is))
+    (words_lack 32 (omega arith) (title_tail s n) (tail_seen s n is))
     (append_cancel_left (codes "montage-schedule 1 ") rest (spaced (title_tail s n)) (sym front ∙ same))
 
 -- three words, each by itself

@@ -67,7 +67,7 @@ module _ (c : Core) where
   state_there u p at =
       let number : 0 + u ≡ u = omega arith in
       by 0 (histories_of c.units) u (slice_get-map (λ (x : UnitPart). x.history) c.units u ∙ ap
-          (option_map (λ (x : UnitPart). x.history)) at)
+      (option_map (λ (x : UnitPart). x.history)) at)
       ∙ ap (λ (n : ℕ). Some (state_of_history c.layout (n, p.history))) number
     where
       by : (k : ℕ) (hs : List (List Entry)) (n : ℕ) → slice_get hs n ≡ Some p.history
@@ -204,7 +204,7 @@ module _ (c : Core) (sound : IsSound (nothing c.layout) c) (u k : ℕ) (o : Op) 
   shown p here =
       let f = sound.units u p here in
       shown_whole c.layout (durable_clock c) u (base_state (nothing c.layout) u) p.records p.history f.objects
-          (limit_of (clock c) p.stage) f.reached
+      (limit_of (clock c) p.stage) f.reached
 
   can_read : (p : UnitPart) (q : CallerPart) → slice_get c.units u ≡ Some p → IsReadyToRead p q → IsAnswered c u k o r x
       → CanRead c.layout u p q o r
@@ -238,7 +238,7 @@ module _ (c : Core) (sound : IsSound (nothing c.layout) c) (u k : ℕ) (o : Op) 
       let f = sound.units u p.0 p.1 in
       let same =
       judged_state c.layout (durable_clock c) u (base_state (nothing c.layout) u) p.0.records p.0.history f.objects
-          (limit_of (clock c) p.0.stage)
+      (limit_of (clock c) p.0.stage)
       f.reached p.0 o r can.judged refl
       ∙ sym (own_unit p.0 p.1) in
       record {

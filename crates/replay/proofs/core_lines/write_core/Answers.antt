@@ -11,7 +11,7 @@ returns c =
     let core = c.args.core.now in
     let old = string_bytes c.args.text.now in
     core_line old (string_bytes c.write.new.self) (string_bytes c.write_shown.new.text)
-        (string_bytes c.push_str.new.self) c.args.number core
+    (string_bytes c.push_str.new.self) c.args.number core
     (c.in_ok-write.ensures.bytes
     ∙ (λ i. old ++ (decimal c.args.number ++ 32 ∷ (decimal (c.clock-clock.ensures i) ++ 32 ∷ decimal (c.durable_clock-durable.ensures i)))))
     (c.in_ok-write_shown.ensures

@@ -13,7 +13,7 @@ loop-unit-preserved c =
     let told = c.args.told.now in
     let part = c.index-units-unit.result in
     numbered_item (λ (p : ℕ × UnitPart). flat_map (λ (word : List ℕ). 32 ∷ word) (unit_words told p)) c.args.units.now
-        c.loop-unit.unit part part
+    c.loop-unit.unit part part
     (string_bytes c.args.text.now) (string_bytes c.loop-unit.text) (string_bytes c.write.new.self) (omega arith) c.index-units-unit.is
     c.loop-unit.invariant
     (c.in_ok-write.ensures.bytes

@@ -25,7 +25,7 @@ returns-then-not-is_leaving-clause-refused c = λ same h.
     let yes =
     c.is_leaving.ensures.1
     (subst (λ (es : List Effect). IsLeaving core a.unit a.caller rs a.op.now es)
-        (sym (c.deref.ensures.value ∙ c.in_ok-effects.ensures)) needs.0) in
+    (sym (c.deref.ensures.value ∙ c.in_ok-effects.ensures)) needs.0) in
     let no = c.if-not-is_leaving.true in
     absurd (cc)
 
@@ -38,7 +38,7 @@ returns-then-not-is_reply-clause-refused c = λ same h.
     let at = some_there core a.states.now c.requires.states a.unit c.in-Some.state.now c.in-Some.ensures in
     let needs = leave_needs core c.requires.sound a.unit a.caller a.op.now a.reply.now x at rs c.in_ok-newest.ensures.newest h in
     let told = told_reply core (map state_of a.states.now)
-        (map state_of c.answered.new.states) c.requires.states a.unit a.op.now c.in_ok-told.told x
+    (map state_of c.answered.new.states) c.requires.states a.unit a.op.now c.in_ok-told.told x
     c.in_ok-told.ensures at in
     let yes = c.is_reply.ensures.1 (told ∙ ap Some (sym needs.1)) in
     let no = c.if-not-is_reply.true in
@@ -52,7 +52,7 @@ leave-requires-clause-allowed c =
     let rs = values c.in_ok-newest.newest.records in
     let at = some_there core a.states.now c.requires.states a.unit c.in-Some.state.now c.in-Some.ensures in
     let told = told_reply core (map state_of a.states.now)
-        (map state_of c.answered.new.states) c.requires.states a.unit a.op.now c.in_ok-told.told x
+    (map state_of c.answered.new.states) c.requires.states a.unit a.op.now c.in_ok-told.told x
     c.in_ok-told.ensures at in
     leave_may core c.requires.sound a.unit a.caller a.op.now a.reply.now x at rs c.in_ok-newest.ensures.newest
     (subst (λ (es : List Effect). IsLeaving core a.unit a.caller rs a.op.now es) (c.deref.ensures.value ∙ c.in_ok-effects.ensures)
@@ -67,7 +67,7 @@ returns-clause-allowed c =
     let rs = values c.in_ok-newest.newest.records in
     let at = some_there core a.states.now c.requires.states a.unit c.in-Some.state.now c.in-Some.ensures in
     let told = told_reply core (map state_of a.states.now)
-        (map state_of c.answered.new.states) c.requires.states a.unit a.op.now c.in_ok-told.told x
+    (map state_of c.answered.new.states) c.requires.states a.unit a.op.now c.in_ok-told.told x
     c.in_ok-told.ensures at in
     leave_may core c.requires.sound a.unit a.caller a.op.now a.reply.now x at rs c.in_ok-newest.ensures.newest
     (subst (λ (es : List Effect). IsLeaving core a.unit a.caller rs a.op.now es) (c.deref.ensures.value ∙ c.in_ok-effects.ensures)
@@ -82,7 +82,7 @@ returns-clause-states c =
     let rs = values c.in_ok-newest.newest.records in
     let at = some_there core a.states.now c.requires.states a.unit c.in-Some.state.now c.in-Some.ensures in
     let told = told_reply core (map state_of a.states.now)
-        (map state_of c.answered.new.states) c.requires.states a.unit a.op.now c.in_ok-told.told x
+    (map state_of c.answered.new.states) c.requires.states a.unit a.op.now c.in_ok-told.told x
     c.in_ok-told.ensures at in
     let allowed =
     leave_may core c.requires.sound a.unit a.caller a.op.now a.reply.now x at rs c.in_ok-newest.ensures.newest
@@ -101,7 +101,7 @@ returns-clause-kept c =
     let rs = values c.in_ok-newest.newest.records in
     let at = some_there core a.states.now c.requires.states a.unit c.in-Some.state.now c.in-Some.ensures in
     let told = told_reply core (map state_of a.states.now)
-        (map state_of c.answered.new.states) c.requires.states a.unit a.op.now c.in_ok-told.told x
+    (map state_of c.answered.new.states) c.requires.states a.unit a.op.now c.in_ok-told.told x
     c.in_ok-told.ensures at in
     let allowed =
     leave_may core c.requires.sound a.unit a.caller a.op.now a.reply.now x at rs c.in_ok-newest.ensures.newest
@@ -109,6 +109,6 @@ returns-clause-kept c =
     (c.is_leaving.ensures.0 c.if-not-is_leaving.false))
     (same_reply _ _ c.in_ok-told.told told (c.is_reply.ensures.0 c.if-not-is_reply.false)) in
     subst (λ ns. AreKept ns c.leave.new.core.units)
-        (sym (c.put_newest.ensures ∙ ap (λ ns. slice_set ns a.unit (Some c.leave.new.newest)) c.in_ok-newest.ensures.rest))
+    (sym (c.put_newest.ensures ∙ ap (λ ns. slice_set ns a.unit (Some c.leave.new.newest)) c.in_ok-newest.ensures.rest))
     (left_kept core c.leave.new.core a.unit a.caller a.op.now a.reply.now (slice_set a.kept.now a.unit None) c.leave.new.newest allowed
     c.in_ok-leave.ensures.ok c.in_ok-leave.ensures.newest (forgot a.kept.now core.units a.unit c.requires.kept))

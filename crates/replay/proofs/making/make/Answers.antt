@@ -32,7 +32,7 @@ returns-in-PersistClose-clause-kept c =
     on_ok_weaker c.step.result
     (λ made. subst (λ ns. AreKept ns d.units) (sym c.forget.ensures)
     (closed_kept core d c.in-PersistClose.unit c.args.kept.now
-        (made ∙ ap (λ (e : Event). after core e) c.in-PersistClose.is) c.requires.kept))
+    (made ∙ ap (λ (e : Event). after core e) c.in-PersistClose.is) c.requires.kept))
     c.step.ensures.ok
 
 pub returns-in_default-clause-states : goal.returns-in_default-clause-states
@@ -48,4 +48,4 @@ returns-in_default-clause-kept c =
     let less = recordless_of c.args.event.now (λ u k o r. c.in_default.not-Leave u k o r) (λ u. c.in_default.not-PersistClose u) in
     on_ok_weaker c.step-in_default.result
     (λ made. recordless_kept core c.step-in_default.new.core c.args.event.now c.args.kept.now less made c.requires.kept)
-        c.step-in_default.ensures.ok
+    c.step-in_default.ensures.ok

@@ -29,13 +29,13 @@ returns c =
     ap (map state_of) c.as_slice-3.ensures
     ∙ recovered_once core.layout core.dur (states_of c.in_ok-durable.durable) (cut_states core core.dur)
     (subst (λ (image : List ℕ). IsRecovered core.layout image (states_of c.in_ok-durable.durable)) c.as_slice.ensures
-        c.in_ok-durable.ensures)
+    c.in_ok-durable.ensures)
     (recovered core c.requires core.dur (durable_permitted core c.requires)) in
     let current : map state_of c.as_slice-4.result.now ≡ cut_states core core.cur =
     ap (map state_of) c.as_slice-4.ensures
     ∙ recovered_once core.layout core.cur (states_of c.in_ok-current.current) (cut_states core core.cur)
     (subst (λ (image : List ℕ). IsRecovered core.layout image (states_of c.in_ok-current.current)) c.as_slice-2.ensures
-        c.in_ok-current.ensures)
+    c.in_ok-current.ensures)
     (recovered core c.requires core.cur (current_permitted core c.requires)) in
     let first =
     c.in_ok-write_units.ensures
@@ -47,6 +47,6 @@ returns c =
     ∙ ap (λ (bs : List ℕ). bs ++ text_of (contents_lines core.layout.kinds (cut_states core core.cur)))
     (c.in_ok-push_str-2.ensures.bytes ∙ ap (λ (bs : List ℕ). bs ++ codes "current\n") first) in
     lines_told (string_bytes c.args.text.now) (string_bytes c.push_str-3.new.self)
-        (contents_lines core.layout.kinds (cut_states core core.dur))
+    (contents_lines core.layout.kinds (cut_states core core.dur))
     (contents_lines core.layout.kinds (cut_states core core.cur))
     (c.in_ok-push_str-3.ensures.bytes ∙ ap (λ (bs : List ℕ). bs ++ codes "end\n") second)

@@ -26,7 +26,7 @@ returns-then-not-is_reply-clause-refused c = λ same h.
     let at = some_there core a.states.now c.requires.states a.unit c.in-Some.state.now c.in-Some.ensures in
     let needs = read_needs core c.requires.sound a.unit a.caller a.op.now a.reply.now (state_of c.in-Some.state.now) at h in
     let told = told_reply core (map state_of a.states.now)
-        (map state_of c.answered.new.states) c.requires.states a.unit a.op.now c.in_ok-told.told
+    (map state_of c.answered.new.states) c.requires.states a.unit a.op.now c.in_ok-told.told
     (state_of c.in-Some.state.now) c.in_ok-told.ensures at in
     let yes = c.is_reply.ensures.1 (told ∙ ap Some (sym needs.replies)) in
     let no = c.if-not-is_reply.true in
@@ -38,7 +38,7 @@ read-requires c =
     let core = a.core.now in
     let at = some_there core a.states.now c.requires.states a.unit c.in-Some.state.now c.in-Some.ensures in
     let told = told_reply core (map state_of a.states.now)
-        (map state_of c.answered.new.states) c.requires.states a.unit a.op.now c.in_ok-told.told
+    (map state_of c.answered.new.states) c.requires.states a.unit a.op.now c.in_ok-told.told
     (state_of c.in-Some.state.now) c.in_ok-told.ensures at in
     let ready = c.is_ready.ensures.0 c.if-not-is_ready.false in
     read_may core c.requires.sound a.unit a.caller a.op.now a.reply.now (state_of c.in-Some.state.now) at (record {
@@ -55,7 +55,7 @@ returns-clause-allowed c =
     let core = a.core.now in
     let at = some_there core a.states.now c.requires.states a.unit c.in-Some.state.now c.in-Some.ensures in
     let told = told_reply core (map state_of a.states.now)
-        (map state_of c.answered.new.states) c.requires.states a.unit a.op.now c.in_ok-told.told
+    (map state_of c.answered.new.states) c.requires.states a.unit a.op.now c.in_ok-told.told
     (state_of c.in-Some.state.now) c.in_ok-told.ensures at in
     let ready = c.is_ready.ensures.0 c.if-not-is_ready.false in
     read_may core c.requires.sound a.unit a.caller a.op.now a.reply.now (state_of c.in-Some.state.now) at (record {
@@ -72,7 +72,7 @@ returns-clause-states c =
     let core = a.core.now in
     let at = some_there core a.states.now c.requires.states a.unit c.in-Some.state.now c.in-Some.ensures in
     let told = told_reply core (map state_of a.states.now)
-        (map state_of c.answered.new.states) c.requires.states a.unit a.op.now c.in_ok-told.told
+    (map state_of c.answered.new.states) c.requires.states a.unit a.op.now c.in_ok-told.told
     (state_of c.in-Some.state.now) c.in_ok-told.ensures at in
     let ready = c.is_ready.ensures.0 c.if-not-is_ready.false in
     let allowed = read_may core c.requires.sound a.unit a.caller a.op.now a.reply.now (state_of c.in-Some.state.now) at (record {

@@ -23,7 +23,7 @@ pub returns-in_err-core-clause-accepted : goal.returns-in_err-core-clause-accept
 returns-in_err-core-clause-accepted c = λ all.
     at_exit c.from_residual.result c.in_err-core.field-0.0 (λ _. Unit {0}) (λ (e : ReplayRefusal). e ≡ Memory) c.from_residual.ensures.1
     (only_memory c.in_err-core.field-0.0 (λ line is. all_or_none c.args.schedule.now line all
-        (c.in_err-core.ensures.refused line (ap Err is))))
+    (c.in_err-core.ensures.refused line (ap Err is))))
 
 pub write_memories-requires : goal.write_memories-requires
 write_memories-requires c =

@@ -41,5 +41,5 @@ returns-in_err-extend_from_slice-clause-few g c =
     let long : length buf ≡ c.min-room.result = c.read.auto.buf
     ∙ length-take-le c.min-room.result c.loop-chunk.chunk (omega (arith, i.3)) in
     lost_piece c.args.most (left c.args.source.now) (left c.loop-chunk.source)
-        (left c.read.new.self) c.loop-chunk.bytes.items buf c.in_ok-count.count
+    (left c.read.new.self) c.loop-chunk.bytes.items buf c.in_ok-count.count
     i.0 c.in_ok-count.ensures.bytes.0 c.in_ok-count.ensures.bound (omega (arith, long))
