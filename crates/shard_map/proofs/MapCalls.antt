@@ -1,6 +1,6 @@
 -- What a map unit is behind each answer of a call.
 use Rattle.std.proofs.Common.{◌≡◌, ℕ, ◌≤◌, List, [], ◌∷◌, ◌++◌, append-nil, sym, refl, ap, ◌∙◌, subst, arith, Bool, true, false}
-use Rattle.std.specs.Prelude.{Option, Some, None, length, is_some, option_to_list, MatchOption}
+use Rattle.std.specs.Prelude.{Option, Some, None, Result, Ok, Err, IfErr, IsErrAnd, All, length, is_some, option_to_list, MatchOption}
 use Rattle.std.specs.FinMap as finite
 use Rattle.std.specs.List.{AllZip, list_any}
 use Rattle.std.proofs.Math.Path.{fun_ext}
@@ -16,7 +16,7 @@ use Rattle.mont_base.specs.declared.record.Change.{Change}
 use Rattle.mont_base.specs.declared.record.Change.TheVariants.{Insert, Replace, Remove}
 use Rattle.mont_base.specs.declared.record.Held.{Held}
 use Rattle.mont_base.specs.declared.refusal.CallRefusal.{CallRefusal}
-use Rattle.mont_base.specs.declared.refusal.CallRefusal.TheVariants.{Full, Cut}
+use Rattle.mont_base.specs.declared.refusal.CallRefusal.TheVariants.{CountEnd, Full, Cut}
 use Rattle.mont_base.specs.Layout.{Shape, kind_of}
 use Rattle.mont_base.specs.State.{State, Step, MapOf, Key, Value, Pairs, set_effects, pair_put, map_step, map_del, step}
 use Rattle.mont_laws.specs.Effects.{AreEffects}
@@ -26,12 +26,14 @@ use Rattle.mont_laws.specs.Structures.{pair_for, HasPairs}
 use Rattle.heap.specs.HeapShown.{HeapShown, CallerShown}
 use Rattle.index_kit.specs.Index.{Places, CanPut}
 use Rattle.slots.specs.Books.{RegionShown, IsRegionOf}
-use Rattle.slots.specs.WrittenRecords.{has_serial}
-use Rattle.structure_call.specs.Calling.{HasAnsweredCall}
+use Rattle.slots.specs.WrittenRecords.{NamesLive, has_serial}
+use Rattle.structure_call.specs.Calling.{HasAnsweredCall, LeavesCall}
+use Rattle.structure_call.specs.Checking.{EndsCount, MayBeCalled}
 use Rattle.structure_call.specs.Carrying.{HasCarried, LeavesUncarried, records_by, last_of}
-use Rattle.structure_call.specs.Planning.{IsPlan, Makes}
+use Rattle.structure_call.specs.Planning.{IsPlan, Makes, first_at_end}
 use Rattle.structure_call.specs.Standing.{IsStanding}
 use Rattle.structure_call.proofs.CarriedRecords.{carried_effects}
+use Rattle.structure_call.proofs.ChangeNumbers.{all_live}
 use Rattle.shard_map.specs.LiveKeys.{HoldsLiveKeys}
 use Rattle.shard_map.specs.MapCall.{places_behind, HasRoomFor, AddsKey}
 use Rattle.shard_map.specs.MapShard.{IsMapUnit, KeepsPairs}
@@ -72,12 +74,11 @@ slot_of_last u next epoch kept (c ∷ d ∷ cs) slots few each = absurd (omega a
 
 -- where an operation sets a key that has no place, its change adds it
 put_room : (r : RegionShown) (places : Places) → IsMapUnit r places → r.books.halted ≡ None → (op : Op) (key : Key) (value : Value)
-    (reply : Reply) (change : Option Change) (spare : ℕ) → ((m : Pairs) → map_step m op ≡ pair_put m key value)
-    → IsPlan r op reply (option_to_list change) → (AddsKey change → 1 ≤ spare) → CanPut places spare key
-put_room r places unit running op key value reply change spare puts plan room = λ none.
-    room (inserts change (subst (λ (t : Bool). AllZip (Makes r.books r.seat.known.part.records) (set_effects t (Pair key value))
-    (option_to_list change))
-    (ap is_some (absent none)) (subst (λ (st : Step). AllZip (Makes r.books r.seat.known.part.records) st.effects (option_to_list change))
+    (reply : Reply) (changes : List Change) (spare : ℕ) → ((m : Pairs) → map_step m op ≡ pair_put m key value)
+    → IsPlan r op reply changes → (AddsKey changes → 1 ≤ spare) → CanPut places spare key
+put_room r places unit running op key value reply changes spare puts plan room = λ none.
+    room (inserts changes (subst (λ (t : Bool). AllZip (Makes r.books r.seat.known.part.records) (set_effects t (Pair key value)) changes)
+    (ap is_some (absent none)) (subst (λ (st : Step). AllZip (Makes r.books r.seat.known.part.records) st.effects changes)
     (ap (λ (st : State). step st op) b.1 ∙ puts b.0) plan.makes)))
   where
     b : (m : Pairs) × (plan.state ≡ MapOf m) × HasPairs r.books.layout r.books.unit r.seat.known.part.records m
@@ -86,27 +87,62 @@ put_room r places unit running op key value reply change spare puts plan room = 
     absent : finite.get places key ≡ None → finite.get b.0 key ≡ None
     absent none = no_value r.books.layout r.books.unit r.seat.known.part.records places (unit.indexed running) b.0 b.2 key none
 
-    inserts : (c : Option Change) → AllZip (Makes r.books r.seat.known.part.records) (Inserts (Pair key value) ∷ []) (option_to_list c)
-        → AddsKey c
-    inserts None z = absurd z
-    inserts (Some (Insert body)) z = tt
-    inserts (Some (Replace at identity body)) z = absurd z.0
-    inserts (Some (Remove at identity)) z = absurd z.0
+    inserts : (cs : List Change) → AllZip (Makes r.books r.seat.known.part.records) (Inserts (Pair key value) ∷ []) cs → AddsKey cs
+    inserts [] z = absurd z
+    inserts (Insert body ∷ []) z = tt
+    inserts (Insert body ∷ c ∷ cs) z = absurd z.1
+    inserts (Replace at identity body ∷ cs) z = absurd z.0
+    inserts (Remove at identity ∷ cs) z = absurd z.0
 
 pub room_for : (r : RegionShown) (places : Places) → IsMapUnit r places → r.books.halted ≡ None → (op : Op) (reply : Reply)
-    (change : Option Change) (spare : ℕ) → IsPlan r op reply (option_to_list change) → (AddsKey change → 1 ≤ spare)
-    → HasRoomFor places spare op
-room_for r places unit running (ops.Put key value) reply change spare plan room =
-    put_room r places unit running (ops.Put key value) key value reply change spare (λ m. refl) plan room
-room_for r places unit running (ops.OPut named key value) reply change spare plan room =
-    put_room r places unit running (ops.OPut named key value) key value reply change spare (λ m. refl) plan room
-room_for r places unit running _ reply change spare plan room = tt
+    (changes : List Change) (spare : ℕ) → IsPlan r op reply changes → (AddsKey changes → 1 ≤ spare) → HasRoomFor places spare op
+room_for r places unit running (ops.Put key value) reply changes spare plan room =
+    put_room r places unit running (ops.Put key value) key value reply changes spare (λ m. refl) plan room
+room_for r places unit running (ops.OPut named key value) reply changes spare plan room =
+    put_room r places unit running (ops.OPut named key value) key value reply changes spare (λ m. refl) plan room
+room_for r places unit running _ reply changes spare plan room = tt
 
 -- pairs that records show, shown by others of which the same are live
 pairs_of_same_live : (s : Shape) (u : ℕ) (rs qs : List Held) (m : Pairs) → ((i : ℕ) → live_of i qs ≡ live_of i rs)
     → HasPairs s u rs m → HasPairs s u qs m
 pairs_of_same_live s u rs qs m same h =
     subst (λ (l : ℕ → Option (Option (Key × Value))). Shows l (finite.get m)) (fun_ext (λ i. ap (held_in (pair_for s u)) (sym (same i)))) h
+
+-- ---- a planned operation, behind checks that left the unit and the caller as they were
+module _ (heap : HeapShown) (shown ran : RegionShown) (q s : CallerShown) (op : Op) (reply : Reply) (changes : List Change)
+    (same : ran ≡ shown) (caller : s ≡ q) (plan : IsPlan shown op reply changes) where
+  both : ◌≡◌ {A = RegionShown × CallerShown} (ran, s) (shown, q)
+  both i = (same i, caller i)
+
+  pub names_live : All (NamesLive ran.seat.known.part.records) changes
+  names_live = subst (λ (r : RegionShown). All (NamesLive r.seat.known.part.records) changes) (sym same)
+      (all_live shown.books shown.seat.known.part.records (step plan.state op).effects changes plan.makes)
+
+  pub may_be_called : shown.books.halted ≡ None → first_at_end s.known.part ran changes ≡ None → MayBeCalled q shown op
+  may_be_called running numbers = record {
+    running = running;
+    reply = reply;
+    changes = changes;
+    plan = plan;
+    numbers = subst (λ (x : RegionShown × CallerShown). first_at_end x.1.known.part x.0 changes ≡ None) both numbers;
+  }
+
+  module _ (new : RegionShown) (r : CallerShown) (running : shown.books.halted ≡ None) where
+    at_end : (why : CallRefusal) → EndsCount heap shown new q r changes why → LeavesCall heap shown new q r op why
+    at_end (CountEnd which) h = record {
+      running = running;
+      reply = reply;
+      changes = changes;
+      plan = plan;
+      ends = h;
+    }
+    at_end _ h = absurd h
+
+    pub leaves_at_end : {T : Type 0} (result : Result T CallRefusal) (why : CallRefusal) → IsErrAnd result (λ e. e ≡ why)
+        → EndsCount heap ran new s r changes why → IfErr result (λ e. LeavesCall heap shown new q r op e)
+    leaves_at_end (Ok value) why is h = absurd is
+    leaves_at_end (Err e) why is h = subst (λ (x : CallRefusal). LeavesCall heap shown new q r op x) (sym is)
+        (at_end why (subst (λ (x : RegionShown × CallerShown). EndsCount heap x.0 new x.1 r changes why) both h))
 
 -- ---- a map unit whose operation is to be carried out
 pub record IsCalled (heap : HeapShown) (r : RegionShown) (places : Places) : Type 0 where

@@ -1,6 +1,6 @@
 -- The plan of a map operation is one: the reply is the plain step's, and the change makes its effect.
 use Rattle.std.proofs.Common.{◌≡◌, ℕ, ◌⊎◌, inl, inr, List, [], ◌∷◌, refl, sym, ap, ◌∙◌, subst, Bool}
-use Rattle.std.specs.Prelude.{Option, Some, None, is_some, IfSome}
+use Rattle.std.specs.Prelude.{Option, Some, None, is_some, IfSome, option_to_list}
 use Rattle.std.specs.FinMap as finite
 use Rattle.std.specs.List.{AllZip}
 use Rattle.std.proofs.lemmas.Option.{same_Some}
@@ -11,7 +11,7 @@ use Rattle.mont_base.specs.declared.operation.Reply.{Reply}
 use Rattle.mont_base.specs.declared.record.Change.{Change}
 use Rattle.mont_base.specs.declared.record.Held.{Held}
 use Rattle.mont_base.specs.Bodies.{pair_body, pair_in, key_in, value_in, both}
-use Rattle.mont_base.specs.Layout.{kind_of}
+use Rattle.mont_base.specs.Layout.{Shape, kind_of}
 use Rattle.mont_base.specs.State.{Step, MapOf, Key, Value, Pairs, earlier_text, map_step, map_del, pair_put, pair_get, pair_del, set_effects}
 use Rattle.mont_base.specs.Structure.{pairs_of, keeps_key}
 use Rattle.mont_base.specs.Versions.{live_objects}
@@ -19,9 +19,11 @@ use Rattle.mont_laws.specs.Effects.{IsOpOf}
 use Rattle.mont_laws.specs.Records.{live_of}
 use Rattle.mont_laws.specs.Structures.{HasPairs}
 use Rattle.mont_laws.proofs.Holders.{fitted}
+use Rattle.heap.specs.HeapShown.{HeapShown}
 use Rattle.index_kit.specs.Index.{Places}
 use Rattle.slots.specs.Books.{RegionShown, record_in}
 use Rattle.structure_call.specs.Planning.{IsPlan, Makes, NamesThing}
+use Rattle.structure_call.specs.Standing.{IsStanding}
 use Rattle.shard_map.specs.declared.map_plan.Found.{Found}
 use Rattle.shard_map.specs.MapPlan.{HasValue, value_found, setting, removal}
 use Rattle.shard_map.specs.MapShard.{IsMapUnit}
@@ -179,3 +181,46 @@ module _ (r : RegionShown) (places : Places) (unit : IsMapUnit r places) (runnin
         (subst (λ (o : Option Value). AllZip (Makes r.books r.seat.known.part.records) (map_del the_pairs key o).effects
         (changes_of (removal (Some f))))
         (sym some) (n, tt))
+
+-- ---- planned by what is found in a unit that a heap's contracts show
+module _ (heap : HeapShown) (shown r : RegionShown) (places : Places) (unit : IsMapUnit r places) (same : r ≡ shown)
+    (stands : IsStanding heap shown) (op : Op) (is : IsOpOf heap.opening.layout shown.books.unit op) (running : shown.books.halted ≡ None)
+  where
+    runs : r.books.halted ≡ None
+    runs = ap (λ (x : RegionShown). x.books.halted) same ∙ running
+
+    of_region : IsOpOf r.books.layout r.books.unit op
+    of_region = subst (λ (x : RegionShown). IsOpOf x.books.layout x.books.unit op) (sym same)
+        (subst (λ (s : Shape). IsOpOf s shown.books.unit op) (sym stands.of_heap.layout) is)
+
+    abbrev pairs : Pairs
+    pairs = the_pairs r places unit runs
+
+    abbrev pub IsFound : Key → Option Found → Type 0
+    IsFound key found = (r.books.halted ≡ None → HasValue r key (value_found found))
+        × (r.books.halted ≡ None → IfSome found (λ f. NamesThing r.seat.known.part.records (Pair key f.value) f.slot f.identity))
+
+    pub put_shown : (key : Key) (value : Value) (found : Option Found) (body : List ℕ) (reply : Reply) (change : Change)
+        → IsEither op (ops.Put key value) (λ n. ops.OPut n key value) → IsFound key found → body ≡ pair_body key value
+        → reply ≡ earlier_text (value_found found) → change ≡ setting found body → IsPlan shown op reply (change ∷ [])
+    put_shown key value found body reply change which f b replies changes =
+        subst (λ (x : RegionShown). IsPlan x op reply (change ∷ [])) same
+        (subst (λ (x : Reply). IsPlan r op x (change ∷ [])) (sym replies)
+        (subst (λ (x : Change). IsPlan r op (earlier_text (value_found found)) (x ∷ [])) (sym changes)
+        (put_plan r places unit runs op of_region key value found body (puts pairs op key value which) (f.0 runs) (f.1 runs) b)))
+
+    pub get_shown : (key : Key) (found : Option Found) (reply : Reply) → IsEither op (ops.Get key) (λ n. ops.OGet n key)
+        → (r.books.halted ≡ None → HasValue r key (value_found found)) → reply ≡ earlier_text (value_found found) → IsPlan shown op reply []
+    get_shown key found reply which v replies =
+        subst (λ (x : RegionShown). IsPlan x op reply []) same
+        (subst (λ (x : Reply). IsPlan r op x []) (sym replies)
+        (get_plan r places unit runs op of_region key found (gets pairs op key which) (v runs)))
+
+    pub del_shown : (key : Key) (found : Option Found) (reply : Reply) (changes : List Change)
+        → IsEither op (ops.Del key) (λ n. ops.ODel n key) → IsFound key found → reply ≡ earlier_text (value_found found)
+        → changes ≡ option_to_list (removal found) → IsPlan shown op reply changes
+    del_shown key found reply changes which f replies gives =
+        subst (λ (x : RegionShown). IsPlan x op reply changes) same
+        (subst (λ (x : Reply). IsPlan r op x changes) (sym replies)
+        (subst (λ (cs : List Change). IsPlan r op (earlier_text (value_found found)) cs) (sym gives)
+        (del_plan r places unit runs op of_region key found (dels pairs op key which) (f.0 runs) (f.1 runs))))

@@ -61,9 +61,9 @@ module _ (heap : HeapShown) (old new : RegionShown) (places : Places) (called : 
 pub room_there : (heap : HeapShown) (r : RegionShown) (places : Places) → IsCalled heap r places → (plan : PlannedChange) (spare : ℕ)
     → IsPlanned r plan → ReplacesRecord plan.change → HasRoomFor places spare plan.op
 room_there heap r places called plan spare planned there =
-    room_for r places called.unit called.running plan.op plan.reply (Some plan.change) spare planned (by plan.change there)
+    room_for r places called.unit called.running plan.op plan.reply (plan.change ∷ []) spare planned (by plan.change there)
   where
-    by : (c : Change) → ReplacesRecord c → AddsKey (Some c) → 1 ≤ spare
+    by : (c : Change) → ReplacesRecord c → AddsKey (c ∷ []) → 1 ≤ spare
     by (Insert body) h adds = absurd h
     by (Replace slot identity body) h adds = absurd adds
     by (Remove slot identity) h adds = absurd h

@@ -1,5 +1,5 @@
 -- How the index of a map unit follows an operation that was carried out.
-use Rattle.std.specs.Prelude.{ℕ, Option, Some}
+use Rattle.std.specs.Prelude.{ℕ, Option, Some, List, [], ◌∷◌}
 use Rattle.mont_base.specs.declared.record.Change.{Change}
 use Rattle.mont_base.specs.declared.record.Change.TheVariants.{Insert}
 use Rattle.std.specs.FinMap as finite
@@ -29,6 +29,6 @@ HasRoomFor places spare (ops.OPut unit key value) = CanPut places spare key
 HasRoomFor places spare _ = Unit {0}
 
 -- a key that wasn't there comes in
-abbrev pub AddsKey : Option Change → Type 0
-AddsKey (Some (Insert body)) = Unit {0}
+abbrev pub AddsKey : List Change → Type 0
+AddsKey (Insert body ∷ []) = Unit {0}
 AddsKey _ = ⊥

@@ -6,16 +6,18 @@ ghost use Rattle.heap_pass.specs.Spare.{spare_of};
 ghost use Rattle.structure_call.specs.Calling.{HasAnsweredCall, LeavesCall, was_asked, was_checked, was_cut};
 ghost use Rattle.structure_call.specs.Checking.{MayBeCalled};
 ghost use Rattle.structure_call.specs.KeptReceipt.{KeepsReceipt};
+ghost use Rattle.structure_call.specs.Planning.{IsPlan};
 ghost use Rattle.structure_call.specs.Standing.{IsStanding};
 ghost use Rattle.shard_map.specs.MapCall.{places_behind, AsksKey, HasRoomFor, AddsKey};
 ghost use Rattle.shard_map.specs.MapShard.{IsMapUnit};
 
-use crate::map_plan::plan;
+use crate::map_plan::{find, removal, reply_of, setting};
 use crate::map_shard::MapShard;
 use heap::Heap;
 use heap_pass::Pass;
 use index_kit::Index;
-use mont_base::{CallRefusal, Change, Gate, Op, Receipt, Slot};
+use mont_base::{CallRefusal, Change, Gate, Op, Receipt, Reply, Slot};
+use payload::pair_body;
 use std::alloc::AllocError;
 use std::sync::Wait;
 use structure_call::{carry_out, check_numbers, check_running, last_receipt};
@@ -50,14 +52,61 @@ impl<I: Index> MapShard<I> {
         ensures stands { IsStanding heap.now self.new.region }
         ensures unit { IsMapUnit self.new.region self.new.places }
     {
+        match op {
+            Op::Put { key, value } | Op::OPut { key, value, .. } => {
+                let earlier = find(&self.region, &self.index, key);
+                let changes = [setting(&earlier, pair_body(key, value))];
+                self.carry(rt, heap, pass, op, &reply_of(&earlier), &changes)
+            }
+            Op::Get { key } | Op::OGet { key, .. } => {
+                let found = find(&self.region, &self.index, key);
+                self.answer(heap, pass, op, &reply_of(&found))
+            }
+            Op::Del { key } | Op::ODel { key, .. } => {
+                let found = find(&self.region, &self.index, key);
+                let change = removal(&found);
+                self.carry(rt, heap, pass, op, &reply_of(&found), change.as_slice())
+            }
+            _ => {
+                // The unit keeps pairs, so that an operation of another kind changes nothing.
+                let _region = self.region();
+                self.answer(heap, pass, op, &Reply::Nothing)
+            }
+        }
+    }
+
+    // Carries an operation out that is planned so where no caller was cut in the unit.
+    fn carry<R: Wait, G: Gate>(
+        &mut self,
+        rt: &R,
+        heap: &Heap,
+        pass: &mut Pass<G>,
+        op: &Op,
+        reply: &Reply,
+        changes: &[Change],
+    ) -> Result<(), CallRefusal>
+        requires stands { IsStanding heap.now self.old.region }
+        requires pass { pass.old.ticket.table ≡ heap.now.table }
+        requires plan { self.old.region.books.halted ≡ None
+            → IsPlan self.old.region op.now reply.now changes.now }
+        ensures gate { IsAskedOften G.cuts G.endless pass.old.gate pass.new.gate (was_cut result) }
+        ensures unasked { was_asked result ≡ false → pass.new.gate ≡ pass.old.gate }
+        ensures answered { OnOk result (KeepsReceipt pass.old.receipts.items
+            pass.new.receipts.items (HasAnsweredCall heap.now self.old.region self.new.region
+            pass.old.ticket pass.new.ticket op.now)) }
+        ensures kept { OnErr result (pass.new.receipts.items ≡ pass.old.receipts.items) }
+        ensures refused { IfErr result (λ why. LeavesCall heap.now self.old.region self.new.region
+            pass.old.ticket pass.new.ticket op.now why) }
+        ensures checked { was_checked result ≡ true
+            → MayBeCalled pass.old.ticket self.old.region op.now }
+        ensures stands { IsStanding heap.now self.new.region }
+        ensures unit { IsMapUnit self.new.region self.new.places }
+    {
         check_running(heap, &mut self.region, pass)?;
-        let planned = plan(&self.region, &self.index, op);
-        let changes = planned.change.as_slice();
         check_numbers(heap, &mut self.region, pass, changes, false)?;
-        let Ok(()) = make_room(&mut self.index, pass, &planned.change) else {
+        let Ok(()) = make_room(&mut self.index, pass, changes) else {
             return Err(CallRefusal::Memory);
         };
-        let reply = &planned.reply;
         let slot = carry_out(rt, heap, &mut self.region, pass, op, reply, changes)?;
         follow(&mut self.index, op, slot);
         Ok(())
@@ -98,17 +147,17 @@ impl<I: Index> MapShard<I> {
 fn make_room<I: Index, G: Gate>(
     index: &mut I,
     pass: &mut Pass<G>,
-    change: &Option<Change>,
+    changes: &[Change],
 ) -> Result<(), AllocError>
     ensures places { I.places index.new ≡ I.places index.old }
     ensures ticket { pass.new.ticket ≡ pass.old.ticket }
     ensures gate { pass.new.gate ≡ pass.old.gate }
     ensures receipts { pass.new.receipts.items ≡ pass.old.receipts.items }
     ensures receipt { OnOk result (1 ≤ spare_of pass.new.receipts) }
-    ensures key { OnOk result (AddsKey change.now → 1 ≤ I.spare index.new) }
+    ensures key { OnOk result (AddsKey changes.now → 1 ≤ I.spare index.new) }
 {
     pass.reserve()?;
-    if let Some(Change::Insert { .. }) = change {
+    if let [Change::Insert { .. }] = changes {
         index.reserve()?;
     }
     Ok(())
