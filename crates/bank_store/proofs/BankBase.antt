@@ -29,7 +29,10 @@ use Rattle.heap.proofs.EmptyStores.{nothing_recovered, opens_empty}
 use Rattle.caller.specs.Continued.{GoesOn, opened_records}
 use Rattle.store_stop.specs.Headline.{HasSeen}
 use Rattle.store.specs.StoreCalls.{HoldsOfBase}
+use Rattle.store.specs.StoreShown.{StoreShown, store_on}
+use Rattle.store.proofs.StoreBases.{of_any_base}
 use Rattle.bank_job.specs.Bank.{bank_layout}
+use Rattle.bank_store.specs.MadeShifts.{OfItsStore}
 
 -- ---- the layout
 pub bank_is_layout : IsLayout bank_layout
@@ -72,12 +75,19 @@ no_records unit =
     (λ u. ap (λ (p : UnitPart). p.records) (nothing_recovered bank_layout bank_is_layout u)) 6 0 unit
 
 -- ---- what holds of the base holds of nothing
-pub holds_of_nothing : (heap : HeapShown) → heap.opening ≡ fresh_opening bank_layout 4 → (unit : ℕ) → unit < 4
-    → (Holds : State → Type 0) → HoldsOfBase heap unit Holds → Holds (MapOf finite.empty)
-holds_of_nothing heap o unit low Holds holds =
-    let there : IsRecovered heap.opening.layout heap.opening.words (empty_states bank_layout) =
-    subst (λ (x : Opening). IsRecovered x.layout x.words (empty_states bank_layout)) (sym o) bank_recovers in
-    subst Holds (base_empty (clock_of heap.opening.words) unit low) (holds (empty_states bank_layout) there)
+-- the store of a heap that opened with nothing
+abbrev pub bank_on : HeapShown → StoreShown
+bank_on heap = store_on heap (empty_states bank_layout)
+
+pub of_bank : (heap : HeapShown) → heap.opening ≡ fresh_opening bank_layout 4 → (Holds : StoreShown → Type 0)
+    → OfItsStore heap Holds → Holds (bank_on heap)
+of_bank heap o Holds (store, opened, holds) =
+    of_any_base heap store opened Holds holds (empty_states bank_layout)
+    (subst (λ (x : Opening). IsRecovered x.layout x.words (empty_states bank_layout)) (sym o) bank_recovers)
+
+pub holds_of_nothing : (heap : HeapShown) (unit : ℕ) → unit < 4
+    → (Holds : State → Type 0) → HoldsOfBase (bank_on heap) unit Holds → Holds (MapOf finite.empty)
+holds_of_nothing heap unit low Holds holds = subst Holds (base_empty (clock_of heap.opening.words) unit low) holds
 
 -- ---- what a caller had seen stands first in the history of its unit
 pub held_front : (histories : List (List Entry)) (b r : CallerKnown) → HasSeen histories r → FitsHistories histories (view_of r.part)

@@ -28,7 +28,7 @@ use Rattle.store_stop.proofs.Items.{all_gives, all_split}
 use Rattle.store.specs.StoreCalls.{FoundFull, HasLearntCause, NeedsNumber}
 use Rattle.bank_job.specs.Bank.{bank_layout}
 use Rattle.bank_store.specs.BankCallers.{HaveShifted}
-use Rattle.bank_store.proofs.BankBase.{follows_front, held_front, holds_of_nothing, no_records}
+use Rattle.bank_store.proofs.BankBase.{bank_on, follows_front, held_front, holds_of_nothing, no_records}
 use Rattle.bank_store.proofs.BankUnits.{unit_few, unit_legal, unit_puts}
 use Rattle.bank_store.proofs.NumberHistories.{PutsNumber}
 use Rattle.bank_store.proofs.PutHistories.{no_end, no_lack}
@@ -82,20 +82,20 @@ module _
         }
 
     -- what was learnt of a unit, with its front
-    pub learnt : (unit : ℕ) → unit < 4 → (Holds : State → List Entry → Type 0) → HasLearntCause heap unit q Holds
+    pub learnt : (unit : ℕ) → unit < 4 → (Holds : State → List Entry → Type 0) → HasLearntCause (bank_on heap) unit q Holds
         → (history : List Entry) × (slice_get q.known.entries unit ≡ Some history) × IsBankFront t.histories unit history
         × Holds (MapOf finite.empty) history
     learnt unit low Holds k = (
       k.history,
       k.kept,
       bank_front unit low k.history k.kept,
-      holds_of_nothing heap o unit low (λ (s : State). Holds s k.history) k.cause,
+      holds_of_nothing heap unit low (λ (s : State). Holds s k.history) k.cause,
     )
 
     -- no number is at its end
     pub never_at_end : (unit : ℕ) → unit < 4 → (before : CallerShown) → before.known.part.calls ≤ LAST
         → (key value : List ℕ) (which : Which)
-        → NeedsNumber heap unit before q (ops.Put key value) which → ⊥
+        → NeedsNumber (bank_on heap) unit before q (ops.Put key value) which → ⊥
     never_at_end unit low before calls key value which needs =
         let k = learnt unit low (IsAtEnd (records_in (opened_records heap.opening) unit) before.known.part.calls which
         (ops.Put key value)) needs in
@@ -106,7 +106,7 @@ module _
 
     -- there is always room
     pub never_full : (unit : ℕ) → unit < 4 → (before : CallerShown) (key value : List ℕ) (need free clock : ℕ)
-        → FoundFull heap unit before q (ops.Put key value) need free clock → ⊥
+        → FoundFull (bank_on heap) unit before q (ops.Put key value) need free clock → ⊥
     never_full unit low before key value need free clock full =
         let lacks = λ (s : State) (history : List Entry).
         LacksRoom (length (effects_then s history (ops.Put key value))) (room_of heap.opening.layout.slots s history clock) need free in

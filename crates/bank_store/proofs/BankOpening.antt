@@ -26,14 +26,15 @@ use Rattle.caller.specs.Continued.{GoesOn}
 use Rattle.store_stop.specs.declared.headline.Stopped.{Stopped}
 use Rattle.store_stop.specs.Headline.{IsStopped}
 use Rattle.store_stop.proofs.Items.{all_gives, all_split}
-use Rattle.store.specs.StoreCalls.{TellsWhy}
+use Rattle.store.specs.StoreCalls.{IsRefused, TellsWhy}
+use Rattle.store.specs.StoreShown.{StoreShown}
 use Rattle.bank_job.specs.Bank.{account, bank_layout, first_puts, opening_put}
 use Rattle.bank_store.specs.BankCallers.{HaveShifted}
 use Rattle.bank_store.specs.BankRun.{OpensAccounts}
 use Rattle.bank_store.specs.Ends.{all_given}
 use Rattle.bank_store.specs.MadeShifts.{HasSeenPlace}
 use Rattle.bank_store.specs.OpenedAccounts.{PutsEnd, WasLeftOut, is_left_out, puts_given}
-use Rattle.bank_store.proofs.BankBase.{key_unit_low}
+use Rattle.bank_store.proofs.BankBase.{bank_on, key_unit_low, of_bank}
 use Rattle.bank_store.proofs.BankCauses.{bank_front, never_at_end, never_full}
 use Rattle.bank_store.proofs.BankUnits.{all_opening, legal_bank}
 use Rattle.bank_store.proofs.GivenEntries.{IsOpeningPut}
@@ -107,7 +108,7 @@ module _
     to_end : GoesOn behind.known a.known
     to_end = goes_further behind.known sh.opener.known a.known on (sh.still a refl)
 
-    never_told : (why : CallRefusal) → is_left_out why ≡ true → TellsWhy heap unit before behind (ops.Put key value) why → ⊥
+    never_told : (why : CallRefusal) → is_left_out why ≡ true → TellsWhy (bank_on heap) unit before behind (ops.Put key value) why → ⊥
     never_told (Halted halted by) e k =
         unmarked heap number base t a b c d sh st 0 a.known.part (record { unit = unit; by = Some by }) refl
         (to_end.marks (record { unit = unit; by = Some by }) k.2)
@@ -121,11 +122,11 @@ module _
 
   never_left_out : (op : Op) → IsOpeningPut op → WasLeftOut heap sh.opened.first sh.opener op → ⊥
   never_left_out op p w =
-      let k = w.over.tells in
+      let k = of_bank heap o (λ (s : StoreShown). IsRefused s w.before w.behind op w.over.why) w.over.tells in
       let named : unit_of_key bank_layout (account p.number) ≡ Some k.unit =
       sym (ap (unit_of_op bank_layout) p.is) ∙ ap (λ (x : Opening). unit_of_op x.layout op) (sym o) ∙ k.named in
-      let tells : TellsWhy heap k.unit w.before w.behind (ops.Put (account p.number) (decimal 1000)) w.over.why =
-      subst (λ (x : Op). TellsWhy heap k.unit w.before w.behind x w.over.why) p.is k.tells in
+      let tells : TellsWhy (bank_on heap) k.unit w.before w.behind (ops.Put (account p.number) (decimal 1000)) w.over.why =
+      subst (λ (x : Op). TellsWhy (bank_on heap) k.unit w.before w.behind x w.over.why) p.is k.tells in
       never_told w.before w.behind w.goes_on w.calls k.unit (key_unit_low (account p.number) k.unit named) (account p.number) (decimal 1000)
       w.over.why w.over.left_out tells
 

@@ -33,8 +33,9 @@ use Rattle.store_stop.specs.Headline.{IsStopped, parts_shown}
 use Rattle.shard_map.specs.declared.shift_refusal.ShiftRefusal.{ShiftRefusal}
 use Rattle.shard_map.specs.declared.shift_refusal.ShiftRefusal.TheVariants.{SameUnit, Halted, Missing, Short, Over, CountEnd, Memory, Full, Cut}
 use Rattle.shard_map.specs.MovedNumbers.{CannotMove, IsNumber, of_high, of_low}
-use Rattle.store.specs.Shifting.{AreMove, AreOfTwoUnits, FoundOneFull, HasLearntValue, NeedsPairNumber, TellsBetween}
+use Rattle.store.specs.Shifting.{AreMove, AreOfTwoUnits, FoundOneFull, HasLearntValue, IsRefusedBetween, NeedsPairNumber, TellsBetween}
 use Rattle.store.specs.StoreCalls.{FoundFull, NeedsNumber}
+use Rattle.store.specs.StoreShown.{StoreShown}
 use Rattle.bank_job.specs.declared.shifts.Shift.{Shift}
 use Rattle.bank_job.specs.Bank.{account, bank_layout}
 use Rattle.bank_job.specs.Shifts.{first_shifts, shift_of_caller}
@@ -43,7 +44,7 @@ use Rattle.bank_store.specs.BankRun.{ShiftEnds, WasShort, begun_with}
 use Rattle.bank_store.specs.Ends.{End, HoldsOfEach, all_given, receipts_given}
 use Rattle.bank_store.specs.MadeShifts.{ComesBehind, EndsBetween, HasSeenPlace, WasPassedOver, is_passed_over}
 use Rattle.bank_store.specs.OpenedAccounts.{puts_given}
-use Rattle.bank_store.proofs.BankBase.{front_taken, key_unit_low}
+use Rattle.bank_store.proofs.BankBase.{bank_on, front_taken, key_unit_low, of_bank}
 use Rattle.bank_store.proofs.BankCauses.{learnt, never_at_end, never_full}
 use Rattle.bank_store.proofs.BankOpening.{account_there, few_puts}
 use Rattle.bank_store.proofs.BankUnits.{shifts_many}
@@ -169,7 +170,7 @@ module _
     record Side (key : Key) (found : Option Value) : Type 0 where
       pub unit : ℕ
       pub of_key : unit_of_key bank_layout key ≡ Some unit
-      pub value : HasLearntValue heap unit w.behind key found
+      pub value : HasLearntValue (bank_on heap) unit w.behind key found
 
     record Known (key : Key) (found : Option Value) : Type 0 where
       pub unit : ℕ
@@ -264,19 +265,20 @@ module _
 
     module _ (low high : ℕ) (low_four : low < 4) (high_four : high < 4) where
       end_of : (unit : ℕ) → unit < 4 → (op : Op) (key value : List ℕ) → op ≡ ops.Put key value → (which : Which)
-          → NeedsNumber heap unit w.before w.behind op which → ⊥
+          → NeedsNumber (bank_on heap) unit w.before w.behind op which → ⊥
       end_of unit four op key value put which needs =
           never_at_end heap number base t a b c d sh st empty o caller r of_caller w.behind w.goes_on unit four w.before
           (let n = calls_low in omega (arith, n)) key value which
-          (subst (λ (x : Op). NeedsNumber heap unit w.before w.behind x which) put needs)
+          (subst (λ (x : Op). NeedsNumber (bank_on heap) unit w.before w.behind x which) put needs)
 
       one_end : (operations : Op × Op) → ArePuts operations → (which : Which)
-          → NeedsNumber heap low w.before w.behind operations.0 which ⊎ NeedsNumber heap high w.before w.behind operations.1 which → ⊥
+          → NeedsNumber (bank_on heap) low w.before w.behind operations.0 which ⊎ NeedsNumber (bank_on heap) high w.before w.behind
+          operations.1 which → ⊥
       one_end operations p which (inl needs) = end_of low low_four operations.0 p.low_key p.low_value p.low which needs
       one_end operations p which (inr needs) = end_of high high_four operations.1 p.high_key p.high_value p.high which needs
 
       pair_end : (operations : Op × Op) → ArePuts operations → (which : Which)
-          → NeedsPairNumber heap low high w.before w.behind operations which → ⊥
+          → NeedsPairNumber (bank_on heap) low high w.before w.behind operations which → ⊥
       pair_end operations p ends.Call needs = let n = calls_low in omega (arith, n, needs)
       pair_end operations p ends.Place needs = one_end operations p ends.Place needs
       pair_end operations p ends.Identity needs = one_end operations p ends.Identity needs
@@ -284,23 +286,25 @@ module _
       pair_end operations p ends.Serial needs = one_end operations p ends.Serial needs
 
       full_of : (unit : ℕ) → unit < 4 → (op : Op) (key value : List ℕ) → op ≡ ops.Put key value → (need free clock : ℕ)
-          → FoundFull heap unit w.before w.behind op need free clock → ⊥
+          → FoundFull (bank_on heap) unit w.before w.behind op need free clock → ⊥
       full_of unit four op key value put need free clock full =
           never_full heap number base t a b c d sh st empty o caller r of_caller w.behind w.goes_on unit four w.before key value need
           free clock
-          (subst (λ (x : Op). FoundFull heap unit w.before w.behind x need free clock) put full)
+          (subst (λ (x : Op). FoundFull (bank_on heap) unit w.before w.behind x need free clock) put full)
 
       one_full : (operations : Op × Op) → ArePuts operations → (unit need free clock : ℕ)
-          → FoundOneFull heap low high w.before w.behind operations unit need free clock → ⊥
+          → FoundOneFull (bank_on heap) low high w.before w.behind operations unit need free clock → ⊥
       one_full operations p unit need free clock (inl (e, full)) =
           full_of low low_four operations.0 p.low_key p.low_value p.low need free clock full
       one_full operations p unit need free clock (inr (e, full)) =
           full_of high high_four operations.1 p.high_key p.high_value p.high need free clock full
 
       told : (up : Bool) → ((out into : Option Value)
-          → HasLearntValue heap low w.behind (of_low up (s.from, s.to)) (of_low up (out, into))
-          → HasLearntValue heap high w.behind (of_high up (s.from, s.to)) (of_high up (out, into)) → Side s.from out × Side s.to into)
-          → (why : ShiftRefusal) → is_passed_over why ≡ true → TellsBetween heap up low high w.before w.behind s.from s.to s.amount why
+          → HasLearntValue (bank_on heap) low w.behind (of_low up (s.from, s.to)) (of_low up (out, into))
+          → HasLearntValue (bank_on heap) high w.behind (of_high up (s.from, s.to)) (of_high up (out, into)) → Side s.from out × Side s.to
+          into)
+          → (why : ShiftRefusal) → is_passed_over why ≡ true → TellsBetween (bank_on heap) up low high w.before w.behind s.from s.to
+          s.amount why
           → WasShort t.histories s (begun_with opening caller ++ earlier) later
       told up sides (SameUnit unit) passed tells = absurd (cc passed)
       told up sides (Halted unit by) passed tells =
@@ -332,8 +336,9 @@ module _
 
     both_sides : (up : Bool) (low high : ℕ) → unit_of_key bank_layout (of_low up (s.from, s.to)) ≡ Some low
         → unit_of_key bank_layout (of_high up (s.from, s.to)) ≡ Some high → (out into : Option Value)
-        → HasLearntValue heap low w.behind (of_low up (s.from, s.to)) (of_low up (out, into))
-        → HasLearntValue heap high w.behind (of_high up (s.from, s.to)) (of_high up (out, into)) → Side s.from out × Side s.to into
+        → HasLearntValue (bank_on heap) low w.behind (of_low up (s.from, s.to)) (of_low up (out, into))
+        → HasLearntValue (bank_on heap) high w.behind (of_high up (s.from, s.to)) (of_high up (out, into)) → Side s.from out × Side s.to
+        into
     both_sides true low high l h out into x y =
         (record { unit = low; of_key = l; value = x }, record { unit = high; of_key = h; value = y })
     both_sides false low high l h out into x y =
@@ -341,7 +346,8 @@ module _
 
     pub was_short : WasShort t.histories s (begun_with opening caller ++ earlier) later
     was_short =
-        let tells = w.over.tells in
+        let tells =
+        of_bank heap o (λ (x : StoreShown). IsRefusedBetween x w.before w.behind s.from s.to s.amount w.over.why) w.over.tells in
         let units : AreOfTwoUnits bank_layout s.from s.to tells.up tells.low tells.high =
         subst (λ (x : Opening). AreOfTwoUnits x.layout s.from s.to tells.up tells.low tells.high) o tells.units in
         told tells.low tells.high (key_unit_low (of_low tells.up (s.from, s.to)) tells.low units.lower)

@@ -76,12 +76,14 @@ pub come_more : (heap : HeapShown) (q r t : CallerShown) (puts : List Op) (ends 
     → ((unit : ℕ) → unit_of_op heap.opening.layout o ≡ Some unit → unit < 6) → HaveComeTo heap q r puts ends → PutComesTo heap r t o end
     → HaveComeTo heap q t (puts ++ o ∷ []) (ends ++ end ∷ [])
 come_more heap q r t puts ends o (Some x) inside k c =
-    let made = c.continued in
+    let made = c.2.continued in
     let more = puts_more ends (Some x) in
     let n = ap length more ∙ length-append (puts_given ends) (x ∷ []) in
     let calls : r.known.part.calls ≤ t.known.part.calls = let a = made.calls in omega (arith, a) in
+    let of_unit : unit_of_op heap.opening.layout o ≡ Some x.unit =
+    subst (λ (h : HeapShown). unit_of_op h.opening.layout o ≡ Some x.unit) c.1.of_heap made.of_unit in
     record {
-      table = c.table ∙ k.table;
+      table = c.2.table ∙ k.table;
       goes_on = goes_further q.known r.known t.known k.goes_on made.goes_on;
       cuts = made.cuts ∙ k.cuts;
       calls = let a = made.calls in let b = k.calls in omega (arith, a, b, n);
@@ -92,7 +94,7 @@ come_more heap q r t puts ends o (Some x) inside k c =
           (All-append (HasSeenPlace t.known) (puts_given ends) (x ∷ [])
           (all_weaker (HasSeenPlace r.known) (HasSeenPlace t.known) (λ y p. seen_later r.known t.known y made.goes_on p)
           (puts_given ends) k.seen)
-          (All-cons (HasSeenPlace t.known) x [] (answer_seen heap.opening r.known t.known o x made) (All-nil (HasSeenPlace t.known))));
+          (All-cons (HasSeenPlace t.known) x [] (answer_seen c.0.heap.opening r.known t.known o x made) (All-nil (HasSeenPlace t.known))));
       epochs = subst (All (λ (y : Receipt). y.entry.epoch ≤ t.known.part.newest)) (sym more)
           (All-append (λ (y : Receipt). y.entry.epoch ≤ t.known.part.newest) (puts_given ends) (x ∷ [])
           (epochs_later (puts_given ends) r.known.part.newest t.known.part.newest made.goes_on.newest k.epochs)
@@ -100,7 +102,7 @@ come_more heap q r t puts ends o (Some x) inside k c =
           (let a = made.newest in omega (arith, a)) (All-nil (λ (y : Receipt). y.entry.epoch ≤ t.known.part.newest))));
       units = subst (All (λ (y : Receipt). y.unit < 6)) (sym more)
           (All-append (λ (y : Receipt). y.unit < 6) (puts_given ends) (x ∷ []) k.units
-          (All-cons (λ (y : Receipt). y.unit < 6) x [] (inside x.unit made.of_unit) (All-nil (λ (y : Receipt). y.unit < 6))));
+          (All-cons (λ (y : Receipt). y.unit < 6) x [] (inside x.unit of_unit) (All-nil (λ (y : Receipt). y.unit < 6))));
       each = puts_end_more heap q t o (Some x) made.asked puts ends (puts_end_later heap q r t made.goes_on calls puts ends k.each);
     }
 come_more heap q r t puts ends o None inside k c =

@@ -10,6 +10,7 @@ use Rattle.heap.specs.HeapShown.{HeapShown, CallerShown}
 use Rattle.caller.specs.Continued.{GoesOn}
 use Rattle.shard_map.specs.MovedNumbers.{of_high, of_low}
 use Rattle.store.specs.Shifting.{ContinuesByShift, goes_up, higher_of, lower_of}
+use Rattle.store.specs.StoreShown.{StoreShown}
 use Rattle.bank_job.specs.declared.shifts.Shift.{Shift}
 use Rattle.bank_store.specs.Ends.{End, HasGone, all_given, receipts_given}
 use Rattle.bank_store.specs.MadeShifts.{ComesBehind, ComesTo, EndsBetween, HasMadeShift, HasMadeShifts, HasSeenPlace, IsPassedOver}
@@ -42,9 +43,9 @@ record Adds (q r : CallerShown) (given : List Receipt) : Type 0 where
   pub seen : All (HasSeenPlace r.known) given
   pub behind : All (ComesBehind q.known) given
 
-shift_adds : (heap : HeapShown) (q r : CallerShown) (s : Shift) (pair : Receipt × Receipt)
-    → ContinuesByShift heap q r s.from s.to s.amount pair → Adds q r (receipts_given (Some pair))
-shift_adds heap q r s pair c =
+shift_adds : (store : StoreShown) (q r : CallerShown) (s : Shift) (pair : Receipt × Receipt)
+    → ContinuesByShift store q r s.from s.to s.amount pair → Adds q r (receipts_given (Some pair))
+shift_adds store q r s pair c =
     let e = c.entries in
     let m = e.between in
     let low = lower_of pair in
@@ -59,12 +60,12 @@ shift_adds heap q r s pair c =
       receipts = higher.receipts ∙ ap (λ (x : List Receipt). x ++ high ∷ []) lower.receipts
           ∙ append_assoc q.known.part.receipts (low ∷ []) (high ∷ []);
       seen = All-cons (HasSeenPlace r.known) low (high ∷ [])
-          (seen_later m.known r.known low higher.goes_on (answer_seen heap.opening q.known m.known low.entry.op low lower))
-          (All-cons (HasSeenPlace r.known) high [] (answer_seen heap.opening m.known r.known high.entry.op high higher) (All-nil
+          (seen_later m.known r.known low higher.goes_on (answer_seen store.heap.opening q.known m.known low.entry.op low lower))
+          (All-cons (HasSeenPlace r.known) high [] (answer_seen store.heap.opening m.known r.known high.entry.op high higher) (All-nil
           (HasSeenPlace r.known)));
-      behind = All-cons (ComesBehind q.known) low (high ∷ []) (answer_behind heap.opening q.known m.known low.entry.op low lower)
+      behind = All-cons (ComesBehind q.known) low (high ∷ []) (answer_behind store.heap.opening q.known m.known low.entry.op low lower)
           (All-cons (ComesBehind q.known) high []
-          (behind_earlier q.known m.known high lower.goes_on (answer_behind heap.opening m.known r.known high.entry.op high higher))
+          (behind_earlier q.known m.known high lower.goes_on (answer_behind store.heap.opening m.known r.known high.entry.op high higher))
           (All-nil (ComesBehind q.known)));
     }
 
@@ -81,16 +82,16 @@ none_added heap q r s p = record {
 
 end_adds : (heap : HeapShown) (q r : CallerShown) (s : Shift) (end : End) → ComesTo heap q r s end → Adds q r (receipts_given end)
 end_adds heap q r s None c = none_added heap q r s c
-end_adds heap q r s (Some pair) c = shift_adds heap q r s pair c
+end_adds heap q r s (Some pair) c = shift_adds c.0 q r s pair c.2
 
 one_epoch : (up : Bool) (pair : Receipt × Receipt) → (of_high up pair).entry.epoch ≡ (of_low up pair).entry.epoch
     → pair.0.entry.epoch ≡ pair.1.entry.epoch
 one_epoch true pair e = sym e
 one_epoch false pair e = e
 
-gone : (heap : HeapShown) (q r : CallerShown) (s : Shift) (pair : Receipt × Receipt)
-    → ContinuesByShift heap q r s.from s.to s.amount pair → HasGone s pair
-gone heap q r s pair c = record { moved = c.moved; epoch = one_epoch (goes_up pair) pair c.entries.epoch }
+gone : (store : StoreShown) (q r : CallerShown) (s : Shift) (pair : Receipt × Receipt)
+    → ContinuesByShift store q r s.from s.to s.amount pair → HasGone s pair
+gone store q r s pair c = record { moved = c.moved; epoch = one_epoch (goes_up pair) pair c.entries.epoch }
 
 -- ---- one more
 later_ends : (heap : HeapShown) (q r t : CallerShown) (given : List Receipt) → Adds r t given
@@ -112,7 +113,7 @@ later_ends heap q r t given adds s None before behind w = record {
 
 last_end : (heap : HeapShown) (q r t : CallerShown) (shifts : List Shift) (k : HasMadeShifts heap q r shifts) (s : Shift) (end : End)
     → ComesTo heap r t s end → EndsBetween heap q t s end (all_given k.ends) []
-last_end heap q r t shifts k s (Some pair) c = gone heap r t s pair c
+last_end heap q r t shifts k s (Some pair) c = gone c.0 r t s pair c.2
 last_end heap q r t shifts k s None c = record {
   before = r;
   behind = t;

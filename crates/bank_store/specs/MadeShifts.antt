@@ -9,8 +9,13 @@ use Rattle.shard_map.specs.declared.shift_refusal.ShiftRefusal.{ShiftRefusal}
 use Rattle.shard_map.specs.declared.shift_refusal.ShiftRefusal.TheVariants.{SameUnit, Memory, Cut}
 use Rattle.store.specs.Shifting.{ContinuesByShift, IsRefusedBetween}
 use Rattle.store.specs.StoreCalls.{KeepsCaller}
+use Rattle.store.specs.StoreShown.{IsOpenedOn, StoreShown}
 use Rattle.bank_job.specs.declared.shifts.Shift.{Shift}
 use Rattle.bank_store.specs.Ends.{End, HasGone, HoldsOfEach, all_given}
+
+-- This holds of the store that was opened on the heap.
+abbrev pub OfItsStore : HeapShown → (StoreShown → Type 0) → Type 0
+OfItsStore heap Holds = (store : StoreShown) × IsOpenedOn heap store × Holds store
 
 -- ---- one shift
 -- a refusal for which a shift is passed over
@@ -24,11 +29,12 @@ pub record IsPassedOver (heap : HeapShown) (q r : CallerShown) (shift : Shift) :
   pub why : ShiftRefusal
   pub passed : is_passed_over why ≡ true
   pub keeps : KeepsCaller q r
-  pub tells : IsRefusedBetween heap q r shift.from shift.to shift.amount why
+  pub tells : OfItsStore heap
+      (λ store. IsRefusedBetween store q r shift.from shift.to shift.amount why)
 
 abbrev pub ComesTo : HeapShown → CallerShown → CallerShown → Shift → End → Type 0
 ComesTo heap q r shift (Some pair) =
-    ContinuesByShift heap q r shift.from shift.to shift.amount pair
+    OfItsStore heap (λ store. ContinuesByShift store q r shift.from shift.to shift.amount pair)
 ComesTo heap q r shift None = IsPassedOver heap q r shift
 
 -- it was made, or passed over

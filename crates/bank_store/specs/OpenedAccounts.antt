@@ -12,7 +12,7 @@ use Rattle.caller.specs.Continued.{GoesOn}
 use Rattle.caller.specs.Telling.{has_mark}
 use Rattle.store.specs.StoreCalls.{ContinuesCaller, IsRefused, KeepsCaller}
 use Rattle.bank_job.specs.Bank.{bank_layout, first_puts}
-use Rattle.bank_store.specs.MadeShifts.{HasSeenPlace}
+use Rattle.bank_store.specs.MadeShifts.{HasSeenPlace, OfItsStore}
 
 -- each is an operation of a unit of the bank
 abbrev pub AreOfUnits : List Op → Type 0
@@ -29,11 +29,12 @@ pub record IsLeftOut (heap : HeapShown) (q r : CallerShown) (op : Op) : Type 0 w
   pub why : CallRefusal
   pub left_out : is_left_out why ≡ true
   pub keeps : KeepsCaller q r
-  pub tells : IsRefused heap q r op why
+  pub tells : OfItsStore heap (λ store. IsRefused store q r op why)
 
 abbrev pub PutComesTo :
     HeapShown → CallerShown → CallerShown → Op → Option Receipt → Type 0
-PutComesTo heap q r op (Some receipt) = ContinuesCaller heap q r op receipt
+PutComesTo heap q r op (Some receipt) =
+    OfItsStore heap (λ store. ContinuesCaller store q r op receipt)
 PutComesTo heap q r op None = IsLeftOut heap q r op
 
 abbrev pub HasMadePut : HeapShown → CallerShown → CallerShown → Op → Type 0

@@ -63,6 +63,7 @@ fn make_put<R: Wait, N: HeapName, I: Index>(
     ensures same { IsSamePass pass.old pass.new }
     ensures made { OnOk result (HasMadePut N.heap pass.old.ticket pass.new.ticket put.now) }
 {
+    let _heap = store.heap();
     match store.apply(rt, pass, put) {
         Ok(_receipt) => Ok(()),
         Err(why) => leave_out(why),

@@ -45,6 +45,7 @@ fn make_shift<R: Wait, N: HeapName, I: Index>(
     ensures same { IsSamePass pass.old pass.new }
     ensures made { OnOk result (HasMadeShift N.heap pass.old.ticket pass.new.ticket shift.now) }
 {
+    let _heap = store.heap();
     let Shift { from, to, amount } = *shift;
     match store.shift(rt, pass, from, to, amount) {
         Ok(_receipts) => Ok(()),

@@ -15,5 +15,5 @@ impl<'a, N: HeapName, I: Index> Model for AskedStore<'a, N, I> {
 
     ghost Value = { HeapShown };
 
-    ghost view = { λ s. s.store.now };
+    ghost view = { λ s. s.store.now.heap };
 }

@@ -47,6 +47,7 @@ use Rattle.structure_call.proofs.SoundHistories.{sound_shows, shows_before}
 use Rattle.caller.specs.Telling.{has_mark}
 use Rattle.caller.proofs.TakenNotes.{joined_has, or_left, or_right}
 use Rattle.store.proofs.CallsContinued.{has_continued}
+use Rattle.store.specs.StoreShown.{StoreShown, OfAnyBase, store_on}
 use Rattle.store.specs.StoreCalls.{RepliesBehind, ContinuesCaller, KeepsCaller, NeedsRoom, NeedsNumber, TellsWhy, IsRefused, IsSamePass, HasCalled, receipts_more}
 use Rattle.store.specs.declared.structure.Structure.{Structure}
 use Rattle.store.specs.UnitAt.{region_of, IsSeated, StandsAt}
@@ -86,19 +87,21 @@ module _ (heap : HeapShown) (before behind : RegionShown) (q r : CallerShown) (o
     newest = ap (λ (x : CallerShown). x.known.part.newest) a.caller;
   }
 
-  replies : RepliesBehind heap receipt.unit before.seat.known.part.history op receipt.entry.reply
-  replies states recovered =
-      let led = λ (u : ℕ). state_after (base_state (opened_at (clock_of heap.opening.words) states) u) before.seat.known.part.history in
+  replies : (base : List State) → IsRecovered heap.opening.layout heap.opening.words base
+      → RepliesBehind (store_on heap base) receipt.unit before.seat.known.part.history op receipt.entry.reply
+  replies base recovered =
+      let led = λ (u : ℕ). state_after (base_state (opened_at (clock_of heap.opening.words) base) u) before.seat.known.part.history in
       let same = one_state heap.opening.layout before.books.unit before.seat.known.part.records a.judged.state (led before.books.unit)
-      a.judged.shown (a.showed states recovered) in
+      a.judged.shown (a.showed base recovered) in
       a.judged.replies ∙ ap (λ (s : State). (step s op).reply) (same ∙ ap led (sym unit_is))
 
-  pub continues_caller : ContinuesCaller heap q r op receipt
-  continues_caller = record {
+  pub continues_caller : (base : List State) → IsRecovered heap.opening.layout heap.opening.words base
+      → ContinuesCaller (store_on heap base) q r op receipt
+  continues_caller base recovered = record {
     table = ap (λ (x : CallerShown). x.table) a.caller;
     continued = has_continued heap before behind q r op receipt a named_unit;
     continues = continues;
-    replies = replies;
+    replies = replies base recovered;
     entries = ap (λ (x : CallerShown). x.known.entries) a.caller
         ∙ ap (λ (u : ℕ). slice_set q.known.entries u (before.seat.known.part.history ++ receipt.entry ∷ [])) (sym held_is);
   }
@@ -149,10 +152,10 @@ module _ (heap : HeapShown) (before behind : RegionShown) (q r : CallerShown) (o
 
   -- the state on which it was planned is the one to which the entries lead
   module _ (stood : IsStanding heap before) (reply : Reply) (changes : List Change) (plan : IsPlan before op reply changes)
-      (states : List State) (recovered : IsRecovered heap.opening.layout heap.opening.words states)
+      (base : List State) (recovered : IsRecovered heap.opening.layout heap.opening.words base)
       (showed : ShowsHistory heap before) where
     abbrev opened : State
-    opened = base_state (opened_at (clock_of heap.opening.words) states) before.books.unit
+    opened = base_state (opened_at (clock_of heap.opening.words) base) before.books.unit
 
     abbrev led : State
     led = state_after opened before.seat.known.part.history
@@ -161,7 +164,7 @@ module _ (heap : HeapShown) (before behind : RegionShown) (q r : CallerShown) (o
     planned =
         one_state heap.opening.layout before.books.unit before.seat.known.part.records plan.state led
         (subst (λ (s : Shape). HasStructure s before.books.unit before.seat.known.part.records plan.state) stood.of_heap.layout plan.shown)
-        (showed states recovered)
+        (showed base recovered)
 
     makes : AllZip (Makes before.books before.seat.known.part.records) (effects_then opened before.seat.known.part.history op) changes
     makes = subst (λ (s : State). AllZip (Makes before.books before.seat.known.part.records) (step s op).effects changes) planned plan.makes
@@ -171,19 +174,23 @@ module _ (heap : HeapShown) (before behind : RegionShown) (q r : CallerShown) (o
         sym (AllZip-long (Makes before.books before.seat.known.part.records) (effects_then opened before.seat.known.part.history op) changes
         makes)
 
-  module _ (stood : IsStanding heap before) (counted : HasCounted heap before) where
-    needs_number : (which : Which) → HasEnd heap before behind q r op (CountEnd which) → NeedsNumber heap before.books.unit q r op which
+  module _ (stood : IsStanding heap before) (counted : HasCounted heap before) (base : List State)
+      (recovered : IsRecovered heap.opening.layout heap.opening.words base) where
+    abbrev store : StoreShown
+    store = store_on heap base
+
+    needs_number : (which : Which) → HasEnd heap before behind q r op (CountEnd which) → NeedsNumber store before.books.unit q r op which
     needs_number which k =
         let w = k.ends.1 in record {
           history = before.seat.known.part.history;
           kept = w.entries ∙ ap (λ (x : RegionShown). Some x.seat.known.part.history) w.same;
-          cause = λ states recovered.
-              number_at_end heap before q.known.part op seated stood.of_heap.layout states recovered which
-              (numbers_end heap before behind q r op which stood.of_heap.layout k counted states recovered);
+          cause =
+              number_at_end heap before q.known.part op seated stood.of_heap.layout base recovered which
+              (numbers_end heap before behind q r op which stood.of_heap.layout k counted base recovered);
         }
 
     needs_room : (need free clock : ℕ) → IsUncarried heap before behind q r op (Full need free clock)
-        → NeedsRoom heap before.books.unit r op need free clock
+        → NeedsRoom store before.books.unit r op need free clock
     needs_room need free clock k =
         let full = k.leaves.1 in
         let same_unit = full.keeps.of_unit in
@@ -192,23 +199,22 @@ module _ (heap : HeapShown) (before behind : RegionShown) (q r : CallerShown) (o
         (sound_shows heap behind full.ready.runs.agrees.0 full.sound) in record {
           history = before.seat.known.part.history;
           kept = full.entries ∙ ap Some same_history;
-          cause = λ states recovered. record {
-            as_needed = as_many stood k.reply k.changes k.plan states recovered showed ∙ sym k.leaves.0;
-            as_free = room_is states recovered full ∙ sym full.free_is;
+          cause = record {
+            as_needed = as_many stood k.reply k.changes k.plan base recovered showed ∙ sym k.leaves.0;
+            as_free = room_is full ∙ sym full.free_is;
             few = full.fewer;
           };
         }
       where
-        room_is : (states : List State) (recovered : IsRecovered heap.opening.layout heap.opening.words states)
-            (full : IsFull heap before behind q r need free clock)
-            → room_of heap.opening.layout.slots (base_state (opened_at (clock_of heap.opening.words) states) before.books.unit)
+        room_is : (full : IsFull heap before behind q r need free clock)
+            → room_of heap.opening.layout.slots (base_state (opened_at (clock_of heap.opening.words) base) before.books.unit)
             before.seat.known.part.history clock ≡ length behind.books.free
-        room_is states recovered full =
+        room_is full =
             (λ i. room_of heap.opening.layout.slots
-            (base_state (opened_at (clock_of heap.opening.words) states) (sym full.keeps.of_unit i)) (sym full.keeps.history i) clock)
-            ∙ sym (full.room states recovered)
+            (base_state (opened_at (clock_of heap.opening.words) base) (sym full.keeps.of_unit i)) (sym full.keeps.history i) clock)
+            ∙ sym (full.room base recovered)
 
-    pub tells_why : (why : CallRefusal) → LeavesCall heap before behind q r op why → TellsWhy heap before.books.unit q r op why
+    pub tells_why : (why : CallRefusal) → LeavesCall heap before behind q r op why → TellsWhy store before.books.unit q r op why
     tells_why (Halted unit by) k = (k.0, keeps_caller before q r k.2.seen k.2.noted, marked by k.1 k.2)
     tells_why (CountEnd which) k = (keeps_caller before q r k.ends.1.seen k.ends.1.noted, needs_number which k)
     tells_why Memory k = k.1
@@ -230,35 +236,36 @@ module _ (heap : HeapShown) (before behind : RegionShown) (q r : CallerShown) (o
 -- ---- what a call answers
 module _ (heap : HeapShown) (number : ℕ) (before behind : RegionShown) (q r : CallerShown) (op : Op)
     (of_unit : before.books.unit ≡ number) (stood : IsStanding heap before) (counted : HasCounted heap before) (seated : IsSeated before)
-    (is_op : IsOpOf heap.opening.layout number op) where
+    (is_op : IsOpOf heap.opening.layout number op) (base : List State)
+    (recovered : IsRecovered heap.opening.layout heap.opening.words base) where
   pub call_answered : (x : Result Receipt CallRefusal) → IfOk x (λ (receipt : Receipt). HasAnsweredCall heap before behind q r op receipt)
-      → IfOk x (λ (receipt : Receipt). ContinuesCaller heap q r op receipt)
-  call_answered (Ok receipt) a = continues_caller heap before behind q r op receipt seated a
+      → IfOk x (λ (receipt : Receipt). ContinuesCaller (store_on heap base) q r op receipt)
+  call_answered (Ok receipt) a = continues_caller heap before behind q r op receipt seated a base recovered
   call_answered (Err why) a = a
 
   pub call_refused : (x : Result Receipt CallRefusal) → IfErr x (λ (why : CallRefusal). LeavesCall heap before behind q r op why)
-      → IfErr x (λ (why : CallRefusal). IsRefused heap q r op why)
+      → IfErr x (λ (why : CallRefusal). IsRefused (store_on heap base) q r op why)
   call_refused (Ok receipt) k = k
   call_refused (Err why) k = record {
     unit = before.books.unit;
     named = is_op.of_unit ∙ ap Some (sym of_unit);
-    tells = tells_why heap before behind q r op seated stood counted why k;
+    tells = tells_why heap before behind q r op seated stood counted base recovered why k;
   }
 
 -- ---- the caller's pass
 -- a refusal leaves the caller and the receipts that it shows
-is_same_caller : (heap : HeapShown) (unit : ℕ) (q r : CallerShown) (op : Op) (why : CallRefusal) → TellsWhy heap unit q r op why
+is_same_caller : (shown : StoreShown) (unit : ℕ) (q r : CallerShown) (op : Op) (why : CallRefusal) → TellsWhy shown unit q r op why
     → (r.table ≡ q.table) × (r.known.caller ≡ q.known.caller) × (r.known.part.receipts ≡ q.known.part.receipts)
-is_same_caller heap unit q r op (Halted halted by) k = (k.1.table, k.1.caller, k.1.receipts)
-is_same_caller heap unit q r op (CountEnd which) k = (k.0.table, k.0.caller, k.0.receipts)
-is_same_caller heap unit q r op Memory k =
+is_same_caller shown unit q r op (Halted halted by) k = (k.1.table, k.1.caller, k.1.receipts)
+is_same_caller shown unit q r op (CountEnd which) k = (k.0.table, k.0.caller, k.0.receipts)
+is_same_caller shown unit q r op Memory k =
     (ap (λ (x : CallerShown). x.table) k, ap (λ (x : CallerShown). x.known.caller) k, ap (λ (x : CallerShown). x.known.part.receipts) k)
-is_same_caller heap unit q r op (Full need free clock) k = (k.keeps.table, k.keeps.caller, k.keeps.receipts)
-is_same_caller heap unit q r op (Cut cut) k =
+is_same_caller shown unit q r op (Full need free clock) k = (k.keeps.table, k.keeps.caller, k.keeps.receipts)
+is_same_caller shown unit q r op (Cut cut) k =
     let is = k.1.caller in
     (ap (λ (x : CallerShown). x.table) is, ap (λ (x : CallerShown). x.known.caller) is, ap (λ (x : CallerShown). x.known.part.receipts) is)
 
-module _ {G : Type 0} {gate : Ghosts G} (heap : HeapShown) (old new : Pass G gate) (op : Op) where
+module _ {G : Type 0} {gate : Ghosts G} (store : StoreShown) (old new : Pass G gate) (op : Op) where
   pub receipts_behind : (x : Result Receipt CallRefusal)
       → IfOk x (λ (receipt : Receipt). new.receipts.items ≡ old.receipts.items ++ receipt ∷ [])
       → OnErr x (new.receipts.items ≡ old.receipts.items) → new.receipts.items ≡ old.receipts.items ++ receipts_more x
@@ -266,8 +273,8 @@ module _ {G : Type 0} {gate : Ghosts G} (heap : HeapShown) (old new : Pass G gat
   receipts_behind (Err why) more kept = kept ∙ sym (append-nil old.receipts.items)
 
   pub same_pass : (x : Result Receipt CallRefusal)
-      → IfOk x (λ (receipt : Receipt). ContinuesCaller heap old.ticket new.ticket op receipt)
-      → IfErr x (λ (why : CallRefusal). IsRefused heap old.ticket new.ticket op why)
+      → IfOk x (λ (receipt : Receipt). ContinuesCaller store old.ticket new.ticket op receipt)
+      → IfErr x (λ (why : CallRefusal). IsRefused store old.ticket new.ticket op why)
       → new.receipts.items ≡ old.receipts.items ++ receipts_more x → IsSamePass old new
   same_pass (Ok receipt) k refused more = record {
     table = k.table;
@@ -275,18 +282,18 @@ module _ {G : Type 0} {gate : Ghosts G} (heap : HeapShown) (old new : Pass G gat
     whole = λ whole. more ∙ ap (λ (rs : List Receipt). rs ++ receipt ∷ []) whole ∙ sym k.continued.receipts;
   }
   same_pass (Err why) answered k more =
-      let same = is_same_caller heap k.unit old.ticket new.ticket op why k.tells in record {
+      let same = is_same_caller store k.unit old.ticket new.ticket op why k.tells in record {
         table = same.0;
         caller = same.1;
         whole = λ whole. more ∙ append-nil old.receipts.items ∙ whole ∙ sym same.2;
       }
 
   pub has_called : (cuts : G → ℕ) (endless : G → Bool) (x : Result Receipt CallRefusal)
-      → IfOk x (λ (receipt : Receipt). ContinuesCaller heap old.ticket new.ticket op receipt)
-      → IfErr x (λ (why : CallRefusal). IsRefused heap old.ticket new.ticket op why)
+      → IfOk x (λ (receipt : Receipt). ContinuesCaller store old.ticket new.ticket op receipt)
+      → IfErr x (λ (why : CallRefusal). IsRefused store old.ticket new.ticket op why)
       → IfOk x (λ (receipt : Receipt). new.receipts.items ≡ old.receipts.items ++ receipt ∷ [])
       → OnErr x (new.receipts.items ≡ old.receipts.items) → IsAskedOften cuts endless old.gate new.gate (was_cut x)
-      → (was_asked x ≡ false → new.gate ≡ old.gate) → HasCalled heap cuts endless old new op x
+      → (was_asked x ≡ false → new.gate ≡ old.gate) → HasCalled store cuts endless old new op x
   has_called cuts endless x answered refused more kept gate unasked =
       let receipts = receipts_behind x more kept in record {
         answered = answered;
@@ -322,31 +329,34 @@ handed_on Holds (Err d) why is holds = subst (λ (e : CallRefusal). Holds (Err e
 module _ {I G : Type 0} {gate : Ghosts G} (heap : HeapShown) (number : ℕ) (before : Structure I) (behind : RegionShown)
     (old new : Pass G gate) (op : Op) (k : StandsAt heap number before) (is_op : IsOpOf heap.opening.layout number op)
     (cuts : G → ℕ) (endless : G → Bool) where
-  unit_called : (x : Result Receipt CallRefusal)
+  unit_called : (base : List State) → IsRecovered heap.opening.layout heap.opening.words base → (x : Result Receipt CallRefusal)
       → IfOk x (λ (receipt : Receipt). HasAnsweredCall heap (region_of before) behind old.ticket new.ticket op receipt)
       → IfErr x (λ (why : CallRefusal). LeavesCall heap (region_of before) behind old.ticket new.ticket op why)
       → IfOk x (λ (receipt : Receipt). new.receipts.items ≡ old.receipts.items ++ receipt ∷ [])
       → OnErr x (new.receipts.items ≡ old.receipts.items) → IsAskedOften cuts endless old.gate new.gate (was_cut x)
-      → (was_asked x ≡ false → new.gate ≡ old.gate) → HasCalled heap cuts endless old new op x
-  unit_called x answered refused more kept asked unasked =
-      has_called heap old new op cuts endless x
-      (call_answered heap number (region_of before) behind old.ticket new.ticket op k.of_unit k.stands k.counted k.seated is_op x answered)
-      (call_refused heap number (region_of before) behind old.ticket new.ticket op k.of_unit k.stands k.counted k.seated is_op x refused)
+      → (was_asked x ≡ false → new.gate ≡ old.gate) → HasCalled (store_on heap base) cuts endless old new op x
+  unit_called base recovered x answered refused more kept asked unasked =
+      has_called (store_on heap base) old new op cuts endless x
+      (call_answered heap number (region_of before) behind old.ticket new.ticket op k.of_unit k.stands k.counted k.seated is_op base
+      recovered x answered)
+      (call_refused heap number (region_of before) behind old.ticket new.ticket op k.of_unit k.stands k.counted k.seated is_op base
+      recovered x refused)
       more kept asked unasked
 
   pub receipt_called : (receipt : Receipt) → HasAnsweredCall heap (region_of before) behind old.ticket new.ticket op receipt
       → new.receipts.items ≡ old.receipts.items ++ receipt ∷ [] → IsAskedOften cuts endless old.gate new.gate false
-      → HasCalled heap cuts endless old new op (Ok receipt)
-  receipt_called receipt answered more asked = unit_called (Ok receipt) answered tt more tt asked (λ is. absurd (cc))
+      → OfAnyBase heap (λ (store : StoreShown). HasCalled store cuts endless old new op (Ok receipt))
+  receipt_called receipt answered more asked = λ base recovered.
+      unit_called base recovered (Ok receipt) answered tt more tt asked (λ is. absurd (cc))
 
   pub refusal_called : {T : Type 0} (x : Result T CallRefusal)
       → IfErr x (λ (why : CallRefusal). LeavesCall heap (region_of before) behind old.ticket new.ticket op why)
       → OnErr x (new.receipts.items ≡ old.receipts.items) → IsAskedOften cuts endless old.gate new.gate (was_cut x)
       → (was_asked x ≡ false → new.gate ≡ old.gate)
-      → IfErr x (λ (why : CallRefusal). HasCalled heap cuts endless old new op (Err why))
+      → IfErr x (λ (why : CallRefusal). OfAnyBase heap (λ (store : StoreShown). HasCalled store cuts endless old new op (Err why)))
   refusal_called (Ok done) refused kept asked unasked = tt
-  refusal_called {T = T} (Err why) refused kept asked unasked =
-      unit_called (Err why) tt refused tt kept
+  refusal_called {T = T} (Err why) refused kept asked unasked = λ base recovered.
+      unit_called base recovered (Err why) tt refused tt kept
       (subst (IsAskedOften cuts endless old.gate new.gate) (cut_alike T Receipt why) asked)
       (λ is. unasked (asked_alike T Receipt why ∙ is))
 
@@ -356,7 +366,7 @@ module _ {I G : Type 0} {gate : Ghosts G} (heap : HeapShown) (number : ℕ) (bef
       (HasAnsweredCall heap (region_of before) behind old.ticket new.ticket op))
       → IsAskedOften cuts endless old.gate new.gate (was_cut x)
       → OnOk x (KeepsReceipt old.receipts.items new.receipts.items
-      (λ (receipt : Receipt). HasCalled heap cuts endless old new op (Ok receipt)))
+      (λ (receipt : Receipt). OfAnyBase heap (λ (store : StoreShown). HasCalled store cuts endless old new op (Ok receipt))))
   kept_called (Ok done) k asked = record {
     receipt = k.receipt;
     kept = k.kept;

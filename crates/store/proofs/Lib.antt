@@ -1,5 +1,6 @@
 mod FirstSeats
 mod BoxesGiven
+pub mod StoreBases
 pub mod NumbersAtEnd
 mod CallsContinued
 mod CallsShown

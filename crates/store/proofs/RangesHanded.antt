@@ -7,7 +7,7 @@ use Rattle.mont_base.specs.declared.operation.Op.{Op}
 use Rattle.mont_base.specs.declared.operation.Op.TheVariants as ops
 use Rattle.mont_base.specs.declared.operation.Receipt.{Receipt}
 use Rattle.mont_base.specs.History.{state_after}
-use Rattle.mont_base.specs.Image.{clock_of}
+use Rattle.mont_base.specs.Image.{clock_of, IsRecovered}
 use Rattle.mont_base.specs.Layout.{Shape, kind_of}
 use Rattle.mont_base.specs.State.{State, MapOf, QueueOf, GraphOf, Pairs, Run, is_state_of, range_of, run_of, step}
 use Rattle.mont_laws.specs.Structures.{HasPairs, HasStructure}
@@ -19,6 +19,7 @@ use Rattle.heap.specs.HeapShown.{HeapShown, CallerShown}
 use Rattle.slots.specs.Books.{RegionShown}
 use Rattle.structure_call.specs.Calling.{HasAnsweredCall}
 use Rattle.pordered.specs.OrderedRuns.{HasRun}
+use Rattle.store.specs.StoreShown.{StoreShown, OfAnyBase, store_on}
 use Rattle.store.specs.StoreCalls.{HandsRun, HoldsOfBase}
 use Rattle.store.specs.UnitAt.{HasRunOf, IsSeated}
 use Rattle.store.proofs.AskedKeys.{range_unit}
@@ -54,26 +55,27 @@ module _ (heap : HeapShown) (before behind : RegionShown) (q r : CallerShown) (n
       (λ i. (sym a.ready.runs.of_heap.layout i, sym a.of_unit i)) still_there.things
 
   module _ (run : Run) (has : HasRun behind from to most run) where
-    run_is : HoldsOfBase heap receipt.unit
+    run_is : (base : List State) → IsRecovered heap.opening.layout heap.opening.words base → HoldsOfBase (store_on heap base) receipt.unit
         (λ base. run_of (state_after base before.seat.known.part.history) receipt.entry.op ≡ Some run)
-    run_is states recovered =
-        let led = λ (u : ℕ). state_after (base_state (opened_at (clock_of heap.opening.words) states) u) before.seat.known.part.history in
+    run_is base recovered =
+        let led = λ (u : ℕ). state_after (base_state (opened_at (clock_of heap.opening.words) base) u) before.seat.known.part.history in
         let unit = same_unit heap before behind q r op receipt seated a in
         let same = one_state heap.opening.layout before.books.unit before.seat.known.part.records a.judged.state (led before.books.unit)
-        a.judged.shown (a.showed states recovered) in
+        a.judged.shown (a.showed base recovered) in
         let asked = ap (λ (x : Receipt). x.entry.op) a.receipt_is in
         ap (λ (u : ℕ). run_of (led u) receipt.entry.op) (sym unit) ∙ ap (λ (s : State). run_of s receipt.entry.op) (sym same ∙ its_map.1)
         ∙ ap (run_of (MapOf its_map.0)) asked ∙ ap Some (sym (has its_map.0 pairs_there))
 
-    hands : HandsRun heap r receipt run
-    hands = record {
+    hands : OfAnyBase heap (λ (store : StoreShown). HandsRun store r receipt run)
+    hands base recovered = record {
       history = before.seat.known.part.history;
       seen = seen_behind heap before behind q r op receipt a (named_unit heap before behind q r op receipt seated a);
-      run_is = run_is;
+      run_is = run_is base recovered;
     }
 
 pub hands_run : (heap : HeapShown) (before behind : RegionShown) (q r : CallerShown) (op : Op) (receipt : Receipt) (run : Run)
-    → IsSeated before → HasAnsweredCall heap before behind q r op receipt → HasRunOf behind op run → HandsRun heap r receipt run
+    → IsSeated before → HasAnsweredCall heap before behind q r op receipt → HasRunOf behind op run
+    → OfAnyBase heap (λ (store : StoreShown). HandsRun store r receipt run)
 hands_run heap before behind q r (ops.ORange named from to most) receipt run seated a has =
     hands heap before behind q r named most from to receipt seated a run has
 hands_run heap before behind q r _ receipt run seated a has = absurd has

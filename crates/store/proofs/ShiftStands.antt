@@ -36,6 +36,8 @@ use Rattle.shard_map.specs.MovedNumbers.{of_high, of_low}
 use Rattle.store.specs.declared.structure.Structure.{Structure}
 use Rattle.store.specs.declared.structure.Structure.TheVariants.{Map, Queue, Graph, Ordered}
 use Rattle.store.specs.Shifting.{AreOfTwoUnits, ContinuesByShift, FoundOneFull, HasTriedShift, TellsBetween, TellsShift, receipts_added}
+use Rattle.mont_base.specs.Image.{IsRecovered}
+use Rattle.store.specs.StoreShown.{StoreShown, store_on}
 use Rattle.store.specs.StoreCalls.{ContinuesCaller, KeepsCaller, WasLeft}
 use Rattle.store.specs.UnitAt.{StandsAt, structure_kind}
 use Rattle.store.proofs.ShiftTold.{IsUnitAt, continues, goes_is, tells}
@@ -231,13 +233,13 @@ goes_left unit q r k = record {
   receipts = ap (λ (x : CallerShown). x.known.part.receipts) k.caller ∙ sym (append-nil q.known.part.receipts);
 }
 
-goes_on : (heap : HeapShown) (q r : CallerShown) (receipt : Receipt) → ContinuesCaller heap q r receipt.entry.op receipt
+goes_on : (store : StoreShown) (q r : CallerShown) (receipt : Receipt) → ContinuesCaller store q r receipt.entry.op receipt
     → GoesBy q r (receipt ∷ [])
-goes_on heap q r receipt k =
+goes_on store q r receipt k =
     record { table = k.table; caller = k.continued.goes_on.caller; receipts = k.continued.receipts }
 
-module _ (heap : HeapShown) (up : Bool) (low high : ℕ) (q r : CallerShown) (from to : Key) (amount : ℕ) where
-  goes_refused : (why : ShiftRefusal) → TellsBetween heap up low high q r from to amount why
+module _ (store : StoreShown) (up : Bool) (low high : ℕ) (q r : CallerShown) (from to : Key) (amount : ℕ) where
+  goes_refused : (why : ShiftRefusal) → TellsBetween store up low high q r from to amount why
       → GoesBy q r (receipts_added (Err why))
   goes_refused (SameUnit unit) k = absurd k
   goes_refused (Halted unit by) k = goes_kept q r k.0
@@ -248,7 +250,7 @@ module _ (heap : HeapShown) (up : Bool) (low high : ℕ) (q r : CallerShown) (fr
   goes_refused Memory k = goes_nowhere q r k
   goes_refused (Full unit need free clock) k = by k.full
     where
-      by : FoundOneFull heap low high q r k.operations unit need free clock → GoesBy q r []
+      by : FoundOneFull store low high q r k.operations unit need free clock → GoesBy q r []
       by (inl f) = goes_kept q r f.1.keeps
       by (inr f) = goes_kept q r f.1.keeps
   goes_refused (Cut unit None) (inl k) =
@@ -256,19 +258,19 @@ module _ (heap : HeapShown) (up : Bool) (low high : ℕ) (q r : CallerShown) (fr
   goes_refused (Cut unit None) (inr k) =
       goes_more q k.1.between r [] [] (goes_left high q k.1.between k.1.first) (goes_left low k.1.between r k.1.second)
   goes_refused (Cut unit (Some receipt)) k =
-      goes_more q k.1.between r (receipt ∷ []) [] (goes_on heap q k.1.between receipt k.1.lower)
+      goes_more q k.1.between r (receipt ∷ []) [] (goes_on store q k.1.between receipt k.1.lower)
       (goes_left high k.1.between r k.1.higher)
 
   goes : (result : Result (Receipt × Receipt) ShiftRefusal)
-      → IfOk result (λ receipts. ContinuesByShift heap q r from to amount receipts)
-      → IfErr result (λ why. TellsBetween heap up low high q r from to amount why) → GoesBy q r (receipts_added result)
+      → IfOk result (λ receipts. ContinuesByShift store q r from to amount receipts)
+      → IfErr result (λ why. TellsBetween store up low high q r from to amount why) → GoesBy q r (receipts_added result)
   goes (Ok receipts) k l =
       let e = k.entries in
-      goes_more q e.between r (_ ∷ []) (_ ∷ []) (goes_on heap q e.between _ e.lower) (goes_on heap e.between r _ e.higher)
+      goes_more q e.between r (_ ∷ []) (_ ∷ []) (goes_on store q e.between _ e.lower) (goes_on store e.between r _ e.higher)
   goes (Err why) k l = goes_refused why l
 
-  refused_by : (why : ShiftRefusal) → AreOfTwoUnits heap.opening.layout from to up low high
-      → TellsBetween heap up low high q r from to amount why → TellsShift heap q r from to amount why
+  refused_by : (why : ShiftRefusal) → AreOfTwoUnits store.heap.opening.layout from to up low high
+      → TellsBetween store up low high q r from to amount why → TellsShift store q r from to amount why
   refused_by (SameUnit unit) units k = absurd k
   refused_by (Halted unit by) units k = record { up = up; low = low; high = high; units = units; tells = k }
   refused_by (Missing key) units k = record { up = up; low = low; high = high; units = units; tells = k }
@@ -279,25 +281,25 @@ module _ (heap : HeapShown) (up : Bool) (low high : ℕ) (q r : CallerShown) (fr
   refused_by (Full unit need free clock) units k = record { up = up; low = low; high = high; units = units; tells = k }
   refused_by (Cut unit first) units k = record { up = up; low = low; high = high; units = units; tells = k }
 
-  refused : (result : Result (Receipt × Receipt) ShiftRefusal) → AreOfTwoUnits heap.opening.layout from to up low high
-      → IfErr result (λ why. TellsBetween heap up low high q r from to amount why)
-      → IfErr result (λ why. TellsShift heap q r from to amount why)
+  refused : (result : Result (Receipt × Receipt) ShiftRefusal) → AreOfTwoUnits store.heap.opening.layout from to up low high
+      → IfErr result (λ why. TellsBetween store up low high q r from to amount why)
+      → IfErr result (λ why. TellsShift store q r from to amount why)
   refused (Ok receipts) units k = k
   refused (Err why) units k = refused_by why units k
 
-pub tried : {G : Type 0} {the : Ghosts G} (heap : HeapShown) (cuts : G → ℕ) (endless : G → Bool) (old new : Pass G the)
+pub tried : {G : Type 0} {the : Ghosts G} (store : StoreShown) (cuts : G → ℕ) (endless : G → Bool) (old new : Pass G the)
     (from to : Key) (amount : ℕ) (up : Bool)
-    (low high : ℕ) (result : Result (Receipt × Receipt) ShiftRefusal) → AreOfTwoUnits heap.opening.layout from to up low high
-    → IfOk result (λ receipts. ContinuesByShift heap old.ticket new.ticket from to amount receipts)
-    → IfErr result (λ why. TellsBetween heap up low high old.ticket new.ticket from to amount why)
+    (low high : ℕ) (result : Result (Receipt × Receipt) ShiftRefusal) → AreOfTwoUnits store.heap.opening.layout from to up low high
+    → IfOk result (λ receipts. ContinuesByShift store old.ticket new.ticket from to amount receipts)
+    → IfErr result (λ why. TellsBetween store up low high old.ticket new.ticket from to amount why)
     → new.receipts.items ≡ old.receipts.items ++ receipts_added result
     → IsAskedOften cuts endless old.gate new.gate (was_cut result)
-    → HasTriedShift heap cuts endless old new from to amount result
-tried heap cuts endless old new from to amount up low high result units shifted told receipts gate =
-    let g = goes heap up low high old.ticket new.ticket from to amount result shifted told in
+    → HasTriedShift store cuts endless old new from to amount result
+tried store cuts endless old new from to amount up low high result units shifted told receipts gate =
+    let g = goes store up low high old.ticket new.ticket from to amount result shifted told in
     record {
       shifted = shifted;
-      refused = refused heap up low high old.ticket new.ticket from to amount result units told;
+      refused = refused store up low high old.ticket new.ticket from to amount result units told;
       same = record {
         table = g.table;
         caller = g.caller;
@@ -308,22 +310,23 @@ tried heap cuts endless old new from to amount up low high result units shifted 
     }
 
 -- ---- from what the shift of the two map units left
-module _ (heap : HeapShown) (up : Bool) (low low_now high high_now : RegionShown) (q r : CallerShown) (from to : Key) (amount : ℕ)
+module _ (heap : HeapShown) (base : List State) (recovered : IsRecovered heap.opening.layout heap.opening.words base) (up : Bool)
+    (low low_now high high_now : RegionShown) (q r : CallerShown) (from to : Key) (amount : ℕ)
     (units : AreOfTwoUnits heap.opening.layout from to up low.books.unit high.books.unit) (low_at : IsUnitAt heap low)
     (high_at : IsUnitAt heap high) where
   has_continued : (result : Result (Receipt × Receipt) ShiftRefusal)
       → IfOk result (λ receipts. HasShifted heap up low low_now high high_now q r from to amount receipts)
-      → IfOk result (λ receipts. ContinuesByShift heap q r from to amount receipts)
+      → IfOk result (λ receipts. ContinuesByShift (store_on heap base) q r from to amount receipts)
   has_continued (Ok receipts) k =
-      continues heap up low low_now high high_now q r from to amount units.order low_at high_at receipts k units
+      continues heap base recovered up low low_now high high_now q r from to amount units.order low_at high_at receipts k units
   has_continued (Err why) k = k
 
   has_told : (result : Result (Receipt × Receipt) ShiftRefusal)
       → IfErr result (λ why. LeavesShift heap up low low_now high high_now q r from to amount why)
       → (was_checked result ≡ true → MayBeShifted up low high q.known.part from to amount)
-      → IfErr result (λ why. TellsBetween heap up low.books.unit high.books.unit q r from to amount why)
+      → IfErr result (λ why. TellsBetween (store_on heap base) up low.books.unit high.books.unit q r from to amount why)
   has_told (Ok receipts) k may = k
-  has_told (Err why) k may = tells heap up low low_now high high_now q r from to amount units.order low_at high_at why k may
+  has_told (Err why) k may = tells heap base recovered up low low_now high high_now q r from to amount units.order low_at high_at why k may
 
   has_kept : (result : Result (Receipt × Receipt) ShiftRefusal) (old new : List Receipt)
       → IfOk result (λ receipts. HasShifted heap up low low_now high high_now q r from to amount receipts)
@@ -332,10 +335,11 @@ module _ (heap : HeapShown) (up : Bool) (low low_now high high_now : RegionShown
   has_kept (Ok receipts) old new k given kept =
       given
       ∙ ap (λ (b : Bool). old ++ of_low b receipts ∷ of_high b receipts ∷ [])
-      (goes_is heap up low low_now high high_now q r from to amount units.order low_at high_at receipts k)
+      (goes_is heap base recovered up low low_now high high_now q r from to amount units.order low_at high_at receipts k)
   has_kept (Err why) old new k given kept = kept
 
-pub shift_tried : {G : Type 0} {the : Ghosts G} (heap : HeapShown) (cuts : G → ℕ) (endless : G → Bool) (old new : Pass G the)
+pub shift_tried : {G : Type 0} {the : Ghosts G} (heap : HeapShown) (base : List State)
+    (recovered : IsRecovered heap.opening.layout heap.opening.words base) (cuts : G → ℕ) (endless : G → Bool) (old new : Pass G the)
     (from to : Key) (amount : ℕ) (up : Bool) (low low_now high high_now : RegionShown) (result : Result (Receipt × Receipt) ShiftRefusal)
     → AreOfTwoUnits heap.opening.layout from to up low.books.unit high.books.unit → IsUnitAt heap low → IsUnitAt heap high
     → IfOk result (λ receipts. HasShifted heap up low low_now high high_now old.ticket new.ticket from to amount receipts)
@@ -344,12 +348,15 @@ pub shift_tried : {G : Type 0} {the : Ghosts G} (heap : HeapShown) (cuts : G →
     → IfOk result (λ receipts. new.receipts.items ≡ old.receipts.items ++ of_low up receipts ∷ of_high up receipts ∷ [])
     → IfErr result (λ why. new.receipts.items ≡ old.receipts.items ++ receipts_kept why)
     → IsAskedOften cuts endless old.gate new.gate (was_cut result)
-    → HasTriedShift heap cuts endless old new from to amount result
-shift_tried heap cuts endless old new from to amount up low low_now high high_now result units low_at high_at shifted left may given kept
+    → HasTriedShift (store_on heap base) cuts endless old new from to amount result
+shift_tried heap base recovered cuts endless old new from to amount up low low_now high high_now result units low_at high_at shifted left
+    may given kept
     gate =
-    tried heap cuts endless old new from to amount up low.books.unit high.books.unit result units
-    (has_continued heap up low low_now high high_now old.ticket new.ticket from to amount units low_at high_at result shifted)
-    (has_told heap up low low_now high high_now old.ticket new.ticket from to amount units low_at high_at result left may)
-    (has_kept heap up low low_now high high_now old.ticket new.ticket from to amount units low_at high_at result old.receipts.items
+    tried (store_on heap base) cuts endless old new from to amount up low.books.unit high.books.unit result units
+    (has_continued heap base recovered up low low_now high high_now old.ticket new.ticket from to amount units low_at high_at result
+    shifted)
+    (has_told heap base recovered up low low_now high high_now old.ticket new.ticket from to amount units low_at high_at result left may)
+    (has_kept heap base recovered up low low_now high high_now old.ticket new.ticket from to amount units low_at high_at result
+    old.receipts.items
     new.receipts.items shifted given kept)
     gate

@@ -47,6 +47,7 @@ use Rattle.shard_map.specs.MovedNumbers.{of_high, of_low}
 use Rattle.shard_map.specs.PairCarrying.{IsHighFull, IsLowFull}
 use Rattle.xfer.specs.Pairs.{WereHalted}
 use Rattle.store.specs.Shifting.{AreMove, AreOfTwoUnits, ContinuesByShift, ContinuesTwice, HasLearntLack, HasLearntMove, HasLearntValue, IsLeftAlone, NeedsPairNumber, TellsBetween, WereLeft, WouldReply, goes_up}
+use Rattle.store.specs.StoreShown.{StoreShown, store_on}
 use Rattle.store.specs.StoreCalls.{FoundFull, KeepsCaller, NeedsNumber, WasLeft}
 use Rattle.store.specs.UnitAt.{IsSeated}
 use Rattle.store.proofs.CallsShown.{continues_caller, keeps_caller, marked, same_unit}
@@ -77,70 +78,70 @@ finds s x (QueueOf items) key value kind shown has =
 finds s x (GraphOf graph) key value kind shown has =
     let e = ap (λ (k : Option UnitKind). is_kind_of k (GraphOf graph)) (sym kind) ∙ shown.of_unit in absurd (cc)
 
-module _ (heap : HeapShown) (x : RegionShown) (r : CallerShown) (stood : IsStanding heap x) (seen : IsSeenIn heap x r) where
-  abbrev led : List State → State
-  led states = state_after (base_state (opened_at (clock_of heap.opening.words) states) x.books.unit) x.seat.known.part.history
+module _ (heap : HeapShown) (base : List State) (recovered : IsRecovered heap.opening.layout heap.opening.words base) (x : RegionShown)
+    (r : CallerShown) (stood : IsStanding heap x) (seen : IsSeenIn heap x r) where
+  abbrev led : State
+  led = state_after (base_state (opened_at (clock_of heap.opening.words) base) x.books.unit) x.seat.known.part.history
 
   learnt_value : (key : Key) (value : Option Value) → kind_of heap.opening.layout x.books.unit ≡ Some kinds.Map → HasValue x key value
-      → HasLearntValue heap x.books.unit r key value
+      → HasLearntValue (store_on heap base) x.books.unit r key value
   learnt_value key value kind has = record {
     history = x.seat.known.part.history;
     kept = seen.kept;
-    cause = λ states recovered.
-        finds heap.opening.layout x (led states) key value kind (seen.showed states recovered)
+    cause =
+        finds heap.opening.layout x led key value kind (seen.showed base recovered)
         (λ pairs pairs_are. has pairs (subst (λ (s : Shape). HasPairs s x.books.unit x.seat.known.part.records pairs)
         (sym stood.of_heap.layout) pairs_are));
   }
 
   module _ (op : Op) (reply : Reply) (change : Change) (planned : IsPlan x op reply (change ∷ [])) where
-    planned_on : (states : List State) → IsRecovered heap.opening.layout heap.opening.words states → planned.state ≡ led states
-    planned_on states recovered =
-        one_state heap.opening.layout x.books.unit x.seat.known.part.records planned.state (led states)
+    planned_on : planned.state ≡ led
+    planned_on =
+        one_state heap.opening.layout x.books.unit x.seat.known.part.records planned.state led
         (subst (λ (s : Shape). HasStructure s x.books.unit x.seat.known.part.records planned.state) stood.of_heap.layout planned.shown)
-        (seen.showed states recovered)
+        (seen.showed base recovered)
 
-    would_reply : WouldReply heap x.books.unit r op reply
+    would_reply : WouldReply (store_on heap base) x.books.unit r op reply
     would_reply = record {
       history = x.seat.known.part.history;
       kept = seen.kept;
-      cause = λ states recovered.
-          planned.replies ∙ ap (λ (s : State). (step s op).reply) (planned_on states recovered);
+      cause = planned.replies ∙ ap (λ (s : State). (step s op).reply) planned_on;
     }
 
-    one_change : (states : List State) → IsRecovered heap.opening.layout heap.opening.words states
-        → length (step (led states) op).effects ≡ 1
-    one_change states recovered =
-        sym (AllZip-long (Makes x.books x.seat.known.part.records) (step (led states) op).effects (change ∷ [])
+    one_change : length (step led op).effects ≡ 1
+    one_change =
+        sym (AllZip-long (Makes x.books x.seat.known.part.records) (step led op).effects (change ∷ [])
         (subst (λ (s : State). AllZip (Makes x.books x.seat.known.part.records) (step s op).effects (change ∷ []))
-        (planned_on states recovered) planned.makes))
+        planned_on planned.makes))
 
 -- ---- a unit that was full
-module _ (heap : HeapShown) (x now : RegionShown) (q m : CallerShown) (free clock : ℕ) (full : IsFull heap x now q m 1 free clock) where
+module _ (heap : HeapShown) (base : List State) (recovered : IsRecovered heap.opening.layout heap.opening.words base) (x now : RegionShown)
+    (q m : CallerShown) (free clock : ℕ) (full : IsFull heap x now q m 1 free clock) where
   showed_full : ShowsHistory heap x
   showed_full =
       shows_before heap x now full.keeps.of_unit full.keeps.history (λ identity. full.keeps.live identity)
       (sound_shows heap now full.ready.runs.agrees.0 full.sound)
 
-  room_full : (states : List State) → IsRecovered heap.opening.layout heap.opening.words states
-      → room_of heap.opening.layout.slots (base_state (opened_at (clock_of heap.opening.words) states) x.books.unit)
+  room_full : room_of heap.opening.layout.slots (base_state (opened_at (clock_of heap.opening.words) base) x.books.unit)
       x.seat.known.part.history clock ≡ free
-  room_full states recovered =
+  room_full =
       (λ i. room_of heap.opening.layout.slots
-      (base_state (opened_at (clock_of heap.opening.words) states) (sym full.keeps.of_unit i)) (sym full.keeps.history i) clock)
-      ∙ (sym (full.room states recovered) ∙ sym full.free_is)
+      (base_state (opened_at (clock_of heap.opening.words) base) (sym full.keeps.of_unit i)) (sym full.keeps.history i) clock)
+      ∙ (sym (full.room base recovered) ∙ sym full.free_is)
 
   found_full : (r : CallerShown) (op : Op) (reply : Reply) (change : Change) → IsStanding heap x → IsSeenIn heap x r
       → IsPlan x op reply (change ∷ []) → KeepsCaller q r
-      → m.known.part.durable ≤ r.known.part.durable → FoundFull heap x.books.unit q r op 1 free clock
+      → m.known.part.durable ≤ r.known.part.durable
+      → FoundFull (store_on heap base) x.books.unit q r op 1 free clock
   found_full r op reply change stood seen planned keeps later = record {
     keeps = keeps;
     few = full.fewer;
     needs = record {
       history = x.seat.known.part.history;
       kept = seen.kept;
-      cause = λ states recovered. record {
-        as_needed = one_change heap x r stood seen op reply change planned states recovered;
-        as_free = room_full states recovered;
+      cause = record {
+        as_needed = one_change heap base recovered x r stood seen op reply change planned;
+        as_free = room_full;
         few = full.fewer;
       };
     };
@@ -173,14 +174,15 @@ at_first p x change which two e = by (nat_lt LAST p.calls) refl
     by false is = e
 
 -- ---- two units of which the caller has seen all entries
-module _ (heap : HeapShown) (up : Bool) (low high : RegionShown) (r : CallerShown) (from to : Key) (amount : ℕ)
+module _ (heap : HeapShown) (base : List State) (recovered : IsRecovered heap.opening.layout heap.opening.words base) (up : Bool)
+    (low high : RegionShown) (r : CallerShown) (from to : Key) (amount : ℕ)
     (low_stood : IsStanding heap low) (high_stood : IsStanding heap high) (low_seen : IsSeenIn heap low r)
     (high_seen : IsSeenIn heap high r) (one other : _) (planned : ArePlanned up low high from to amount one other) where
-  learnt_move : HasLearntMove heap up low.books.unit high.books.unit r from to amount (one.op, other.op)
+  learnt_move : HasLearntMove (store_on heap base) up low.books.unit high.books.unit r from to amount (one.op, other.op)
   learnt_move = record {
     replies = (one.reply, other.reply);
-    lower = would_reply heap low r low_stood low_seen one.op one.reply one.change planned.lower;
-    higher = would_reply heap high r high_stood high_seen other.op other.reply other.change planned.higher;
+    lower = would_reply heap base recovered low r low_stood low_seen one.op one.reply one.change planned.lower;
+    higher = would_reply heap base recovered high r high_stood high_seen other.op other.reply other.change planned.higher;
     move = as_move up low high from to amount one other planned;
   }
 
@@ -198,10 +200,14 @@ were_left heap one one_now other other_now q r k = record {
 }
 
 -- ---- a shift, or a try of one
-module _ (heap : HeapShown) (up : Bool) (low low_now high high_now : RegionShown) (q r : CallerShown) (from to : Key) (amount : ℕ)
+module _ (heap : HeapShown) (base : List State) (recovered : IsRecovered heap.opening.layout heap.opening.words base) (up : Bool)
+    (low low_now high high_now : RegionShown) (q r : CallerShown) (from to : Key) (amount : ℕ)
     (order : low.books.unit < high.books.unit) (low_stands : IsUnitAt heap low) (high_stands : IsUnitAt heap high) where
+  abbrev store : StoreShown
+  store = store_on heap base
+
   abbrev TellsHere : ShiftRefusal → Type 0
-  TellsHere why = TellsBetween heap up low.books.unit high.books.unit q r from to amount why
+  TellsHere why = TellsBetween store up low.books.unit high.books.unit q r from to amount why
 
   low_apart : low.books.unit ≢ high.seat.known.unit
   low_apart = λ e. let seat = high_stands.seated.of_seat in omega (arith, order, e, seat)
@@ -248,15 +254,17 @@ module _ (heap : HeapShown) (up : Bool) (low low_now high high_now : RegionShown
     )
 
     tells_lack : (why : ShiftRefusal) → LacksAmount up low high from to amount why
-        → HasLearntLack heap up low.books.unit high.books.unit q r from to amount why
+        → HasLearntLack store up low.books.unit high.books.unit q r from to amount why
     tells_lack why k = record {
       keeps = noted_keeps;
       out = k.out;
       into = k.into;
       lower =
-          learnt_value heap low r low_stands.stands low_noted (of_low up (from, to)) (of_low up (k.out, k.into)) low_stands.map k.low_value;
+          learnt_value heap base recovered low r low_stands.stands low_noted (of_low up (from, to)) (of_low up (k.out, k.into))
+          low_stands.map k.low_value;
       higher =
-          learnt_value heap high r high_stands.stands high_noted (of_high up (from, to)) (of_high up (k.out, k.into)) high_stands.map
+          learnt_value heap base recovered high r high_stands.stands high_noted (of_high up (from, to)) (of_high up (k.out, k.into))
+          high_stands.map
           k.high_value;
       cannot = k.cannot;
     }
@@ -264,44 +272,44 @@ module _ (heap : HeapShown) (up : Bool) (low low_now high high_now : RegionShown
     -- ---- a number at its end
     module _ (one other : _) (planned : ArePlanned up low high from to amount one other)
         (two : q.known.part.calls + 1 ≤ LAST) where
-      low_needs : (which : Which) → end_of low one.change ≡ Some which → NeedsNumber heap low.books.unit q r one.op which
+      low_needs : (which : Which) → end_of low one.change ≡ Some which → NeedsNumber store low.books.unit q r one.op which
       low_needs which e = record {
         history = low.seat.known.part.history;
         kept = low_noted.kept;
-        cause = λ states recovered.
-            number_at_end heap low q.known.part one.op low_stands.seated low_stands.stands.of_heap.layout states recovered which
+        cause =
+            number_at_end heap low q.known.part one.op low_stands.seated low_stands.stands.of_heap.layout base recovered which
             (numbers_end heap low low_now q n.between one.op which low_stands.stands.of_heap.layout (record {
               running = planned.low_running;
               reply = one.reply;
               changes = one.change ∷ [];
               plan = planned.lower;
               ends = (at_first q.known.part low one.change which two e, n.lower);
-            }) low_stands.counted states recovered);
+            }) low_stands.counted base recovered);
       }
 
       same_calls : n.between.known.part.calls ≡ q.known.part.calls
       same_calls = ap (λ (x : CallerShown). x.known.part.calls) n.lower.noted
 
-      high_needs : (which : Which) → end_of high other.change ≡ Some which → NeedsNumber heap high.books.unit q r other.op which
+      high_needs : (which : Which) → end_of high other.change ≡ Some which → NeedsNumber store high.books.unit q r other.op which
       high_needs which e = record {
         history = high.seat.known.part.history;
         kept = high_noted.kept;
-        cause = λ states recovered.
+        cause =
             subst (λ (calls : ℕ). IsAtEnd (records_in (opened_records heap.opening) high.books.unit) calls which other.op
-            (base_state (opened_at (clock_of heap.opening.words) states) high.books.unit) high.seat.known.part.history)
+            (base_state (opened_at (clock_of heap.opening.words) base) high.books.unit) high.seat.known.part.history)
             same_calls
-            (number_at_end heap high n.between.known.part other.op high_stands.seated high_stands.stands.of_heap.layout states recovered which
+            (number_at_end heap high n.between.known.part other.op high_stands.seated high_stands.stands.of_heap.layout base recovered which
             (numbers_end heap high high_now n.between r other.op which high_stands.stands.of_heap.layout (record {
               running = planned.high_running;
               reply = other.reply;
               changes = other.change ∷ [];
               plan = planned.higher;
               ends = (at_first n.between.known.part high other.change which (omega (arith, two, same_calls)) e, n.higher);
-            }) high_stands.counted states recovered));
+            }) high_stands.counted base recovered));
       }
 
       one_needs : (which : Which) → (end_of low one.change ≡ Some which) ⊎ (end_of high other.change ≡ Some which)
-          → NeedsPairNumber heap low.books.unit high.books.unit q r (one.op, other.op) which
+          → NeedsPairNumber store low.books.unit high.books.unit q r (one.op, other.op) which
       one_needs ends.Call (inl e) =
           let past = at_end q.known.part low (one.change ∷ []) ends.Call (at_first q.known.part low one.change ends.Call two e) in
           omega (arith, past)
@@ -319,14 +327,14 @@ module _ (heap : HeapShown) (up : Bool) (low low_now high high_now : RegionShown
 
     pair_needs : (which : Which) (one other : _) → ArePlanned up low high from to amount one other
         → end_of_pair q.known.part low high one.change other.change ≡ Some which
-        → NeedsPairNumber heap low.books.unit high.books.unit q r (one.op, other.op) which
+        → NeedsPairNumber store low.books.unit high.books.unit q r (one.op, other.op) which
     pair_needs which one other planned e = by (nat_lt LAST (q.known.part.calls + 1)) refl e
       where
         by : (t : Bool) → nat_lt LAST (q.known.part.calls + 1) ≡ t
             → (if t then Some ends.Call else first_of (end_of low one.change) (end_of high other.change)) ≡ Some which
-            → NeedsPairNumber heap low.books.unit high.books.unit q r (one.op, other.op) which
+            → NeedsPairNumber store low.books.unit high.books.unit q r (one.op, other.op) which
         by true is f =
-            subst (NeedsPairNumber heap low.books.unit high.books.unit q r (one.op, other.op)) (same_Some ends.Call which f)
+            subst (NeedsPairNumber store low.books.unit high.books.unit q r (one.op, other.op)) (same_Some ends.Call which f)
             (grind (arith, nat_tests))
         by false is f =
             one_needs one other planned (grind (arith, nat_tests)) which
@@ -337,7 +345,8 @@ module _ (heap : HeapShown) (up : Bool) (low low_now high high_now : RegionShown
       keeps = noted_keeps;
       operations = (k.low_plan.op, k.high_plan.op);
       planned =
-          learnt_move heap up low high r from to amount low_stands.stands high_stands.stands low_noted high_noted k.low_plan k.high_plan
+          learnt_move heap base recovered up low high r from to amount low_stands.stands high_stands.stands low_noted high_noted
+          k.low_plan k.high_plan
           k.planned;
       needs = pair_needs which k.low_plan k.high_plan k.planned k.ends;
     }
@@ -350,11 +359,13 @@ module _ (heap : HeapShown) (up : Bool) (low low_now high high_now : RegionShown
       one = refl;
       operations = (one.op, other.op);
       planned =
-          learnt_move heap up low high r from to amount low_stands.stands high_stands.stands low_is high_is one other planned;
+          learnt_move heap base recovered up low high r from to amount low_stands.stands high_stands.stands low_is high_is one other
+          planned;
       full =
           inl (
             is,
-            found_full heap low low_now q k.between free clock k.full r one.op one.reply one.change low_stands.stands low_is planned.lower
+            found_full heap base recovered low low_now q k.between free clock k.full r one.op one.reply one.change low_stands.stands
+                low_is planned.lower
                 (keeps_both low_now high q k.between r k.full.seen k.full.noted k.noted.seen k.noted.noted)
                 (keeps_caller high k.between r k.noted.seen k.noted.noted).durable,
           );
@@ -362,7 +373,7 @@ module _ (heap : HeapShown) (up : Bool) (low low_now high high_now : RegionShown
       where
         low_is : IsSeenIn heap low r
         low_is = record {
-          showed = showed_full heap low low_now q k.between free clock k.full;
+          showed = showed_full heap base recovered low low_now q k.between free clock k.full;
           kept =
               first_seen low_now high q k.between r k.full.seen k.full.noted k.noted.seen k.noted.noted low.books.unit
               low.seat.known.part.history low_apart (k.full.entries ∙ ap Some k.full.keeps.history);
@@ -380,11 +391,13 @@ module _ (heap : HeapShown) (up : Bool) (low low_now high high_now : RegionShown
       one = refl;
       operations = (one.op, other.op);
       planned =
-          learnt_move heap up low high r from to amount low_stands.stands high_stands.stands low_is high_is one other planned;
+          learnt_move heap base recovered up low high r from to amount low_stands.stands high_stands.stands low_is high_is one other
+          planned;
       full =
           inr (
             is,
-            found_full heap high high_now q k.between free clock k.full r other.op other.reply other.change high_stands.stands high_is
+            found_full heap base recovered high high_now q k.between free clock k.full r other.op other.reply other.change
+                high_stands.stands high_is
                 planned.higher
                 (keeps_both high_now k.emptied q k.between r k.full.seen k.full.noted k.noted.seen k.noted.noted)
                 (keeps_caller k.emptied k.between r k.noted.seen k.noted.noted).durable,
@@ -410,7 +423,7 @@ module _ (heap : HeapShown) (up : Bool) (low low_now high high_now : RegionShown
 
         high_is : IsSeenIn heap high r
         high_is = record {
-          showed = showed_full heap high high_now q k.between free clock k.full;
+          showed = showed_full heap base recovered high high_now q k.between free clock k.full;
           kept =
               first_seen high_now k.emptied q k.between r k.full.seen k.full.noted k.noted.seen k.noted.noted high.books.unit
               high.seat.known.part.history high_apart (k.full.entries ∙ ap Some k.full.keeps.history);
@@ -419,11 +432,11 @@ module _ (heap : HeapShown) (up : Bool) (low low_now high high_now : RegionShown
   -- ---- cut
   tells_alone : (receipt : Receipt) → WasAnsweredAlone heap low low_now high high_now q r receipt
       → IsLowerHalf up low high from to amount receipt
-      → IsLeftAlone heap up low.books.unit high.books.unit q r from to amount receipt
+      → IsLeftAlone store up low.books.unit high.books.unit q r from to amount receipt
   tells_alone receipt k half = record {
     of_unit = sym (same_unit heap low low_now q k.between receipt.entry.op receipt low_stands.seated k.lower);
     between = k.between;
-    lower = continues_caller heap low low_now q k.between receipt.entry.op receipt low_stands.seated k.lower;
+    lower = continues_caller heap low low_now q k.between receipt.entry.op receipt low_stands.seated k.lower base recovered;
     higher = was_left heap high high_now k.between r k.higher;
     within = k.within;
     other = half.high_plan.op;
@@ -457,15 +470,15 @@ module _ (heap : HeapShown) (up : Bool) (low low_now high high_now : RegionShown
 
   -- ---- shifted
   module _ (receipts : Receipt × Receipt) (k : HasShifted heap up low low_now high high_now q r from to amount receipts) where
-    twice : ContinuesTwice heap q r (of_low up receipts) (of_high up receipts)
+    twice : ContinuesTwice store q r (of_low up receipts) (of_high up receipts)
     twice = record {
       between = k.answered.between;
       lower =
           continues_caller heap low low_now q k.answered.between (of_low up receipts).entry.op (of_low up receipts) low_stands.seated
-          k.answered.lower;
+          k.answered.lower base recovered;
       higher =
           continues_caller heap high high_now k.answered.between r (of_high up receipts).entry.op (of_high up receipts) high_stands.seated
-          k.answered.higher;
+          k.answered.higher base recovered;
       epoch = k.answered.epoch;
       next_call = k.answered.next_call;
     }
@@ -489,11 +502,11 @@ module _ (heap : HeapShown) (up : Bool) (low low_now high high_now : RegionShown
         by false e f = grind (arith, nat_tests)
 
     pub continues : AreOfTwoUnits heap.opening.layout from to up low.books.unit high.books.unit
-        → ContinuesByShift heap q r from to amount receipts
+        → ContinuesByShift store q r from to amount receipts
     continues units = record {
       units =
           subst (λ (b : Bool). AreOfTwoUnits heap.opening.layout from to b (of_low b receipts).unit (of_high b receipts).unit) goes_is
           (subst (λ (u : ℕ × ℕ). AreOfTwoUnits heap.opening.layout from to up u.0 u.1) (λ i. (of_low_unit i, of_high_unit i)) units);
-      entries = subst (λ (b : Bool). ContinuesTwice heap q r (of_low b receipts) (of_high b receipts)) goes_is twice;
+      entries = subst (λ (b : Bool). ContinuesTwice store q r (of_low b receipts) (of_high b receipts)) goes_is twice;
       moved = k.moved;
     }

@@ -1,4 +1,5 @@
 pub mod UnitAt
+pub mod StoreShown
 pub mod StoreCalls
 pub mod Store
 pub mod MapBoxes

@@ -15,13 +15,14 @@ use Rattle.mont_base.specs.Layout.{Shape, unit_of_key}
 use Rattle.mont_base.specs.State.{Key, Value, earlier_text, step}
 use Rattle.core_steps.specs.declared.parts.Mark.{Mark}
 use Rattle.heap.specs.GateAsked.{IsAskedOften}
-use Rattle.heap.specs.HeapShown.{HeapShown, CallerShown}
+use Rattle.heap.specs.HeapShown.{CallerShown}
 use Rattle.heap_pass.specs.declared.pass.Pass.{Pass}
 use Rattle.caller.specs.Telling.{has_mark}
 use Rattle.shard_map.specs.declared.shift_refusal.ShiftRefusal.{ShiftRefusal}
 use Rattle.shard_map.specs.declared.shift_refusal.ShiftRefusal.TheVariants.{SameUnit, Halted, Missing, Short, Over, CountEnd, Memory, Full, Cut}
 use Rattle.shard_map.specs.MapShift.{IsMove, receipts_kept, was_cut}
 use Rattle.shard_map.specs.MovedNumbers.{CannotMove, of_high, of_low}
+use Rattle.store.specs.StoreShown.{StoreShown}
 use Rattle.store.specs.StoreCalls.{ContinuesCaller, FoundFull, HasLearntCause, IsSamePass, KeepsCaller, NeedsNumber, WasLeft}
 
 -- ---- keys and units
@@ -50,43 +51,43 @@ higher_of receipts = of_high (goes_up receipts) receipts
 -- Each unit has one entry more. Both are of one epoch, and their calls of the caller follow each
 -- other: it goes on by the lower unit's entry, and from there by the higher one's.
 pub record ContinuesTwice
-    (heap : HeapShown) (q r : CallerShown) (low high : Receipt) : Type 0 where
+    (store : StoreShown) (q r : CallerShown) (low high : Receipt) : Type 0 where
   pub between : CallerShown
-  pub lower : ContinuesCaller heap q between low.entry.op low
-  pub higher : ContinuesCaller heap between r high.entry.op high
+  pub lower : ContinuesCaller store q between low.entry.op low
+  pub higher : ContinuesCaller store between r high.entry.op high
   pub epoch : high.entry.epoch ≡ low.entry.epoch
   pub next_call : high.entry.call ≡ low.entry.call + 1
 
 -- They take the amount from the number under the one key, and add it to that under the other.
 pub record ContinuesByShift
-    (heap : HeapShown) (q r : CallerShown) (from to : Key) (amount : ℕ)
+    (store : StoreShown) (q r : CallerShown) (from to : Key) (amount : ℕ)
     (receipts : Receipt × Receipt) : Type 0 where
-  pub units : AreOfTwoUnits heap.opening.layout from to (goes_up receipts)
+  pub units : AreOfTwoUnits store.heap.opening.layout from to (goes_up receipts)
       (lower_of receipts).unit (higher_of receipts).unit
-  pub entries : ContinuesTwice heap q r (lower_of receipts) (higher_of receipts)
+  pub entries : ContinuesTwice store q r (lower_of receipts) (higher_of receipts)
   pub moved : IsMove from to amount receipts.0.entry.op receipts.0.entry.reply
       receipts.1.entry.op receipts.1.entry.reply
 
 -- ---- refused: what the caller has now seen of both units
 -- behind the entries that it has now seen of the unit, the operation would be answered so
-abbrev pub WouldReply : HeapShown → ℕ → CallerShown → Op → Reply → Type 0
-WouldReply heap unit r op reply = HasLearntCause heap unit r
+abbrev pub WouldReply : StoreShown → ℕ → CallerShown → Op → Reply → Type 0
+WouldReply store unit r op reply = HasLearntCause store unit r
     (λ base history. reply ≡ (step (state_after base history) op).reply)
 
 -- and a look-up would find this value
-abbrev pub HasLearntValue : HeapShown → ℕ → CallerShown → Key → Option Value → Type 0
-HasLearntValue heap unit r key value =
-    WouldReply heap unit r (ops.Get key) (earlier_text value)
+abbrev pub HasLearntValue : StoreShown → ℕ → CallerShown → Key → Option Value → Type 0
+HasLearntValue store unit r key value =
+    WouldReply store unit r (ops.Get key) (earlier_text value)
 
 -- these are the values of both keys, and the amount can't go
 pub record HasLearntLack
-    (heap : HeapShown) (up : Bool) (low high : ℕ) (q r : CallerShown) (from to : Key) (amount : ℕ)
+    (store : StoreShown) (up : Bool) (low high : ℕ) (q r : CallerShown) (from to : Key) (amount : ℕ)
     (why : ShiftRefusal) : Type 0 where
   pub keeps : KeepsCaller q r
   pub out : Option Value
   pub into : Option Value
-  pub lower : HasLearntValue heap low r (of_low up (from, to)) (of_low up (out, into))
-  pub higher : HasLearntValue heap high r (of_high up (from, to)) (of_high up (out, into))
+  pub lower : HasLearntValue store low r (of_low up (from, to)) (of_low up (out, into))
+  pub higher : HasLearntValue store high r (of_high up (from, to)) (of_high up (out, into))
   pub cannot : CannotMove from to out into amount why
 
 -- an operation of the lower unit and one of the higher, with their replies, move the amount
@@ -97,11 +98,11 @@ AreMove up from to amount operations replies =
 
 -- the amount can go, by these operations of the lower unit and of the higher
 pub record HasLearntMove
-    (heap : HeapShown) (up : Bool) (low high : ℕ) (r : CallerShown) (from to : Key) (amount : ℕ)
+    (store : StoreShown) (up : Bool) (low high : ℕ) (r : CallerShown) (from to : Key) (amount : ℕ)
     (operations : Op × Op) : Type 0 where
   pub replies : Reply × Reply
-  pub lower : WouldReply heap low r operations.0 replies.0
-  pub higher : WouldReply heap high r operations.1 replies.1
+  pub lower : WouldReply store low r operations.0 replies.0
+  pub higher : WouldReply store high r operations.1 replies.1
   pub move : AreMove up from to amount operations replies
 
 -- ---- refused: why
@@ -115,33 +116,33 @@ IsMarkedFirst low high q r unit =
 
 -- the number is at its end for two calls of the caller, or for the operation of one of the units
 abbrev pub NeedsPairNumber :
-    HeapShown → ℕ → ℕ → CallerShown → CallerShown → Op × Op → Which → Type 0
-NeedsPairNumber heap low high q r operations ends.Call = LAST < q.known.part.calls + 1
-NeedsPairNumber heap low high q r operations which =
-    NeedsNumber heap low q r operations.0 which ⊎ NeedsNumber heap high q r operations.1 which
+    StoreShown → ℕ → ℕ → CallerShown → CallerShown → Op × Op → Which → Type 0
+NeedsPairNumber store low high q r operations ends.Call = LAST < q.known.part.calls + 1
+NeedsPairNumber store low high q r operations which =
+    NeedsNumber store low q r operations.0 which ⊎ NeedsNumber store high q r operations.1 which
 
 pub record EndsShift
-    (heap : HeapShown) (up : Bool) (low high : ℕ) (q r : CallerShown) (from to : Key) (amount : ℕ)
+    (store : StoreShown) (up : Bool) (low high : ℕ) (q r : CallerShown) (from to : Key) (amount : ℕ)
     (which : Which) : Type 0 where
   pub keeps : KeepsCaller q r
   pub operations : Op × Op
-  pub planned : HasLearntMove heap up low high r from to amount operations
-  pub needs : NeedsPairNumber heap low high q r operations which
+  pub planned : HasLearntMove store up low high r from to amount operations
+  pub needs : NeedsPairNumber store low high q r operations which
 
 -- one of the units was full for its operation
 abbrev pub FoundOneFull :
-    HeapShown → ℕ → ℕ → CallerShown → CallerShown → Op × Op → ℕ → ℕ → ℕ → ℕ → Type 0
-FoundOneFull heap low high q r operations unit need free clock =
-    ((unit ≡ low) × FoundFull heap low q r operations.0 need free clock)
-    ⊎ ((unit ≡ high) × FoundFull heap high q r operations.1 need free clock)
+    StoreShown → ℕ → ℕ → CallerShown → CallerShown → Op × Op → ℕ → ℕ → ℕ → ℕ → Type 0
+FoundOneFull store low high q r operations unit need free clock =
+    ((unit ≡ low) × FoundFull store low q r operations.0 need free clock)
+    ⊎ ((unit ≡ high) × FoundFull store high q r operations.1 need free clock)
 
 pub record FindsNoSlot
-    (heap : HeapShown) (up : Bool) (low high : ℕ) (q r : CallerShown) (from to : Key) (amount : ℕ)
+    (store : StoreShown) (up : Bool) (low high : ℕ) (q r : CallerShown) (from to : Key) (amount : ℕ)
     (unit need free clock : ℕ) : Type 0 where
   pub one : need ≡ 1
   pub operations : Op × Op
-  pub planned : HasLearntMove heap up low high r from to amount operations
-  pub full : FoundOneFull heap low high q r operations unit need free clock
+  pub planned : HasLearntMove store up low high r from to amount operations
+  pub full : FoundOneFull store low high q r operations unit need free clock
 
 -- ---- cut
 -- The caller was cut in the one unit, and then the other was left, too. No entry was added.
@@ -158,11 +159,11 @@ WereLeftIn low high q r unit =
 -- The lower unit's half of the move is an entry, which stands alone. The caller was cut in the
 -- higher unit, which is left within the entry's epoch, as the caller keeps.
 pub record IsLeftAlone
-    (heap : HeapShown) (up : Bool) (low high : ℕ) (q r : CallerShown) (from to : Key) (amount : ℕ)
+    (store : StoreShown) (up : Bool) (low high : ℕ) (q r : CallerShown) (from to : Key) (amount : ℕ)
     (receipt : Receipt) : Type 0 where
   pub of_unit : receipt.unit ≡ low
   pub between : CallerShown
-  pub lower : ContinuesCaller heap q between receipt.entry.op receipt
+  pub lower : ContinuesCaller store q between receipt.entry.op receipt
   pub higher : WasLeft high between r
   pub within : r.known.within
       ≡ q.known.within ++ record { unit = high; epoch = receipt.entry.epoch } ∷ []
@@ -172,49 +173,49 @@ pub record IsLeftAlone
       (receipt.entry.reply, other_reply)
 
 abbrev pub TellsCut :
-    HeapShown → Bool → ℕ → ℕ → CallerShown → CallerShown → Key → Key → ℕ → ℕ → Option Receipt
+    StoreShown → Bool → ℕ → ℕ → CallerShown → CallerShown → Key → Key → ℕ → ℕ → Option Receipt
     → Type 0
-TellsCut heap up low high q r from to amount unit None = WereLeftIn low high q r unit
-TellsCut heap up low high q r from to amount unit (Some receipt) =
-    (unit ≡ high) × IsLeftAlone heap up low high q r from to amount receipt
+TellsCut store up low high q r from to amount unit None = WereLeftIn low high q r unit
+TellsCut store up low high q r from to amount unit (Some receipt) =
+    (unit ≡ high) × IsLeftAlone store up low high q r from to amount receipt
 
 -- ---- a refusal
 -- what it tells where two units keep the keys
 abbrev pub TellsBetween :
-    HeapShown → Bool → ℕ → ℕ → CallerShown → CallerShown → Key → Key → ℕ → ShiftRefusal → Type 0
-TellsBetween heap up low high q r from to amount (SameUnit unit) = ⊥
-TellsBetween heap up low high q r from to amount (Halted unit by) =
+    StoreShown → Bool → ℕ → ℕ → CallerShown → CallerShown → Key → Key → ℕ → ShiftRefusal → Type 0
+TellsBetween store up low high q r from to amount (SameUnit unit) = ⊥
+TellsBetween store up low high q r from to amount (Halted unit by) =
     KeepsCaller q r × IsMarkedFirst low high q r unit
     × (has_mark r.known.part.marks (record { unit = unit; by = Some by }) ≡ true)
-TellsBetween heap up low high q r from to amount (Missing key) =
-    HasLearntLack heap up low high q r from to amount (Missing key)
-TellsBetween heap up low high q r from to amount (Short have) =
-    HasLearntLack heap up low high q r from to amount (Short have)
-TellsBetween heap up low high q r from to amount (Over have) =
-    HasLearntLack heap up low high q r from to amount (Over have)
-TellsBetween heap up low high q r from to amount (CountEnd which) =
-    EndsShift heap up low high q r from to amount which
-TellsBetween heap up low high q r from to amount Memory = r ≡ q
-TellsBetween heap up low high q r from to amount (Full unit need free clock) =
-    FindsNoSlot heap up low high q r from to amount unit need free clock
-TellsBetween heap up low high q r from to amount (Cut unit first) =
-    TellsCut heap up low high q r from to amount unit first
+TellsBetween store up low high q r from to amount (Missing key) =
+    HasLearntLack store up low high q r from to amount (Missing key)
+TellsBetween store up low high q r from to amount (Short have) =
+    HasLearntLack store up low high q r from to amount (Short have)
+TellsBetween store up low high q r from to amount (Over have) =
+    HasLearntLack store up low high q r from to amount (Over have)
+TellsBetween store up low high q r from to amount (CountEnd which) =
+    EndsShift store up low high q r from to amount which
+TellsBetween store up low high q r from to amount Memory = r ≡ q
+TellsBetween store up low high q r from to amount (Full unit need free clock) =
+    FindsNoSlot store up low high q r from to amount unit need free clock
+TellsBetween store up low high q r from to amount (Cut unit first) =
+    TellsCut store up low high q r from to amount unit first
 
 pub record IsRefusedBetween
-    (heap : HeapShown) (q r : CallerShown) (from to : Key) (amount : ℕ) (why : ShiftRefusal)
+    (store : StoreShown) (q r : CallerShown) (from to : Key) (amount : ℕ) (why : ShiftRefusal)
     : Type 0 where
   pub up : Bool
   pub low : ℕ
   pub high : ℕ
-  pub units : AreOfTwoUnits heap.opening.layout from to up low high
-  pub tells : TellsBetween heap up low high q r from to amount why
+  pub units : AreOfTwoUnits store.heap.opening.layout from to up low high
+  pub tells : TellsBetween store up low high q r from to amount why
 
 -- The keys are of one unit where that is the refusal, and of two where it is any other.
 abbrev pub TellsShift :
-    HeapShown → CallerShown → CallerShown → Key → Key → ℕ → ShiftRefusal → Type 0
-TellsShift heap q r from to amount (SameUnit unit) =
-    AreOfOneUnit heap.opening.layout from to unit × (r ≡ q)
-TellsShift heap q r from to amount why = IsRefusedBetween heap q r from to amount why
+    StoreShown → CallerShown → CallerShown → Key → Key → ℕ → ShiftRefusal → Type 0
+TellsShift store q r from to amount (SameUnit unit) =
+    AreOfOneUnit store.heap.opening.layout from to unit × (r ≡ q)
+TellsShift store q r from to amount why = IsRefusedBetween store q r from to amount why
 
 -- ---- a shift, whatever it answers
 -- the receipts that an answer adds to those of a pass
@@ -224,11 +225,11 @@ receipts_added (Err why) = receipts_kept why
 
 -- What a shift leaves of the caller's pass. Its gate was asked before each step.
 pub record HasTriedShift {G : Type 0} {asks : Ghosts G}
-    (heap : HeapShown) (cuts : G → ℕ) (endless : G → Bool) (old new : Pass G asks) (from to : Key)
+    (store : StoreShown) (cuts : G → ℕ) (endless : G → Bool) (old new : Pass G asks) (from to : Key)
     (amount : ℕ) (answer : Result (Receipt × Receipt) ShiftRefusal) : Type 0 where
   pub shifted : IfOk answer
-      (λ receipts. ContinuesByShift heap old.ticket new.ticket from to amount receipts)
-  pub refused : IfErr answer (λ why. TellsShift heap old.ticket new.ticket from to amount why)
+      (λ receipts. ContinuesByShift store old.ticket new.ticket from to amount receipts)
+  pub refused : IfErr answer (λ why. TellsShift store old.ticket new.ticket from to amount why)
   pub same : IsSamePass old new
   pub receipts : new.receipts.items ≡ old.receipts.items ++ receipts_added answer
   pub gate : IsAskedOften cuts endless old.gate new.gate (was_cut answer)

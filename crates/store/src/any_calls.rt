@@ -21,7 +21,7 @@ impl<N: HeapName, I: Index> Store<N, I> {
     ) -> Result<Receipt, CallRefusal>
         requires pass { pass.old.ticket.table ≡ N.heap.table }
         requires unit { IsSome (unit_of_op N.heap.opening.layout op.now) }
-        ensures { HasCalled N.heap G.cuts G.endless pass.old pass.new op.now result }
+        ensures { HasCalled self.now G.cuts G.endless pass.old pass.new op.now result }
     {
         self.call_unit(rt, pass, self.unit_of(op), op)
     }

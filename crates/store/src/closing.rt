@@ -2,6 +2,7 @@
 ghost use Rattle.std.specs.Prelude.{◌≡◌, ◌+◌, ◌≤◌, [], map, vec_capacity, IfOk};
 ghost use Rattle.mont_base.specs.declared.constants.TheConstants.{MOST_UNITS};
 ghost use Rattle.mont_base.specs.Layout.{units_of};
+ghost use Rattle.plain.specs.States.{states_of};
 ghost use Rattle.store_stop.specs.ClosedStores.{IsClosedOn};
 ghost use Rattle.store.specs.Closing.{HasBase, IsUnlocked};
 ghost use Rattle.store.specs.SeatsBack.{AreSeatsBelow};
@@ -62,7 +63,8 @@ impl<N: HeapName, I: Index> Store<N, I> {
         requires few { units_of N.heap.opening.layout ≤ MOST_UNITS }
         requires room { units_of N.heap.opening.layout ≤ vec_capacity seats }
         requires none { seats.items ≡ [] }
-        ensures { IsUnlocked N.heap result }
+        ensures unlocked { IsUnlocked N.heap result }
+        ensures base { states_of result.base ≡ self.base }
     {
         give_seat(self.unit_0.into_part(), &mut seats);
         give_seat(self.unit_1.into_part(), &mut seats);

@@ -24,7 +24,8 @@ impl<N: HeapName, I: Index> Store<N, I> {
     ) -> Result<Receipt, CallRefusal>
         requires pass { pass.old.ticket.table ≡ N.heap.table }
         requires kind { kind_of N.heap.opening.layout unit ≡ Some kinds.Graph }
-        ensures { HasCalled N.heap G.cuts G.endless pass.old pass.new (ops.AddV unit vertex attr) result }
+        ensures { HasCalled self.now G.cuts G.endless pass.old pass.new
+            (ops.AddV unit vertex attr) result }
     {
         let op = Op::AddV { unit, vertex, attr };
         self.call_unit(rt, pass, unit, &op)
@@ -41,7 +42,8 @@ impl<N: HeapName, I: Index> Store<N, I> {
     ) -> Result<Receipt, CallRefusal>
         requires pass { pass.old.ticket.table ≡ N.heap.table }
         requires kind { kind_of N.heap.opening.layout unit ≡ Some kinds.Graph }
-        ensures { HasCalled N.heap G.cuts G.endless pass.old pass.new (ops.DelV unit vertex) result }
+        ensures { HasCalled self.now G.cuts G.endless pass.old pass.new
+            (ops.DelV unit vertex) result }
     {
         let op = Op::DelV { unit, vertex };
         self.call_unit(rt, pass, unit, &op)
@@ -58,7 +60,8 @@ impl<N: HeapName, I: Index> Store<N, I> {
     ) -> Result<Receipt, CallRefusal>
         requires pass { pass.old.ticket.table ≡ N.heap.table }
         requires kind { kind_of N.heap.opening.layout unit ≡ Some kinds.Graph }
-        ensures { HasCalled N.heap G.cuts G.endless pass.old pass.new (ops.Vertex unit vertex) result }
+        ensures { HasCalled self.now G.cuts G.endless pass.old pass.new
+            (ops.Vertex unit vertex) result }
     {
         let op = Op::Vertex { unit, vertex };
         self.call_unit(rt, pass, unit, &op)
@@ -75,7 +78,8 @@ impl<N: HeapName, I: Index> Store<N, I> {
     ) -> Result<Receipt, CallRefusal>
         requires pass { pass.old.ticket.table ≡ N.heap.table }
         requires kind { kind_of N.heap.opening.layout unit ≡ Some kinds.Graph }
-        ensures { HasCalled N.heap G.cuts G.endless pass.old pass.new (ops.Degree unit vertex) result }
+        ensures { HasCalled self.now G.cuts G.endless pass.old pass.new
+            (ops.Degree unit vertex) result }
     {
         let op = Op::Degree { unit, vertex };
         self.call_unit(rt, pass, unit, &op)
@@ -94,7 +98,8 @@ impl<N: HeapName, I: Index> Store<N, I> {
     ) -> Result<Receipt, CallRefusal>
         requires pass { pass.old.ticket.table ≡ N.heap.table }
         requires kind { kind_of N.heap.opening.layout unit ≡ Some kinds.Graph }
-        ensures { HasCalled N.heap G.cuts G.endless pass.old pass.new (ops.AddE unit from to attr) result }
+        ensures { HasCalled self.now G.cuts G.endless pass.old pass.new
+            (ops.AddE unit from to attr) result }
     {
         let op = Op::AddE {
             unit,
@@ -117,7 +122,8 @@ impl<N: HeapName, I: Index> Store<N, I> {
     ) -> Result<Receipt, CallRefusal>
         requires pass { pass.old.ticket.table ≡ N.heap.table }
         requires kind { kind_of N.heap.opening.layout unit ≡ Some kinds.Graph }
-        ensures { HasCalled N.heap G.cuts G.endless pass.old pass.new (ops.DelE unit from to) result }
+        ensures { HasCalled self.now G.cuts G.endless pass.old pass.new
+            (ops.DelE unit from to) result }
     {
         let op = Op::DelE { unit, from, to };
         self.call_unit(rt, pass, unit, &op)

@@ -23,7 +23,7 @@ impl<N: HeapName, I: Index> Store<N, I> {
     ) -> Result<Receipt, CallRefusal>
         requires pass { pass.old.ticket.table ≡ N.heap.table }
         requires maps { 0 < length (map_units N.heap.opening.layout) }
-        ensures { HasCalled N.heap G.cuts G.endless pass.old pass.new (ops.Put key value) result }
+        ensures { HasCalled self.now G.cuts G.endless pass.old pass.new (ops.Put key value) result }
     {
         let _value = value.len();
         let op = Op::Put { key, value };
@@ -40,7 +40,7 @@ impl<N: HeapName, I: Index> Store<N, I> {
     ) -> Result<Receipt, CallRefusal>
         requires pass { pass.old.ticket.table ≡ N.heap.table }
         requires maps { 0 < length (map_units N.heap.opening.layout) }
-        ensures { HasCalled N.heap G.cuts G.endless pass.old pass.new (ops.Get key) result }
+        ensures { HasCalled self.now G.cuts G.endless pass.old pass.new (ops.Get key) result }
     {
         let op = Op::Get { key };
         self.call_unit(rt, pass, self.unit_of_key(&key), &op)
@@ -56,7 +56,7 @@ impl<N: HeapName, I: Index> Store<N, I> {
     ) -> Result<Receipt, CallRefusal>
         requires pass { pass.old.ticket.table ≡ N.heap.table }
         requires maps { 0 < length (map_units N.heap.opening.layout) }
-        ensures { HasCalled N.heap G.cuts G.endless pass.old pass.new (ops.Del key) result }
+        ensures { HasCalled self.now G.cuts G.endless pass.old pass.new (ops.Del key) result }
     {
         let op = Op::Del { key };
         self.call_unit(rt, pass, self.unit_of_key(&key), &op)

@@ -24,7 +24,8 @@ impl<N: HeapName, I: Index> Store<N, I> {
     ) -> Result<Receipt, CallRefusal>
         requires pass { pass.old.ticket.table ≡ N.heap.table }
         requires kind { kind_of N.heap.opening.layout unit ≡ Some kinds.Ordered }
-        ensures { HasCalled N.heap G.cuts G.endless pass.old pass.new (ops.OPut unit key value) result }
+        ensures { HasCalled self.now G.cuts G.endless pass.old pass.new
+            (ops.OPut unit key value) result }
     {
         let _texts = (key.len(), value.len());
         let op = Op::OPut { unit, key, value };
@@ -42,7 +43,7 @@ impl<N: HeapName, I: Index> Store<N, I> {
     ) -> Result<Receipt, CallRefusal>
         requires pass { pass.old.ticket.table ≡ N.heap.table }
         requires kind { kind_of N.heap.opening.layout unit ≡ Some kinds.Ordered }
-        ensures { HasCalled N.heap G.cuts G.endless pass.old pass.new (ops.OGet unit key) result }
+        ensures { HasCalled self.now G.cuts G.endless pass.old pass.new (ops.OGet unit key) result }
     {
         let op = Op::OGet { unit, key };
         self.call_unit(rt, pass, unit, &op)
@@ -59,7 +60,7 @@ impl<N: HeapName, I: Index> Store<N, I> {
     ) -> Result<Receipt, CallRefusal>
         requires pass { pass.old.ticket.table ≡ N.heap.table }
         requires kind { kind_of N.heap.opening.layout unit ≡ Some kinds.Ordered }
-        ensures { HasCalled N.heap G.cuts G.endless pass.old pass.new (ops.ODel unit key) result }
+        ensures { HasCalled self.now G.cuts G.endless pass.old pass.new (ops.ODel unit key) result }
     {
         let op = Op::ODel { unit, key };
         self.call_unit(rt, pass, unit, &op)
@@ -76,7 +77,8 @@ impl<N: HeapName, I: Index> Store<N, I> {
     ) -> Result<Receipt, CallRefusal>
         requires pass { pass.old.ticket.table ≡ N.heap.table }
         requires kind { kind_of N.heap.opening.layout unit ≡ Some kinds.Ordered }
-        ensures { HasCalled N.heap G.cuts G.endless pass.old pass.new (ops.OFloor unit key) result }
+        ensures { HasCalled self.now G.cuts G.endless pass.old pass.new
+            (ops.OFloor unit key) result }
     {
         let op = Op::OFloor { unit, key };
         self.call_unit(rt, pass, unit, &op)
@@ -93,7 +95,8 @@ impl<N: HeapName, I: Index> Store<N, I> {
     ) -> Result<Receipt, CallRefusal>
         requires pass { pass.old.ticket.table ≡ N.heap.table }
         requires kind { kind_of N.heap.opening.layout unit ≡ Some kinds.Ordered }
-        ensures { HasCalled N.heap G.cuts G.endless pass.old pass.new (ops.ORank unit key) result }
+        ensures { HasCalled self.now G.cuts G.endless pass.old pass.new
+            (ops.ORank unit key) result }
     {
         let op = Op::ORank { unit, key };
         self.call_unit(rt, pass, unit, &op)

@@ -23,7 +23,7 @@ impl<N: HeapName, I: Index> Store<N, I> {
     ) -> Result<Receipt, CallRefusal>
         requires pass { pass.old.ticket.table ≡ N.heap.table }
         requires kind { kind_of N.heap.opening.layout unit ≡ Some kinds.Queue }
-        ensures { HasCalled N.heap G.cuts G.endless pass.old pass.new (ops.Enq unit item) result }
+        ensures { HasCalled self.now G.cuts G.endless pass.old pass.new (ops.Enq unit item) result }
     {
         let op = Op::Enq { unit, item };
         self.call_unit(rt, pass, unit, &op)
@@ -39,7 +39,7 @@ impl<N: HeapName, I: Index> Store<N, I> {
     ) -> Result<Receipt, CallRefusal>
         requires pass { pass.old.ticket.table ≡ N.heap.table }
         requires kind { kind_of N.heap.opening.layout unit ≡ Some kinds.Queue }
-        ensures { HasCalled N.heap G.cuts G.endless pass.old pass.new (ops.Deq unit) result }
+        ensures { HasCalled self.now G.cuts G.endless pass.old pass.new (ops.Deq unit) result }
     {
         let op = Op::Deq { unit };
         self.call_unit(rt, pass, unit, &op)
@@ -55,7 +55,7 @@ impl<N: HeapName, I: Index> Store<N, I> {
     ) -> Result<Receipt, CallRefusal>
         requires pass { pass.old.ticket.table ≡ N.heap.table }
         requires kind { kind_of N.heap.opening.layout unit ≡ Some kinds.Queue }
-        ensures { HasCalled N.heap G.cuts G.endless pass.old pass.new (ops.Len unit) result }
+        ensures { HasCalled self.now G.cuts G.endless pass.old pass.new (ops.Len unit) result }
     {
         let op = Op::Len { unit };
         self.call_unit(rt, pass, unit, &op)

@@ -6,6 +6,7 @@ ghost use Rattle.mont_base.specs.declared.operation.Op.TheVariants as ops;
 ghost use Rattle.mont_base.specs.Layout.{kind_of};
 ghost use Rattle.mont_laws.specs.Effects.{IsOpOf};
 ghost use Rattle.store.specs.StoreCalls.{HasCalled, HandsRun, IsRange};
+ghost use Rattle.store.specs.StoreShown.{OfAnyBase};
 
 use crate::store::Store;
 use crate::unit_at::UnitAt;
@@ -33,9 +34,9 @@ impl<N: HeapName, I: Index> Store<N, I> {
         requires pass { pass.old.ticket.table ≡ N.heap.table }
         requires kind { kind_of N.heap.opening.layout unit ≡ Some kinds.Ordered }
         requires most { (1 ≤ most) × (most ≤ MOST_PAIRS) }
-        ensures called { HasCalled N.heap G.cuts G.endless pass.old pass.new
+        ensures called { HasCalled self.now G.cuts G.endless pass.old pass.new
             (ops.ORange unit from to most) result }
-        ensures pairs { IfOk result (λ receipt. HandsRun N.heap pass.new.ticket receipt
+        ensures pairs { IfOk result (λ receipt. HandsRun self.now pass.new.ticket receipt
             pairs.new) }
         ensures kept { OnErr result (pairs.new ≡ pairs.old) }
     {
@@ -48,7 +49,7 @@ impl<N: HeapName, I: Index> Store<N, I> {
         self.call_range(rt, pass, unit, &op, pairs)
     }
 
-    // Carries a range of the unit out and hands its pairs over, under the unit's lock.
+    // Carries a range of the unit out and hands its pairs over.
     fn call_range<R: Wait, G: Gate>(
         &self,
         rt: &R,
@@ -60,9 +61,31 @@ impl<N: HeapName, I: Index> Store<N, I> {
         requires pass { pass.old.ticket.table ≡ N.heap.table }
         requires op { IsOpOf N.heap.opening.layout unit op.now }
         requires range { IsRange op.now }
-        ensures called { HasCalled N.heap G.cuts G.endless pass.old pass.new op.now result }
-        ensures pairs { IfOk result (λ receipt. HandsRun N.heap pass.new.ticket receipt
+        ensures called { HasCalled self.now G.cuts G.endless pass.old pass.new op.now result }
+        ensures pairs { IfOk result (λ receipt. HandsRun self.now pass.new.ticket receipt
             pairs.new) }
+        ensures kept { OnErr result (pairs.new ≡ pairs.old) }
+    {
+        let _heap = self.heap();
+        self.range_locked(rt, pass, unit, op, pairs)
+    }
+
+    // Carries a range of the unit out and hands its pairs over, under the unit's lock.
+    fn range_locked<R: Wait, G: Gate>(
+        &self,
+        rt: &R,
+        pass: &mut Pass<G>,
+        unit: Unit,
+        op: &Op,
+        pairs: &mut PairList,
+    ) -> Result<Receipt, CallRefusal>
+        requires pass { pass.old.ticket.table ≡ N.heap.table }
+        requires op { IsOpOf N.heap.opening.layout unit op.now }
+        requires range { IsRange op.now }
+        ensures called { OfAnyBase N.heap (λ store. HasCalled store G.cuts G.endless pass.old
+            pass.new op.now result) }
+        ensures pairs { OfAnyBase N.heap (λ store. IfOk result (λ receipt. HandsRun store
+            pass.new.ticket receipt pairs.new)) }
         ensures kept { OnErr result (pairs.new ≡ pairs.old) }
     {
         let heap = &self.heap;
@@ -104,8 +127,10 @@ fn range_at<const UNIT: u64, R: Wait, N: HeapName, I: Index, G: Gate>(
     requires unit { unit ≡ UNIT }
     requires op { IsOpOf N.heap.opening.layout unit op.now }
     requires range { IsRange op.now }
-    ensures called { HasCalled N.heap G.cuts G.endless pass.old pass.new op.now result }
-    ensures pairs { IfOk result (λ receipt. HandsRun N.heap pass.new.ticket receipt pairs.new) }
+    ensures called { OfAnyBase N.heap (λ store. HasCalled store G.cuts G.endless pass.old pass.new
+        op.now result) }
+    ensures pairs { OfAnyBase N.heap (λ store. IfOk result (λ receipt. HandsRun store
+        pass.new.ticket receipt pairs.new)) }
     ensures kept { OnErr result (pairs.new ≡ pairs.old) }
 {
     let _unit = unit;

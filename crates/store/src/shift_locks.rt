@@ -2,6 +2,7 @@
 ghost use Rattle.std.specs.Prelude.{◌≡◌, ◌<◌};
 ghost use Rattle.mont_base.specs.Layout.{units_of};
 ghost use Rattle.store.specs.Shifting.{AreOfTwoUnits, HasTriedShift};
+ghost use Rattle.store.specs.StoreShown.{OfAnyBase};
 ghost use Rattle.store.specs.UnitAt.{StandsAt, region_of};
 
 use crate::shifting::Shift;
@@ -28,8 +29,8 @@ impl<N: HeapName, I: Index> Store<N, I> {
         requires pass { pass.old.ticket.table ≡ N.heap.table }
         requires units { AreOfTwoUnits N.heap.opening.layout by.now.from by.now.to by.now.up low
             high }
-        ensures { HasTriedShift N.heap G.cuts G.endless pass.old pass.new by.now.from by.now.to
-            by.now.amount result }
+        ensures { OfAnyBase N.heap (λ store. HasTriedShift store G.cuts G.endless pass.old
+            pass.new by.now.from by.now.to by.now.amount result) }
     {
         match self.number_of_lock(low) {
             0 => at_low(rt, self, &self.unit_0.part, pass, low, high, by),
@@ -66,8 +67,8 @@ impl<N: HeapName, I: Index> Store<N, I> {
         requires units { AreOfTwoUnits N.heap.opening.layout by.now.from by.now.to by.now.up
             (region_of low.old).books.unit high }
         ensures low { StandsAt N.heap (region_of low.old).books.unit low.new }
-        ensures tried { HasTriedShift N.heap G.cuts G.endless pass.old pass.new by.now.from
-            by.now.to by.now.amount result }
+        ensures tried { OfAnyBase N.heap (λ store. HasTriedShift store G.cuts G.endless pass.old
+            pass.new by.now.from by.now.to by.now.amount result) }
     {
         let heap = &self.heap;
         match self.number_of_lock(high) {
@@ -116,8 +117,8 @@ fn at_low<const UNIT: u64, R: Wait, N: HeapName, I: Index, G: Gate>(
     requires pass { pass.old.ticket.table ≡ N.heap.table }
     requires unit { low ≡ UNIT }
     requires units { AreOfTwoUnits N.heap.opening.layout by.now.from by.now.to by.now.up low high }
-    ensures { HasTriedShift N.heap G.cuts G.endless pass.old pass.new by.now.from by.now.to
-        by.now.amount result }
+    ensures { OfAnyBase N.heap (λ store. HasTriedShift store G.cuts G.endless pass.old
+        pass.new by.now.from by.now.to by.now.amount result) }
 {
     let _unit = low;
     lock.lock(rt).shift_as_low(rt, store, pass, high, by)
@@ -140,8 +141,8 @@ fn at_high<const UNIT: u64, R: Wait, N: HeapName, I: Index, G: Gate>(
     requires units { AreOfTwoUnits N.heap.opening.layout by.now.from by.now.to by.now.up
         (region_of low.old).books.unit high }
     ensures low { StandsAt N.heap (region_of low.old).books.unit low.new }
-    ensures tried { HasTriedShift N.heap G.cuts G.endless pass.old pass.new by.now.from by.now.to
-        by.now.amount result }
+    ensures tried { OfAnyBase N.heap (λ store. HasTriedShift store G.cuts G.endless pass.old
+        pass.new by.now.from by.now.to by.now.amount result) }
 {
     let _unit = high;
     lock.lock(rt).shift_as_high(rt, heap, low, pass, by)

@@ -3,6 +3,7 @@
 ghost use Rattle.std.specs.Prelude.{◌≡◌, ◌<◌, length, Some};
 ghost use Rattle.mont_base.specs.Layout.{map_units, unit_of_key};
 ghost use Rattle.store.specs.Shifting.{AreOfTwoUnits, HasTriedShift};
+ghost use Rattle.store.specs.StoreShown.{OfAnyBase};
 ghost use Rattle.store.specs.UnitAt.{StandsAt, region_of};
 
 use crate::store::Store;
@@ -41,7 +42,25 @@ impl<N: HeapName, I: Index> Store<N, I> {
     ) -> Result<(Receipt, Receipt), ShiftRefusal>
         requires pass { pass.old.ticket.table ≡ N.heap.table }
         requires maps { 0 < length (map_units N.heap.opening.layout) }
-        ensures { HasTriedShift N.heap G.cuts G.endless pass.old pass.new from to amount result }
+        ensures { HasTriedShift self.now G.cuts G.endless pass.old pass.new from to amount result }
+    {
+        let _heap = self.heap();
+        self.shift_keys(rt, pass, from, to, amount)
+    }
+
+    // The same, told by any base.
+    fn shift_keys<R: Wait, G: Gate>(
+        &self,
+        rt: &R,
+        pass: &mut Pass<G>,
+        from: Text,
+        to: Text,
+        amount: u64,
+    ) -> Result<(Receipt, Receipt), ShiftRefusal>
+        requires pass { pass.old.ticket.table ≡ N.heap.table }
+        requires maps { 0 < length (map_units N.heap.opening.layout) }
+        ensures { OfAnyBase N.heap (λ store. HasTriedShift store G.cuts G.endless pass.old
+            pass.new from to amount result) }
     {
         let (out, into) = (self.keeper_of(&from), self.keeper_of(&to));
         if out == into {
@@ -83,8 +102,8 @@ pub(crate) fn shift_between<R: Wait, G: Gate, I: Index>(
         by.now.up (region_of low.old).books.unit (region_of high.old).books.unit }
     ensures low { StandsAt heap.now (region_of low.old).books.unit low.new }
     ensures high { StandsAt heap.now (region_of high.old).books.unit high.new }
-    ensures tried { HasTriedShift heap.now G.cuts G.endless pass.old pass.new by.now.from
-        by.now.to by.now.amount result }
+    ensures tried { OfAnyBase heap.now (λ store. HasTriedShift store G.cuts G.endless pass.old
+        pass.new by.now.from by.now.to by.now.amount result) }
 {
     let Structure::Map { unit: low } = low else {
         unreachable!()

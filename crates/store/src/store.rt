@@ -1,5 +1,6 @@
 // The store: what its callers share.
 ghost use Rattle.std.specs.Prelude.{◌≡◌};
+ghost use Rattle.store.specs.StoreShown.{IsOpenedOn};
 
 use crate::unit_at::UnitAt;
 use advance::Advancer;
@@ -15,7 +16,7 @@ use std::sync::Mutex;
 ///
 /// Callers share it, each with a pass of its own. A call locks the unit of its operation, and no
 /// other; the lock of one unit stands in no cache line of another's. Contracts see of which heap it
-/// is: the one that N names.
+/// is, the one that N names, and with what its units were opened.
 #[derive(Drop)]
 pub struct Store<N: HeapName, I: Index = Box<dyn Index + Send>> {
     pub(crate) heap: Heap,
@@ -41,20 +42,23 @@ pub struct Store<N: HeapName, I: Index = Box<dyn Index + Send>> {
 }
 
 impl<N: HeapName, I: Index> Model for Store<N, I> {
-    ghost use Rattle.heap.specs.HeapShown.{HeapShown};
+    ghost use Rattle.plain.specs.States.{states_of};
     ghost use Rattle.store.specs.Store.{IsStoreOf};
+    ghost use Rattle.store.specs.StoreShown.{StoreShown, store_code, store_on};
 
-    ghost Value = { HeapShown };
+    ghost Value = { StoreShown };
 
-    ghost view = { λ s. s.heap };
+    ghost coded = { store_code };
+
+    ghost view = { λ s. store_on s.heap (states_of s.base) };
 
     ghost invariant = { λ s. IsStoreOf N.heap s.heap s.base_clock s.base };
 }
 
 impl<N: HeapName, I: Index> Store<N, I> {
-    /// The heap that N names.
+    /// The heap that N names, on which the store was opened.
     pub fn heap(&self) -> &Heap
-        ensures named { self.now ≡ N.heap }
+        ensures opened { IsOpenedOn N.heap self.now }
         ensures heap { result.now ≡ N.heap }
     {
         &self.heap

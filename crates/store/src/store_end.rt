@@ -29,6 +29,7 @@ impl<N: HeapName, I: Index> Store<N, I> {
         requires whole { All (λ p. IsWhole p.ticket p.receipts.items) passes.items }
         ensures base { IfOk result (λ stopped. IsBaseOf N.heap.opening stopped.base_clock
             (states_of stopped.base)) }
+        ensures opened { IfOk result (λ stopped. states_of stopped.base ≡ self.base) }
         ensures stopped { IfOk result (λ stopped. IsStopped N.heap.opening.layout
             stopped.base_clock stopped.base (map (λ p. p.ticket) passes.items) stopped) }
     {

@@ -4,6 +4,7 @@ ghost use Rattle.mont_laws.specs.Effects.{IsOpOf};
 ghost use Rattle.structure_call.specs.KeptReceipt.{KeepsReceipt};
 ghost use Rattle.store.specs.Shifting.{AreOfTwoUnits, HasTriedShift};
 ghost use Rattle.store.specs.StoreCalls.{HasCalled, HandsRun, IsRange};
+ghost use Rattle.store.specs.StoreShown.{OfAnyBase};
 ghost use Rattle.store.specs.UnitAt.{FitsNumber, FitsNumber-prop, StandsAt, region_of};
 
 use crate::shifting::{Shift, shift_between};
@@ -58,10 +59,10 @@ impl<const UNIT: u64, N: HeapName, I: Index> UnitAt<UNIT, N, I> {
         requires pass { pass.old.ticket.table ≡ heap.now.table }
         requires op { IsOpOf heap.now.opening.layout UNIT op.now }
         ensures answered { OnOk result (KeepsReceipt pass.old.receipts.items
-            pass.new.receipts.items (λ receipt. HasCalled heap.now G.cuts G.endless pass.old
-            pass.new op.now (Ok receipt))) }
-        ensures refused { IfErr result (λ why. HasCalled heap.now G.cuts G.endless pass.old
-            pass.new op.now (Err why)) }
+            pass.new.receipts.items (λ receipt. OfAnyBase heap.now (λ store. HasCalled store
+            G.cuts G.endless pass.old pass.new op.now (Ok receipt)))) }
+        ensures refused { IfErr result (λ why. OfAnyBase heap.now (λ store. HasCalled store
+            G.cuts G.endless pass.old pass.new op.now (Err why))) }
     {
         let Some(structure) = &mut self.structure else {
             unreachable!()
@@ -84,11 +85,11 @@ impl<const UNIT: u64, N: HeapName, I: Index> UnitAt<UNIT, N, I> {
         requires op { IsOpOf heap.now.opening.layout UNIT op.now }
         requires range { IsRange op.now }
         ensures answered { OnOk result (KeepsReceipt pass.old.receipts.items
-            pass.new.receipts.items (λ receipt. HasCalled heap.now G.cuts G.endless pass.old
-            pass.new op.now (Ok receipt) × HandsRun heap.now pass.new.ticket receipt
-            pairs.new)) }
-        ensures refused { IfErr result (λ why. HasCalled heap.now G.cuts G.endless pass.old
-            pass.new op.now (Err why)) }
+            pass.new.receipts.items (λ receipt. OfAnyBase heap.now (λ store. HasCalled store
+            G.cuts G.endless pass.old pass.new op.now (Ok receipt) × HandsRun store
+            pass.new.ticket receipt pairs.new))) }
+        ensures refused { IfErr result (λ why. OfAnyBase heap.now (λ store. HasCalled store
+            G.cuts G.endless pass.old pass.new op.now (Err why))) }
         ensures kept { OnErr result (pairs.new ≡ pairs.old) }
     {
         let Some(boxed) = &mut self.structure else {
@@ -112,8 +113,8 @@ impl<const UNIT: u64, N: HeapName, I: Index> UnitAt<UNIT, N, I> {
         requires pass { pass.old.ticket.table ≡ N.heap.table }
         requires units { AreOfTwoUnits N.heap.opening.layout by.now.from by.now.to by.now.up UNIT
             high }
-        ensures { HasTriedShift N.heap G.cuts G.endless pass.old pass.new by.now.from by.now.to
-            by.now.amount result }
+        ensures { OfAnyBase N.heap (λ store. HasTriedShift store G.cuts G.endless pass.old
+            pass.new by.now.from by.now.to by.now.amount result) }
     {
         let Some(structure) = &mut self.structure else {
             unreachable!()
@@ -136,8 +137,8 @@ impl<const UNIT: u64, N: HeapName, I: Index> UnitAt<UNIT, N, I> {
         requires units { AreOfTwoUnits N.heap.opening.layout by.now.from by.now.to by.now.up
             (region_of low.old).books.unit UNIT }
         ensures low { StandsAt N.heap (region_of low.old).books.unit low.new }
-        ensures tried { HasTriedShift N.heap G.cuts G.endless pass.old pass.new by.now.from
-            by.now.to by.now.amount result }
+        ensures tried { OfAnyBase N.heap (λ store. HasTriedShift store G.cuts G.endless pass.old
+            pass.new by.now.from by.now.to by.now.amount result) }
     {
         let Some(structure) = &mut self.structure else {
             unreachable!()

@@ -2,6 +2,7 @@
 ghost use Rattle.std.specs.Prelude.{◌≡◌, ◌<◌};
 ghost use Rattle.mont_laws.specs.Effects.{IsOpOf};
 ghost use Rattle.store.specs.StoreCalls.{HasCalled};
+ghost use Rattle.store.specs.StoreShown.{OfAnyBase};
 
 use crate::store::Store;
 use crate::unit_at::UnitAt;
@@ -13,7 +14,8 @@ use std::sync::{Mutex, Wait};
 use structure_call::last_receipt;
 
 impl<N: HeapName, I: Index> Store<N, I> {
-    // Carries an operation of the unit out, under the unit's lock.
+    // Carries an operation of the unit out. What holds of a store on the heap with any base holds
+    // of this one.
     pub(crate) fn call_unit<R: Wait, G: Gate>(
         &self,
         rt: &R,
@@ -23,7 +25,24 @@ impl<N: HeapName, I: Index> Store<N, I> {
     ) -> Result<Receipt, CallRefusal>
         requires pass { pass.old.ticket.table ≡ N.heap.table }
         requires op { IsOpOf N.heap.opening.layout unit op.now }
-        ensures { HasCalled N.heap G.cuts G.endless pass.old pass.new op.now result }
+        ensures { HasCalled self.now G.cuts G.endless pass.old pass.new op.now result }
+    {
+        let _heap = self.heap();
+        self.call_locked(rt, pass, unit, op)
+    }
+
+    // Carries an operation of the unit out, under the unit's lock.
+    fn call_locked<R: Wait, G: Gate>(
+        &self,
+        rt: &R,
+        pass: &mut Pass<G>,
+        unit: Unit,
+        op: &Op,
+    ) -> Result<Receipt, CallRefusal>
+        requires pass { pass.old.ticket.table ≡ N.heap.table }
+        requires op { IsOpOf N.heap.opening.layout unit op.now }
+        ensures { OfAnyBase N.heap (λ store. HasCalled store G.cuts G.endless pass.old pass.new
+            op.now result) }
     {
         let heap = &self.heap;
         match self.lock_of(unit, op) {
@@ -73,7 +92,8 @@ fn call_at<const UNIT: u64, R: Wait, N: HeapName, I: Index, G: Gate>(
     requires pass { pass.old.ticket.table ≡ N.heap.table }
     requires unit { unit ≡ UNIT }
     requires op { IsOpOf N.heap.opening.layout unit op.now }
-    ensures { HasCalled N.heap G.cuts G.endless pass.old pass.new op.now result }
+    ensures { OfAnyBase N.heap (λ store. HasCalled store G.cuts G.endless pass.old pass.new op.now
+        result) }
 {
     let _unit = unit;
     lock.lock(rt).perform(rt, heap, pass, op)?;

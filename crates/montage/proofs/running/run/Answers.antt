@@ -19,7 +19,7 @@ returns-clause-worked g c =
     (λ p. p.ticket.known)
     (λ p. g.G.Gate.cuts p.gate) (λ p. g.G.Gate.endless p.gate) c.args.job.now c.args.passes.now.items
     c.run_job.new.passes.items (map Some ran.outcomes)))
-    c.heap-heap.ensures.named c.run_job.ensures.worked
+    c.heap-heap.ensures.opened.of_heap c.run_job.ensures.worked
 
 pub returns-clause-stands : goal.returns-clause-stands
 returns-clause-stands g c =
@@ -27,7 +27,7 @@ returns-clause-stands g c =
     (λ (h : HeapShown). OnErr c.run_job.result ((done : List (Option (List Outcome)))
     × AreWorked h.opening (λ p. IsWholePass h p.ticket p.receipts.items) (λ p. p.ticket.known) (λ p. g.G.Gate.cuts p.gate)
     (λ p. g.G.Gate.endless p.gate) c.args.job.now c.args.passes.now.items c.run_job.new.passes.items done))
-    c.heap-heap.ensures.named c.run_job.ensures.stands
+    c.heap-heap.ensures.opened.of_heap c.run_job.ensures.stands
 
 pub returns-clause-callers : goal.returns-clause-callers
 returns-clause-callers g c =
@@ -35,13 +35,13 @@ returns-clause-callers g c =
     let news = c.run_job.new.passes.items in
     subst
     (λ (h : HeapShown). AreAllCallers h (map (λ p. p.ticket) olds) → AreAllCallers h (map (λ p. p.ticket) news))
-    c.heap-heap.ensures.named
-    (all_left c.args.store.now (λ p. p.ticket) (λ p. p.receipts.items) (λ p. g.G.Gate.cuts p.gate) (λ p. g.G.Gate.endless p.gate)
+    c.heap-heap.ensures.opened.of_heap
+    (all_left c.args.store.now.heap (λ p. p.ticket) (λ p. p.receipts.items) (λ p. g.G.Gate.cuts p.gate) (λ p. g.G.Gate.endless p.gate)
     c.args.job.now olds news
     c.run_job.result (λ ran. map Some ran.outcomes) c.run_job.ensures.worked c.run_job.ensures.stands)
 
 pub returns-clause-whole : goal.returns-clause-whole
 returns-clause-whole g c =
-    whole_left c.args.store.now (λ p. p.ticket) (λ p. p.receipts.items) (λ p. g.G.Gate.cuts p.gate) (λ p. g.G.Gate.endless p.gate)
+    whole_left c.args.store.now.heap (λ p. p.ticket) (λ p. p.receipts.items) (λ p. g.G.Gate.cuts p.gate) (λ p. g.G.Gate.endless p.gate)
     c.args.job.now c.args.passes.now.items c.run_job.new.passes.items c.run_job.result (λ ran. map Some ran.outcomes)
     c.run_job.ensures.worked c.run_job.ensures.stands

@@ -60,7 +60,9 @@ returns-clause-tried g c =
     let by = c.args.by.now in
     let e = c.shift.ensures in
     let heap = c.args.heap.now in
-    shift_tried heap g.G.Gate.cuts g.G.Gate.endless c.args.pass.now c.shift.new.pass by.from by.to by.amount by.up c.in-Map.low.region
+    λ base recovered.
+    shift_tried heap base recovered g.G.Gate.cuts g.G.Gate.endless c.args.pass.now c.shift.new.pass by.from by.to by.amount by.up
+    c.in-Map.low.region
     c.shift.new.low.region c.in-Map-high.high.region c.shift.new.high.region c.shift.result
     (subst (λ (u : ℕ × ℕ). AreOfTwoUnits heap.opening.layout by.from by.to by.up u.0 u.1)
     (λ i. ((region_of (c.in-Map.is i)).books.unit, (region_of (c.in-Map-high.is i)).books.unit)) c.requires.units)

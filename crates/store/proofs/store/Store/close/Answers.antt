@@ -5,7 +5,7 @@ use Rattle.store.proofs.store.Store.close.Goals as goal
 
 pub close_store-requires-clause-seats : goal.close_store-requires-clause-seats
 close_store-requires-clause-seats g c =
-    let u = c.unlock-heap.ensures in
+    let u = c.unlock-heap.ensures.unlocked in
     let all = c.requires.passes in
     let callers : List CallerShown = map (λ p. p.ticket) c.args.passes.items in
     subst (λ (heap : HeapShown). AreAllSeats heap c.unlock-heap.result.units.items c.unlock-heap.result.advancer callers) (sym u.named)

@@ -1,6 +1,7 @@
-use Rattle.std.proofs.Common.{rules, ◌≡◌, sym, subst, arith}
+use Rattle.std.proofs.Common.{rules, ◌≡◌, ap, sym, subst, arith}
 use Rattle.heap.specs.HeapShown.{AdvShown}
 use Rattle.store.specs.SeatsBack.{AreSeatsBelow}
+use Rattle.store.specs.StoreShown.{StoreShown}
 use Rattle.store.proofs.SeatsTaken.{none_yet}
 use Rattle.store.proofs.store.Store.unlock.Goals as goal
 
@@ -53,8 +54,11 @@ give_seat-requires-15 g c = (search rules, (c.give_seat-14.ensures.seats, c.give
 pub give_seat-requires-16 : goal.give_seat-requires-16
 give_seat-requires-16 g c = (search rules, (c.give_seat-15.ensures.seats, c.give_seat-15.ensures.room))
 
-pub returns : goal.returns
-returns g c =
+pub returns-clause-base : goal.returns-clause-base
+returns-clause-base g c = ap (λ (s : StoreShown). s.base) c.self.view_is
+
+pub returns-clause-unlocked : goal.returns-clause-unlocked
+returns-clause-unlocked g c =
     let named = g.N.HeapName.heap in
     record {
       named = c.self.invariant.of_heap;

@@ -3,6 +3,7 @@ use Rattle.std.specs.Prelude.{Err, IfErr}
 use Rattle.std.specs.declared.result.Result.{Result}
 use Rattle.mont_base.specs.declared.refusal.CallRefusal.{CallRefusal}
 use Rattle.heap.specs.HeapShown.{HeapShown}
+use Rattle.store.specs.StoreShown.{StoreShown, OfAnyBase}
 use Rattle.store.specs.StoreCalls.{HasCalled}
 use Rattle.store.specs.UnitAt.{region_of, structure_kind, StandsAt}
 use Rattle.store.proofs.AskedKeys.{range_kind}
@@ -22,8 +23,8 @@ pub returns-in_err-perform-clause-refused : goal.returns-in_err-perform-clause-r
 returns-in_err-perform-clause-refused g c =
     let why : CallRefusal = c.in_err-perform.field-0.0 in
     let e = c.in_err-perform.ensures in
-    handed_on (λ (x : Result (Unit {0}) CallRefusal). IfErr x (λ (why : CallRefusal). HasCalled c.args.heap.now g.G.Gate.cuts
-    g.G.Gate.endless c.args.pass.now c.perform.new.pass c.args.op.now (Err why))) c.from_residual.result why
+    handed_on (λ (x : Result (Unit {0}) CallRefusal). IfErr x (λ (why : CallRefusal). OfAnyBase c.args.heap.now (λ (s : StoreShown).
+    HasCalled s g.G.Gate.cuts g.G.Gate.endless c.args.pass.now c.perform.new.pass c.args.op.now (Err why)))) c.from_residual.result why
     c.from_residual.ensures.1
     (refusal_called c.args.heap.now g.row.UNIT c.deref_mut-structure.result.now (region_of c.perform.new.self) c.args.pass.now
     c.perform.new.pass c.args.op.now (found g (goal.at.returns-in_err-perform-clause-refused g c).After-perform) c.requires.op
@@ -51,11 +52,12 @@ returns-clause-answered g c =
     let e = c.in_ok-perform.ensures in record {
       receipt = e.answered.receipt;
       kept = e.answered.kept;
-      holds = (
+      holds = λ base recovered. (
         receipt_called c.args.heap.now g.row.UNIT c.deref_mut-structure.result.now (region_of c.perform.new.self) c.args.pass.now
             c.perform.new.pass c.args.op.now k c.requires.op g.G.Gate.cuts g.G.Gate.endless e.answered.receipt e.answered.holds
-            e.answered.kept e.gate,
+            e.answered.kept e.gate base recovered,
         hands_run c.args.heap.now (region_of c.deref_mut-structure.result.now) (region_of c.perform.new.self) c.args.pass.now.ticket
-            c.perform.new.pass.ticket c.args.op.now e.answered.receipt c.pairs.new.pairs k.seated e.answered.holds c.pairs.ensures,
+            c.perform.new.pass.ticket c.args.op.now e.answered.receipt c.pairs.new.pairs k.seated e.answered.holds c.pairs.ensures base
+            recovered,
       );
     }
