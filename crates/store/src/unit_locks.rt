@@ -1,6 +1,7 @@
 // The locks of the units. A call locks the operation's unit, and no other.
-ghost use Rattle.std.specs.Prelude.{◌≡◌, ◌<◌};
+ghost use Rattle.std.specs.Prelude.{◌≡◌, ◌<◌, Ok, Err, OnOk, IfErr};
 ghost use Rattle.mont_laws.specs.Effects.{IsOpOf};
+ghost use Rattle.structure_call.specs.KeptReceipt.{KeepsReceipt};
 ghost use Rattle.store.specs.StoreCalls.{HasCalled};
 ghost use Rattle.store.specs.StoreShown.{OfAnyBase};
 
@@ -14,8 +15,8 @@ use std::sync::{Mutex, Wait};
 use structure_call::last_receipt;
 
 impl<N: HeapName, I: Index> Store<N, I> {
-    // Carries an operation of the unit out. What holds of a store on the heap with any base holds
-    // of this one.
+    // Carries an operation of the unit out, and copies the receipt from the pass. What holds of a
+    // store on the heap with any base holds of this one.
     pub(crate) fn call_unit<R: Wait, G: Gate>(
         &self,
         rt: &R,
@@ -28,21 +29,26 @@ impl<N: HeapName, I: Index> Store<N, I> {
         ensures { HasCalled self.now G.cuts G.endless pass.old pass.new op.now result }
     {
         let _heap = self.heap();
-        self.call_locked(rt, pass, unit, op)
+        self.perform_locked(rt, pass, unit, op)?;
+        Ok(last_receipt(&pass.receipts))
     }
 
-    // Carries an operation of the unit out, under the unit's lock.
-    fn call_locked<R: Wait, G: Gate>(
+    // Carries an operation of the unit out, under the unit's lock, and keeps the receipt in the
+    // pass.
+    fn perform_locked<R: Wait, G: Gate>(
         &self,
         rt: &R,
         pass: &mut Pass<G>,
         unit: Unit,
         op: &Op,
-    ) -> Result<Receipt, CallRefusal>
+    ) -> Result<(), CallRefusal>
         requires pass { pass.old.ticket.table ≡ N.heap.table }
         requires op { IsOpOf N.heap.opening.layout unit op.now }
-        ensures { OfAnyBase N.heap (λ store. HasCalled store G.cuts G.endless pass.old pass.new
-            op.now result) }
+        ensures answered { OnOk result (KeepsReceipt pass.old.receipts.items
+            pass.new.receipts.items (λ receipt. OfAnyBase N.heap (λ store. HasCalled store
+            G.cuts G.endless pass.old pass.new op.now (Ok receipt)))) }
+        ensures refused { IfErr result (λ why. OfAnyBase N.heap (λ store. HasCalled store
+            G.cuts G.endless pass.old pass.new op.now (Err why))) }
     {
         let heap = &self.heap;
         match self.lock_of(unit, op) {
@@ -78,8 +84,8 @@ impl<N: HeapName, I: Index> Store<N, I> {
     }
 }
 
-// Carries an operation of the unit with this number out, under its lock. The receipt is copied
-// from the pass behind it.
+// Carries an operation of the unit with this number out, under its lock, and keeps the receipt in
+// the pass.
 fn call_at<const UNIT: u64, R: Wait, N: HeapName, I: Index, G: Gate>(
     rt: &R,
     heap: &Heap,
@@ -87,15 +93,17 @@ fn call_at<const UNIT: u64, R: Wait, N: HeapName, I: Index, G: Gate>(
     pass: &mut Pass<G>,
     unit: Unit,
     op: &Op,
-) -> Result<Receipt, CallRefusal>
+) -> Result<(), CallRefusal>
     requires heap { heap.now ≡ N.heap }
     requires pass { pass.old.ticket.table ≡ N.heap.table }
     requires unit { unit ≡ UNIT }
     requires op { IsOpOf N.heap.opening.layout unit op.now }
-    ensures { OfAnyBase N.heap (λ store. HasCalled store G.cuts G.endless pass.old pass.new op.now
-        result) }
+    ensures answered { OnOk result (KeepsReceipt pass.old.receipts.items
+        pass.new.receipts.items (λ receipt. OfAnyBase N.heap (λ store. HasCalled store
+        G.cuts G.endless pass.old pass.new op.now (Ok receipt)))) }
+    ensures refused { IfErr result (λ why. OfAnyBase N.heap (λ store. HasCalled store
+        G.cuts G.endless pass.old pass.new op.now (Err why))) }
 {
     let _unit = unit;
-    lock.lock(rt).perform(rt, heap, pass, op)?;
-    Ok(last_receipt(&pass.receipts))
+    lock.lock(rt).perform(rt, heap, pass, op)
 }
