@@ -1,16 +1,19 @@
--- Of a store whose callers synced before it was stopped, a crash loses nothing.
+-- Of a store of which one caller synced for all before it was stopped, a crash loses nothing.
 use Rattle.std.proofs.Common.{◌≡◌, ℕ, ◌≤◌, false, true, List, inl, inr, ◌⊎◌, sym, ap, ◌∙◌, subst, arith}
-use Rattle.std.specs.Prelude.{slice_get, All, Ok, Err, Some, None, Any, take}
+use Rattle.std.specs.Prelude.{slice_get, All, Ok, Err, Some, None, Any, map, take}
 use Rattle.std.specs.declared.result.Result.{Result}
-use Rattle.std.proofs.lemmas.Option.{slice_get_within}
+use Rattle.std.proofs.lemmas.Option.{same_Some, slice_get_within}
 use Rattle.mont_base.specs.declared.constants.TheConstants.{LAST}
 use Rattle.mont_base.specs.declared.gate.Fuel.{Fuel}
 use Rattle.mont_base.specs.declared.operation.Entry.{Entry}
 use Rattle.mont_base.specs.Gates.{is_endless}
 use Rattle.mont_base.specs.Image.{cut_of, IsRecovered}
 use Rattle.mont_base.specs.Layout.{Shape}
+use Rattle.mont_base.specs.Seen.{FitsHistories}
 use Rattle.plain.specs.States.{states_of}
+use Rattle.core_steps.specs.CallerClauses.{view_of}
 use Rattle.core_steps.proofs.RowFacts.{all_at, item_at, row_in_map}
+use Rattle.heap_rule.specs.SeenEntries.{AreFronts}
 use Rattle.heap.specs.HeapShown.{HeapShown, CallerShown}
 use Rattle.caller.specs.declared.sync_refusal.SyncRefusal.{SyncRefusal}
 use Rattle.caller.specs.declared.sync_refusal.SyncRefusal.TheVariants.{Stuck, Cut, ClockEnd}
@@ -22,11 +25,11 @@ use Rattle.job_text.specs.Outcomes.{names_entry}
 use Rattle.job_text.specs.PlainReport.{report_of}
 use Rattle.job_text.specs.Report.{Report}
 use Rattle.store_stop.specs.declared.headline.Stopped.{Stopped}
-use Rattle.store_stop.specs.Headline.{HoldsHistories, IsSyncedIn, parts_shown}
-use Rattle.store_stop.proofs.Items.{all_gives}
+use Rattle.store_stop.specs.Headline.{HasSeen, HoldsHistories, IsSyncedIn, parts_shown}
+use Rattle.store_stop.proofs.Items.{all_gives, all_split}
 use Rattle.job_store.specs.declared.whole_run.WholeRun.{WholeRun}
 use Rattle.job_store.specs.JobGates.{KeepsEnd, gate_of}
-use Rattle.job_store.specs.SyncedRun.{AreSynced, EndsSynced, HasEndedSynced, IsSynced, LosesNothing, OneKnowsWhy, RefusesSync, states_behind}
+use Rattle.job_store.specs.SyncedRun.{AreSynced, EndsSynced, HasEndedSynced, IsSyncedForAll, LosesNothing, OneKnowsWhy, RefusesSync, states_behind}
 use Rattle.job_store.specs.WholeRun.{IsEndOf, IsRunFrom, TellsEnd}
 use Rattle.job_store.proofs.Gated.{stopped_or_endless}
 use Rattle.job_store.proofs.Marked.{cut_as_marked}
@@ -45,8 +48,34 @@ module _ (j : Job) (heap : HeapShown) (callers : List CallerShown) (outcomes : L
   holds : HoldsHistories heap.opening.layout (states_of t.base) t.histories (parts_shown callers) t.words image
   holds = end.stopped.images image tells.pick.permitted
 
-  -- ---- where all synced
-  module _ (synced : All IsSynced callers) where
+  -- ---- where the first caller heard all and synced
+  module _ (synced : IsSyncedForAll callers) where
+    -- what a caller has seen of a unit, the first one has too, and it is in the cut
+    seen_early : (k : ℕ) (q : CallerShown) → slice_get callers k ≡ Some q → (unit front : ℕ) (h : List Entry)
+        → slice_get q.known.part.fronts unit ≡ Some front → slice_get t.histories unit ≡ Some h
+        → All (λ (d : Entry). d.epoch ≤ cut_of image) (take front h)
+    seen_early k q at unit front h own is =
+        let first = synced.heard.first in
+        let has = λ (i : ℕ) (s : CallerShown) (e : slice_get callers i ≡ Some s).
+        all_gives (λ (r : CallerShown). HasSeen t.histories r.known) callers i s end.stopped.seen e in
+        let seen = all_gives (λ (r : CallerShown). AreFronts first.known.entries r.known.entries) callers k q synced.heard.seen at in
+        let more = seen unit (take front h) ((has k q at).each unit front h own is) in
+        let below = slice_get_within first.known.entries unit more.whole more.there in
+        let long = (has 0 first synced.heard.there).units in
+        let fits = all_gives (FitsHistories t.histories) (map view_of (parts_shown callers)) 0 (view_of first.known.part)
+        end.stopped.order.fit
+        (row_in_map view_of (parts_shown callers) 0 first.known.part
+        (row_in_map (λ (s : CallerShown). s.known.part) callers 0 first synced.heard.there)) in
+        let units = fits.units in
+        let n = item_at first.known.part.fronts unit (omega (arith, below, long, units)) in
+        let same : more.whole ≡ take n.0 h =
+        same_Some more.whole (take n.0 h) (sym more.there ∙ (has 0 first synced.heard.there).each unit n.0 h n.1 is) in
+        let early = all_gives (IsSyncedIn t.histories (cut_of image)) (parts_shown callers) 0 first.known.part holds.synced
+        (row_in_map (λ (s : CallerShown). s.known.part) callers 0 first synced.heard.there) unit n.0 h
+        (ap (λ (ns : List ℕ). slice_get ns unit) synced.synced ∙ n.1) is in
+        (all_split (λ (d : Entry). d.epoch ≤ cut_of image) (take front h) more.begins.0
+        (subst (All (λ (d : Entry). d.epoch ≤ cut_of image)) (sym same ∙ more.begins.1) early)).0
+
     entry_kept : (unit place : ℕ) (h : List Entry) (e : Entry) → slice_get t.histories unit ≡ Some h → slice_get h place ≡ Some e
         → e.epoch ≤ cut_of image
     entry_kept unit place h e is there =
@@ -62,10 +91,7 @@ module _ (j : Job) (heap : HeapShown) (callers : List CallerShown) (outcomes : L
         let left = item_at callers by.0 (omega (arith, below, many, answered)) in
         let front = before_front j heap callers outcomes t end by.0 left.0 left.1 by.1 of_caller at.0 unit place
         (at.2 ∙ ap Some (named unit place at.1 at.3)) h is in
-        let known = all_gives IsSynced callers by.0 left.0 synced left.1 in
-        let early = all_gives (IsSyncedIn t.histories (cut_of image)) (parts_shown callers) by.0 left.0.known.part holds.synced
-        (row_in_map (λ (s : CallerShown). s.known.part) callers by.0 left.0 left.1) unit front.0 h
-        (ap (λ (ns : List ℕ). slice_get ns unit) known ∙ front.1) is in
+        let early = seen_early by.0 left.0 left.1 unit front.0 h front.1 is in
         all_gives (λ (d : Entry). d.epoch ≤ cut_of image) (take front.0 h) place e early (front.2 e there)
 
     loses_nothing : LosesNothing told

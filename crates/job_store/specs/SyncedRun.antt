@@ -1,4 +1,5 @@
--- What a run of a job gives where each caller syncs once the lines of all are carried out.
+-- What a run of a job gives where its first caller hears the others and syncs for all, once the
+-- lines of all are carried out.
 use Rattle.std.specs.Prelude.{◌≡◌, ℕ, ◌<◌, true, false, List, [], ◌∷◌, length, slice_get, Some, None, All, OnOk, IfErr}
 use Rattle.std.specs.declared.result.Result.{Result}
 use Rattle.mont_base.specs.declared.constants.TheConstants.{LAST}
@@ -8,10 +9,10 @@ use Rattle.mont_base.specs.Gates.{is_endless}
 use Rattle.mont_base.specs.History.{state_after}
 use Rattle.mont_base.specs.State.{State}
 use Rattle.core_steps.specs.Places.{EachAt}
+use Rattle.heap_rule.specs.SeenEntries.{AreFronts}
 use Rattle.heap.specs.HeapShown.{HeapShown, CallerShown}
 use Rattle.caller.specs.declared.sync_refusal.SyncRefusal.{SyncRefusal}
 use Rattle.caller.specs.declared.sync_refusal.SyncRefusal.TheVariants.{Stuck, Cut, ClockEnd}
-use Rattle.caller.specs.Syncing.{KeepsSeen}
 use Rattle.caller.specs.Telling.{has_mark}
 use Rattle.job_text.specs.declared.job.Job.{Job}
 use Rattle.job_text.specs.declared.outcome.Outcome.{Outcome}
@@ -19,6 +20,7 @@ use Rattle.job_text.specs.Causes.{IsStuck}
 use Rattle.job_text.specs.Faithful.{HasStop}
 use Rattle.job_text.specs.Report.{Report}
 use Rattle.store_stop.specs.declared.headline.Stopped.{Stopped}
+use Rattle.job_worker.specs.Asking.{KeepsAnswers}
 use Rattle.job_store.specs.JobGates.{KeepsEnd}
 use Rattle.job_store.specs.WholeRun.{IsEndOf}
 
@@ -27,12 +29,24 @@ use Rattle.job_store.specs.WholeRun.{IsEndOf}
 abbrev pub IsSynced : CallerShown → Type 0
 IsSynced q = q.known.part.synced ≡ q.known.part.fronts
 
--- Each caller has seen what it had seen before, and no more.
-pub record KeepSeen (olds news : List CallerShown) : Type 0 where
+-- No caller has lost an answer or forgotten an entry, and none was answered.
+pub record KeepAnswers (olds news : List CallerShown) : Type 0 where
   pub many : length news ≡ length olds
   pub each :
       (caller : ℕ) (old new : CallerShown) → slice_get olds caller ≡ Some old
-      → slice_get news caller ≡ Some new → KeepsSeen old new
+      → slice_get news caller ≡ Some new → KeepsAnswers old.known new.known
+
+-- The first of the callers has seen all that any of them has: what each has seen of a unit stands
+-- first in what the first one has.
+pub record HasHeardAll (callers : List CallerShown) : Type 0 where
+  pub first : CallerShown
+  pub there : slice_get callers 0 ≡ Some first
+  pub seen : All (λ (q : CallerShown). AreFronts first.known.entries q.known.entries) callers
+
+-- It knows that all of it is durable.
+pub record IsSyncedForAll (callers : List CallerShown) : Type 0 where
+  pub heard : HasHeardAll callers
+  pub synced : IsSynced heard.first
 
 -- why a sync of a caller with this gate was refused, as the caller knows
 abbrev pub KnowsWhy : CallerShown → Fuel → SyncRefusal → Type 0
@@ -53,10 +67,10 @@ pub record OneKnowsWhy (callers : List CallerShown) (gates : List Fuel) (why : S
   pub knows : KnowsWhy q gate why
 
 -- ---- the end of a run
--- All callers synced, or a sync was refused, by a gate of the job.
+-- One caller synced for all, or its sync was refused, by a gate of the job.
 pub record AreSynced (j : Job) (callers : List CallerShown)
     (synced : Result (Unit {0}) SyncRefusal) : Type 0 where
-  pub all : OnOk synced (All IsSynced callers)
+  pub all : OnOk synced (IsSyncedForAll callers)
   pub gates : List Fuel
   pub kept : EachAt (KeepsEnd j.stops) gates
   pub refused : IfErr synced (OneKnowsWhy callers gates)
@@ -86,7 +100,7 @@ RefusesSync j r (Stuck unit epoch) = IsStuck r unit epoch
 RefusesSync j r Cut = (caller : ℕ) × HasStop j caller
 RefusesSync j r ClockEnd = r.image_clock ≡ LAST
 
--- All callers synced, and nothing is lost; or a sync was refused.
+-- The sync was answered, and nothing is lost; or it was refused.
 pub record EndsSynced (j : Job) (r : Report) (synced : Result (Unit {0}) SyncRefusal)
     : Type 0 where
   pub whole : OnOk synced (LosesNothing r)

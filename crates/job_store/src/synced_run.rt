@@ -1,4 +1,4 @@
-// A job is run on a store that was never used, and each caller syncs behind the lines of all.
+// A job is run on a store that was never used, and one caller syncs for all behind the lines.
 ghost use Rattle.std.specs.Prelude.{◌≡◌, All, map, IfOk, IfErr, OnOk};
 ghost use Rattle.std.specs.FinMap as finite;
 ghost use Rattle.heap.specs.FreshOpening.{fresh_opening};
@@ -13,7 +13,7 @@ ghost use Rattle.job_store.specs.SyncedRun.{EndsSynced, HasEndedSynced};
 ghost use Rattle.job_store.specs.WholeRun.{IsRunFrom, IsRunOn};
 
 use crate::job_gates::gates_of;
-use crate::syncs::sync_all;
+use crate::syncs::sync_for_all;
 use crate::whole_run::{Ended, WholeRun, ended_with, report_on, run_lines};
 use caller::SyncRefusal;
 use heap::{Heap, Seats};
@@ -27,24 +27,23 @@ use std::marker::Brand;
 use std::sync::Wait;
 use std::thread::Threads;
 
-/// A run of a job behind which each caller synced.
+/// A run of a job behind which its first caller heard the others and synced.
 #[derive(Debug, Drop)]
 pub struct SyncedRun {
     pub run: WholeRun,
-    /// Why the first sync that wasn't answered was refused, if one wasn't. The callers behind it
-    /// didn't sync.
+    /// Why the sync was refused, if it was.
     pub synced: Result<(), SyncRefusal>,
 }
 
-// A run whose store was stopped behind the syncs.
+// A run whose store was stopped behind the sync.
 #[derive(Drop)]
 struct EndedSynced {
     ended: Ended,
     synced: Result<(), SyncRefusal>,
 }
 
-/// Runs a job as `run_fresh` does, but that each caller syncs before the store is stopped, once the
-/// lines of all are carried out. No outcome tells of these syncs.
+/// Runs a job as `run_fresh` does, but that the first caller hears the others and syncs before the
+/// store is stopped, once the lines of all are carried out. No outcome tells of that sync.
 pub fn run_synced<R: Threads + Wait + Sync, I: Index + Send>(
     rt: &R,
     alloc: Global,
@@ -88,8 +87,8 @@ fn synced_on_fresh<R: Threads + Wait + Sync, N: HeapName + Send + Sync, I: Index
     Ok(run_whole_synced(rt, alloc, store, passes, job)?)
 }
 
-// Runs a job on a store in which nothing was done yet, with the passes of its callers, which then
-// sync, and reports.
+// Runs a job on a store in which nothing was done yet, with the passes of its callers, of which the
+// first one then syncs for all, and reports.
 fn run_whole_synced<R: Threads + Wait + Sync, N: HeapName + Send + Sync, I: Index + Send>(
     rt: &R,
     alloc: Global,
@@ -110,7 +109,7 @@ fn run_whole_synced<R: Threads + Wait + Sync, N: HeapName + Send + Sync, I: Inde
     Ok(SyncedRun { run, synced })
 }
 
-// Runs a job, lets the callers sync, and stops the store whatever came of it.
+// Runs a job, lets the first caller sync for all, and stops the store whatever came of it.
 fn run_sync_and_stop<R: Threads + Wait + Sync, N: HeapName + Send + Sync, I: Index + Send>(
     rt: &R,
     alloc: Global,
@@ -127,10 +126,11 @@ fn run_sync_and_stop<R: Threads + Wait + Sync, N: HeapName + Send + Sync, I: Ind
         e.synced) }
 {
     let ran = run_lines(rt, alloc, &store, &mut passes, job);
-    let synced = sync_all(rt, &store, passes.as_mut_slice());
+    let synced = sync_for_all(rt, alloc, &store, passes.as_mut_slice());
     let stopped = store.stop(alloc, passes);
+    let ended = ended_with(ran, stopped)?;
     Ok(EndedSynced {
-        ended: ended_with(ran, stopped)?,
-        synced,
+        ended,
+        synced: synced?,
     })
 }

@@ -1,36 +1,60 @@
-// All callers of a store sync.
-ghost use Rattle.std.specs.Prelude.{◌≡◌, All, map, IfErr, OnOk};
-ghost use Rattle.core_steps.specs.Places.{EachAt};
+// The first of a store's callers hears what the others have seen, and syncs for all.
+ghost use Rattle.std.specs.Prelude.{◌≡◌, ◌≤◌, All, length, map, IfOk, IfErr, OnOk};
 ghost use Rattle.heap_pass.specs.Kept.{IsWhole};
-ghost use Rattle.mont_base.specs.Gates.{is_endless};
 ghost use Rattle.caller.specs.Syncing.{KeepsSeen};
 ghost use Rattle.store.specs.Store.{AreAllCallers};
-ghost use Rattle.job_store.specs.SyncedRun.{IsSynced, KeepSeen, KnowsWhy, OneKnowsWhy};
+ghost use Rattle.job_store.specs.SyncedRun.{HasHeardAll, IsSynced, IsSyncedForAll, KeepAnswers, KnowsWhy, OneKnowsWhy};
 
-use caller::SyncRefusal;
+use caller::{SyncRefusal, hear, tell};
 use heap_pass::{HeapName, Pass};
 use index_kit::Index;
 use mont_base::Fuel;
 use montage::Store;
+use std::alloc::{AllocError, Global};
 use std::sync::Wait;
 
-// Each caller waits until all that it has seen is durable. The first refusal ends that.
-pub(crate) fn sync_all<R: Wait, N: HeapName, I: Index>(
+// The first caller hears each other one, and waits until all that any of them has seen is durable.
+pub(crate) fn sync_for_all<R: Wait, N: HeapName, I: Index>(
     rt: &R,
+    alloc: Global,
     store: &Store<N, I>,
     passes: &mut [Pass<Fuel>],
-) -> Result<(), SyncRefusal>
+) -> Result<Result<(), SyncRefusal>, AllocError>
+    requires some { 1 ≤ length passes.old }
     requires callers { AreAllCallers N.heap (map (λ p. p.ticket) passes.old) }
     requires whole { All (λ p. IsWhole p.ticket p.receipts.items) passes.old }
     ensures callers { AreAllCallers N.heap (map (λ p. p.ticket) passes.new) }
     ensures whole { All (λ p. IsWhole p.ticket p.receipts.items) passes.new }
-    ensures seen { KeepSeen (map (λ p. p.ticket) passes.old) (map (λ p. p.ticket) passes.new) }
-    ensures synced { OnOk result (All IsSynced (map (λ p. p.ticket) passes.new)) }
-    ensures refused { IfErr result (OneKnowsWhy (map (λ p. p.ticket) passes.new)
-        (map (λ p. p.gate) passes.old)) }
+    ensures seen { KeepAnswers (map (λ p. p.ticket) passes.old)
+        (map (λ p. p.ticket) passes.new) }
+    ensures synced { IfOk result (λ answer. OnOk answer (IsSyncedForAll
+        (map (λ p. p.ticket) passes.new))) }
+    ensures refused { IfOk result (λ answer. IfErr answer (OneKnowsWhy
+        (map (λ p. p.ticket) passes.new) (map (λ p. p.gate) passes.old))) }
 {
-    for pass in passes.iter_mut() {
-        sync_one(rt, store, pass)?;
+    hear_others(alloc, store, passes)?;
+    Ok(sync_one(rt, store, &mut passes[0]))
+}
+
+// The first caller hears each other one, and has then seen all that they have.
+fn hear_others<N: HeapName, I: Index>(
+    alloc: Global,
+    store: &Store<N, I>,
+    passes: &mut [Pass<Fuel>],
+) -> Result<(), AllocError>
+    requires some { 1 ≤ length passes.old }
+    requires callers { AreAllCallers N.heap (map (λ p. p.ticket) passes.old) }
+    ensures callers { AreAllCallers N.heap (map (λ p. p.ticket) passes.new) }
+    ensures whole { All (λ p. IsWhole p.ticket p.receipts.items) passes.old
+        → All (λ p. IsWhole p.ticket p.receipts.items) passes.new }
+    ensures gates { map (λ p. p.gate) passes.new ≡ map (λ p. p.gate) passes.old }
+    ensures seen { KeepAnswers (map (λ p. p.ticket) passes.old)
+        (map (λ p. p.ticket) passes.new) }
+    ensures heard { OnOk result (HasHeardAll (map (λ p. p.ticket) passes.new)) }
+{
+    for place in 1..passes.len() {
+        let news = tell(alloc, store.heap(), &mut passes[place])?;
+        hear(store.heap(), &mut passes[0], news);
     }
     Ok(())
 }

@@ -2,10 +2,12 @@
 #![tactic(auto)]
 
 ghost use Rattle.std.specs.Prelude.{◌≡◌, map, string_bytes, MatchResult};
+ghost use Rattle.std.specs.FinMap as finite;
 ghost use Rattle.std.specs.Process.{exit_status};
 ghost use Rattle.montage_tool.specs.Process.{CameOf, Ends};
 
-use mont_base::{Sink, Source};
+use index_kit::{Index, ProbeIndex, SortedIndex};
+use mont_base::{MOST_UNITS, Sink, Source};
 use montage_tool::{Status, StdSink, StdSource, exit_of, say, serve, words_of};
 use std::process::ExitCode;
 use std::rt::Files;
@@ -13,29 +15,50 @@ use std::sync::Wait;
 use std::thread::Threads;
 use std::{env, io};
 
+// The words are answered with as many empty boxes as a store has units, of two kinds in turn. Where
+// there is no memory for them there are no words either.
 fn main(rt: HostRuntime) -> ExitCode {
+    let alloc = rt.alloc();
     let mut job = StdSource::new(rt.reader());
     let mut out = StdSink::new(io::writer(&rt));
-    let words = words_of(rt.alloc(), env::args(&rt));
-    end_process(&rt, words, &mut job, &mut out)
+    let mut indexes: Vec<Box<dyn Index + Send>> = Vec::new(alloc);
+    for _pair in 0..MOST_UNITS / 2 {
+        let Ok(sorted) = Box::new(alloc, SortedIndex::new(alloc)) else {
+            break;
+        };
+        let Ok(probed) = Box::new(alloc, ProbeIndex::new(alloc)) else {
+            break;
+        };
+        if indexes.push(sorted).is_err() || indexes.push(probed).is_err() {
+            break;
+        }
+    }
+    let words = if (indexes.len() as u64) < MOST_UNITS {
+        Err(Status::Memory)
+    } else {
+        words_of(alloc, env::args(&rt))
+    };
+    end_process(&rt, words, &mut job, indexes, &mut out)
 }
 
-// Answers the words of the process, where it has any, says the status by its line, and ends with
-// its exit status. Where there is no memory for the line, the exit status alone tells it.
+// Answers the words of the process, where it has any, with these boxes, says the status by its
+// line, and ends with its exit status. Where there is no memory for the line, the exit status alone
+// tells it.
 fn end_process<R: AllocGlobal + Files + Threads + Wait + Sync, J: Source, O: Sink>(
     rt: &R,
     words: Result<Vec<String>, Status>,
     job: &mut J,
+    indexes: Vec<Box<dyn Index + Send>>,
     out: &mut O,
 ) -> ExitCode
     ensures { Ends O.taken O.faults
         (λ written status. MatchResult words
         (λ w. CameOf J.Source O.Sink (map string_bytes w.items)
-        job.old job.new out.old written status)
+        (map (λ b. finite.len (places b)) indexes.items) job.old job.new out.old written status)
         (λ s. (status ≡ s) × (job.new ≡ job.old) × (written ≡ out.old)))
         out.new (exit_status result) }
 {
-    let status = status_of(rt, words, job, out);
+    let status = status_of(rt, words, job, indexes, out);
     let _ = say(rt.alloc(), out, &status);
     exit_of(&status)
 }
@@ -45,15 +68,16 @@ fn status_of<R: AllocGlobal + Files + Threads + Wait + Sync, J: Source, O: Sink>
     rt: &R,
     words: Result<Vec<String>, Status>,
     job: &mut J,
+    indexes: Vec<Box<dyn Index + Send>>,
     out: &mut O,
 ) -> Status
     ensures { MatchResult words
         (λ w. CameOf J.Source O.Sink (map string_bytes w.items)
-        job.old job.new out.old out.new result)
+        (map (λ b. finite.len (places b)) indexes.items) job.old job.new out.old out.new result)
         (λ s. (result ≡ s) × (job.new ≡ job.old) × (out.new ≡ out.old)) }
 {
     match words {
-        Ok(words) => match serve(rt, &words, job, out) {
+        Ok(words) => match serve(rt, &words, job, indexes, out) {
             Ok(status) => status,
             Err(_) => Status::Memory,
         },

@@ -1,5 +1,5 @@
 -- A file that was written whole is moved to its place, or can't be.
-use Rattle.std.proofs.Common.{◌≡◌, ℕ, Bool, true, false, List, length, inl, inr, sym, ap, ◌∙◌, subst, arith}
+use Rattle.std.proofs.Common.{◌≡◌, ℕ, Bool, true, false, List, inl, inr, sym, ap, ◌∙◌, subst, arith}
 use Rattle.std.specs.Prelude.{◌≢◌, Option, Some, None, is_some}
 use Rattle.mont_base.specs.declared.sink.Sink as sink_trait
 use Rattle.mont_base.specs.declared.source.Source as source_trait
@@ -7,7 +7,6 @@ use Rattle.mont_base.specs.Faults.{Rose}
 use Rattle.montage_tool.specs.declared.forms.FileWords.{FileWords}
 use Rattle.montage_tool.specs.declared.forms.Form.{Form}
 use Rattle.montage_tool.specs.declared.forms.Form.TheVariants as forms
-use Rattle.montage_tool.specs.declared.serving.TheConstants.{BOXES}
 use Rattle.montage_tool.specs.declared.status.Status.{Status}
 use Rattle.montage_tool.specs.declared.status.Status.TheVariants.{Done, WriteFault}
 use Rattle.montage_tool.specs.declared.status.SinkName.TheVariants as sinks
@@ -24,16 +23,13 @@ use Rattle.montage_tool.proofs.ServedForms.{help_none, used_on, version_none}
 -- what a process was answered
 pub answered_by : {J O : Type 0} (source : source_trait.Ghosts J) (sink : sink_trait.Ghosts O) (words : List (List ℕ)) (job read : J)
     (out written : O) (status : Status) (boxes : List ℕ) (image image_read : SourceSeen) (image_out image_written : SinkSeen)
-    → length boxes ≡ BOXES
     → Answers boxes words
     (record { job = source_seen source job; image = image; out = sink_seen sink out; image_out = image_out })
     (record { job = source_seen source read; image = image_read; out = sink_seen sink written; image_out = image_written }) status
     → (¬ AskFor AsksJob words → read ≡ job) → (¬ HasOutput status → written ≡ out)
-    → AreAnswered source sink words job read out written status
-answered_by source sink words job read out written status boxes image image_read image_out image_written many answers unasked quiet =
+    → AreAnswered source sink words boxes job read out written status
+answered_by source sink words job read out written status boxes image image_read image_out image_written answers unasked quiet =
     record {
-      boxes = boxes;
-      many = many;
       image = image;
       image_read = image_read;
       image_out = image_out;

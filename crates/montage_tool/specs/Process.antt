@@ -1,5 +1,5 @@
 -- What a process comes to.
-use Rattle.std.specs.Prelude.{◌≡◌, ◌⊎◌, ℕ, List, Option, length}
+use Rattle.std.specs.Prelude.{◌≡◌, ◌⊎◌, ℕ, List, Option}
 use Rattle.mont_base.specs.declared.sink.Sink as sink_trait
 use Rattle.mont_base.specs.declared.source.Source as source_trait
 use Rattle.mont_base.specs.Faults.{Rose}
@@ -7,17 +7,15 @@ use Rattle.montage_tool.specs.Devices.{HasOutput, SinkSeen, SourceSeen, sink_see
 use Rattle.montage_tool.specs.Forms.{AskFor, AsksJob}
 use Rattle.montage_tool.specs.Program.{Answers, IsSaid}
 use Rattle.montage_tool.specs.Status.{exit_code_of, status_line}
-use Rattle.montage_tool.specs.declared.serving.TheConstants.{BOXES}
 use Rattle.montage_tool.specs.declared.status.Status.{Status}
 use Rattle.montage_tool.specs.declared.status.Status.TheVariants.{Done, WriteFault, Memory}
 use Rattle.montage_tool.specs.declared.status.SinkName.TheVariants as sinks
 
--- What came of the words with sixteen boxes, and with the files that the words name as the image's
--- source and sink.
+-- What came of the words with boxes that hold so many keys, and with the files that the words name
+-- as the image's source and sink.
 pub record AreAnswered {J O : Type 0} (source : source_trait.Ghosts J) (sink : sink_trait.Ghosts O)
-    (words : List (List ℕ)) (job read : J) (out written : O) (status : Status) : Type 0 where
-  pub boxes : List ℕ
-  pub many : length boxes ≡ BOXES
+    (words : List (List ℕ)) (boxes : List ℕ) (job read : J) (out written : O) (status : Status)
+    : Type 0 where
   pub image : SourceSeen
   pub image_read : SourceSeen
   pub image_out : SinkSeen
@@ -47,11 +45,11 @@ IsSettled status faults now settled =
     ((settled ≡ status) × (now ≡ faults))
     ⊎ ((status ≡ Done) × (settled ≡ WriteFault sinks.Image) × Rose faults now)
 
--- that, unless there was no memory for boxes and files
+-- that, unless there was no memory for the files
 abbrev pub CameOf : {J O : Type 0} → source_trait.Ghosts J → sink_trait.Ghosts O
-    → List (List ℕ) → J → J → O → O → Status → Type 0
-CameOf source sink words job read out written status =
-    AreAnswered source sink words job read out written status
+    → List (List ℕ) → List ℕ → J → J → O → O → Status → Type 0
+CameOf source sink words boxes job read out written status =
+    AreAnswered source sink words boxes job read out written status
     ⊎ ((status ≡ Memory) × (read ≡ job) × (written ≡ out))
 
 -- A status came, with the sink as it then was. Its line is said, unless there is no memory for it,

@@ -1,5 +1,6 @@
-// What the words of a process are answered, with the files that they name and boxes of its own.
+// What the words of a process are answered, with the files that they name.
 ghost use Rattle.std.specs.Prelude.{◌≡◌, map, string_bytes, IfOk, OnErr};
+ghost use Rattle.std.specs.FinMap as finite;
 ghost use Rattle.montage_tool.specs.Process.{AreAnswered, IsSettled};
 
 use crate::adapters::FileSource;
@@ -8,41 +9,33 @@ use crate::file_sink::FileSink;
 use crate::forms::files_of;
 use crate::program::answer;
 use crate::status::{SinkName, Status};
-use index_kit::{Index, ProbeIndex, SortedIndex};
+use index_kit::Index;
 use mont_base::{Sink, Source};
 use std::alloc::AllocError;
 use std::rt::Files;
 use std::sync::Wait;
 use std::thread::Threads;
 
-/// How many boxes there are, of two kinds in turn.
-pub const BOXES: usize = 16;
-
-/// Answers the words with these devices, with the files that the words name, and with empty boxes
-/// of two kinds in turn. An image is in its place once it is whole, and isn't made otherwise.
+/// Answers the words with these devices and boxes, and with the files that the words name. An image
+/// is in its place once it is whole, and isn't made otherwise.
 pub fn serve<R: AllocGlobal + Files + Threads + Wait + Sync, J: Source, O: Sink>(
     rt: &R,
     words: &[String],
     job: &mut J,
+    indexes: Vec<Box<dyn Index + Send>>,
     out: &mut O,
 ) -> Result<Status, AllocError>
     ensures answered { IfOk result (AreAnswered J.Source O.Sink (map string_bytes words.now)
-        job.old job.new out.old out.new) }
+        (map (λ b. finite.len (places b)) indexes.items) job.old job.new out.old out.new) }
     ensures memory { OnErr result ((job.new ≡ job.old) × (out.new ≡ out.old)) }
 {
-    let alloc = rt.alloc();
-    let mut indexes: Vec<Box<dyn Index + Send>> = Vec::new(alloc);
-    for _pair in 0..BOXES / 2 {
-        indexes.push(Box::new(alloc, SortedIndex::new(alloc))?)?;
-        indexes.push(Box::new(alloc, ProbeIndex::new(alloc))?)?;
-    }
     let files = files_of(words);
     let mut image: FileSource<R::File> = match file_word(words, files.image) {
         Some(path) => FileSource::open(rt, path),
         None => FileSource::closed(),
     };
     let path = file_word(words, files.image_out).unwrap_or("");
-    let mut image_out = FileSink::new(rt, alloc, path)?;
+    let mut image_out = FileSink::new(rt, rt.alloc(), path)?;
     let status = answer(rt, words, job, &mut image, indexes, out, &mut image_out);
     if files.image_out.is_some() {
         Ok(settled(&mut image_out, status))

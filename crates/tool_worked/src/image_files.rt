@@ -1,5 +1,6 @@
 // Commands over real files: an image that is written, one that is written over itself, and what it
 // holds then.
+use index_kit::{Index, ProbeIndex, SortedIndex};
 use mont_base::{MemSink, MemSource};
 use montage_tool::{Status, serve};
 use std::fs;
@@ -38,7 +39,8 @@ graph 2 0 0
 end
 ";
 
-// What comes of the words and a job, and what is written to the sink of reports.
+// What comes of the words and a job with two empty boxes, and what is written to the sink of
+// reports.
 fn served<R: AllocGlobal + Files + Threads + Wait + Sync>(
     rt: &R,
     words: &[&str],
@@ -52,7 +54,10 @@ fn served<R: AllocGlobal + Files + Threads + Wait + Sync>(
     let text = Vec::from_slice(alloc, job.as_bytes())?;
     let mut source = MemSource::new(text, 4096, Vec::new(alloc));
     let mut out = MemSink::new(alloc, 4096, 4096, Vec::new(alloc))?;
-    let status = serve(rt, &all, &mut source, &mut out)?;
+    let mut indexes: Vec<Box<dyn Index + Send>> = Vec::new(alloc);
+    indexes.push(Box::new(alloc, SortedIndex::new(alloc))?)?;
+    indexes.push(Box::new(alloc, ProbeIndex::new(alloc))?)?;
+    let status = serve(rt, &all, &mut source, indexes, &mut out)?;
     Ok((status, out))
 }
 
