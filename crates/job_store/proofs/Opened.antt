@@ -3,9 +3,8 @@ use Rattle.std.proofs.Common.{◌≡◌, ℕ, zero, suc, ◌+◌, List, [], ◌�
 use Rattle.std.specs.Prelude.{Ok, Err, IfOk}
 use Rattle.std.specs.declared.result.Result.{Result}
 use Rattle.std.specs.List.{range_with_len}
-use Rattle.mont_base.specs.Image.{IsRecovered, records_of}
+use Rattle.mont_base.specs.Image.{records_of}
 use Rattle.mont_base.specs.Layout.{Shape, IsLayout, units_of}
-use Rattle.mont_base.specs.State.{State}
 use Rattle.plain.proofs.Single.{recovered_once}
 use Rattle.core_steps.specs.declared.parts.UnitPart.{UnitPart}
 use Rattle.core_steps.specs.Fresh.{fresh_words}

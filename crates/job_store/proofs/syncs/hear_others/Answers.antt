@@ -1,4 +1,4 @@
-use Rattle.std.proofs.Common.{get_or, set, length, length-set, sym, ap, ◌∙◌, subst, arith}
+use Rattle.std.proofs.Common.{get_or, set, length-set, sym, ap, ◌∙◌, subst, arith}
 use Rattle.std.proofs.lemmas.Option.{slice_get-get_or}
 use Rattle.core_steps.proofs.RowFacts.{row_in_map}
 use Rattle.heap.specs.NewsShown.{NewsShown}

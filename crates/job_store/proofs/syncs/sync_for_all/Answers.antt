@@ -1,5 +1,5 @@
-use Rattle.std.proofs.Common.{get_or, map, sym, ap, ◌∙◌, subst, arith}
-use Rattle.std.specs.Prelude.{slice_get, Some}
+use Rattle.std.proofs.Common.{get_or, map, sym, ap, ◌∙◌, arith}
+use Rattle.std.specs.Prelude.{slice_get}
 use Rattle.std.proofs.lemmas.Option.{slice_get-get_or}
 use Rattle.core_steps.proofs.RowFacts.{row_in_map}
 use Rattle.heap_pass.specs.Kept.{IsWhole}
