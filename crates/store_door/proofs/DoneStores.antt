@@ -6,7 +6,6 @@ use Rattle.std.proofs.lemmas.Option.{same_Some, slice_get-get_or, slice_get_with
 use Rattle.mont_base.specs.declared.gate.Gate.{Ghosts}
 use Rattle.mont_base.specs.Image.{IsRecovered, empty_states}
 use Rattle.mont_base.specs.Layout.{Shape}
-use Rattle.mont_base.specs.State.{State}
 use Rattle.plain.specs.States.{states_of}
 use Rattle.plain.proofs.Single.{recovered_once}
 use Rattle.core_steps.specs.Fresh.{fresh_words}
@@ -19,7 +18,7 @@ use Rattle.heap_pass.specs.declared.pass.Pass.{Pass}
 use Rattle.heap_pass.specs.Kept.{IsWhole}
 use Rattle.store_stop.specs.declared.headline.Stopped.{Stopped}
 use Rattle.store_stop.specs.Headline.{IsBaseOf}
-use Rattle.store_stop.proofs.Items.{all_gives, same_items}
+use Rattle.store_stop.proofs.Items.{all_gives}
 use Rattle.store_door.specs.declared.door.AtWork.{AtWork}
 use Rattle.store_door.specs.Door.{Deed, AreSamePasses, HasWorked, HaveWorked, AreDeeds, IsDone, IsDoneFresh}
 use Rattle.store.specs.Store.{AreAllCallers, IsFirstPass}
