@@ -12,7 +12,7 @@ use Rattle.plain.specs.Built.{IsFirstFault, MakesStructure}
 use Rattle.job_text.specs.Faithful.{CutAt}
 use Rattle.job_text.specs.Report.{Report}
 use Rattle.unit_cases.specs.declared.history_told.CutTold.{CutTold}
-use Rattle.unit_cases.specs.declared.image_told.UnitRecords.{UnitRecords}
+use Rattle.unit_cases.specs.declared.image_findings.UnitRecords.{UnitRecords}
 use Rattle.unit_cases.specs.declared.step_told.StepTold.{StepTold}
 
 -- so many slots of a unit are in use at a clock, after the unit's whole history in the report
