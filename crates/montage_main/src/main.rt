@@ -33,7 +33,7 @@ fn main(rt: HostRuntime) -> ExitCode {
             break;
         }
     }
-    let words = if (indexes.len() as u64) < MOST_UNITS {
+    let words = if indexes.len() < MOST_UNITS {
         Err(Status::Memory)
     } else {
         words_of(alloc, env::args(&rt))
