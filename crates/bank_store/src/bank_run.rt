@@ -11,7 +11,7 @@ ghost use Rattle.bank_store.specs.BankCallers.{AreNewTickets};
 ghost use Rattle.bank_store.specs.BankEnd.{HasEnded};
 ghost use Rattle.bank_store.specs.BankRun.{IsBankRun};
 
-use crate::image_contents::contents_left;
+use crate::bank_contents::contents_left;
 use crate::side_by_side::run_tellers;
 use bank_job::{CALLERS, bank_layout};
 use bank_text::BankReport;

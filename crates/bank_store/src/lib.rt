@@ -4,9 +4,9 @@
 #![tactic(auto)]
 
 mod attempts;
+mod bank_contents;
 mod bank_run;
 mod first_puts;
-mod image_contents;
 mod readying;
 mod shift_making;
 mod side_by_side;

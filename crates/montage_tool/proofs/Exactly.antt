@@ -15,7 +15,7 @@ use Rattle.job_text.specs.ReportText.{report_text}
 use Rattle.replay.specs.declared.schedule.Schedule.{Schedule}
 use Rattle.replay.specs.Replays.{IsFirstNotAllowed}
 use Rattle.replay.specs.ScheduleText.{IsFirstRefused as IsScheduleRefused, schedule_text}
-use Rattle.montage_tool.specs.declared.reading.TheConstants.{REPORT_BYTES}
+use Rattle.montage_tool.specs.declared.read_inputs.TheConstants.{REPORT_BYTES}
 use Rattle.montage_tool.specs.Judged.{IsHeld, IsReplayed, IsReportOf, IsScheduleOf, IsWrongReport, MayBeHeld, MayBeReplayed, RefusesCheck, RefusesNewImage, RefusesReplay, RefusesReport, TellsReport}
 use Rattle.bank_job.specs.Bank.{bank_layout}
 use Rattle.big_job.specs.Generated.{generated_head}

@@ -15,7 +15,7 @@ use Rattle.montage_tool.specs.declared.status.SourceName.TheVariants as sources
 use Rattle.montage_tool.specs.Devices.{Devices, HasOutput, IsQuiet, IsRead, IsUsed, IsWritten, Output, SinkSeen, SourceSeen, StopsAtJob, ended_as}
 use Rattle.montage_tool.specs.Forms.{AreHelp, AreVersion, AsksImage, AsksJob, HaveForm, IsForm, image_bytes, job_bytes}
 use Rattle.replay.specs.declared.schedule_limits.TheConstants.{SCHEDULE_BYTES}
-use Rattle.montage_tool.specs.declared.reading.TheConstants.{REPORT_BYTES}
+use Rattle.montage_tool.specs.declared.read_inputs.TheConstants.{REPORT_BYTES}
 use Rattle.montage_tool.specs.GeneratedForms.{IsBankText, IsBigText, RefusesStore}
 use Rattle.montage_tool.specs.Judged.{IsHeld, IsReplayed, RefusesCheck, RefusesReplay}
 use Rattle.montage_tool.specs.Inputs.{inputs}

@@ -3,7 +3,7 @@ use Rattle.std.specs.Prelude.{◌≡◌, ℕ, ◌+◌, ◌<◌, ◌≤◌, ◌^�
 use Rattle.job_text.specs.declared.limits.TheConstants.{READ_BYTES}
 use Rattle.mont_image.specs.declared.image_text.TheConstants.{IMAGE_BYTES}
 use Rattle.replay.specs.declared.schedule_limits.TheConstants.{SCHEDULE_BYTES}
-use Rattle.montage_tool.specs.declared.reading.TheConstants.{REPORT_BYTES}
+use Rattle.montage_tool.specs.declared.read_inputs.TheConstants.{REPORT_BYTES}
 use Rattle.montage_tool.specs.declared.forms.FileWords.{FileWords}
 use Rattle.montage_tool.specs.declared.forms.Form.{Form}
 use Rattle.montage_tool.specs.declared.forms.Form.TheVariants.{Run, Crash, Resume, ResumeTo, Recover, Check, Replay, Big, Bank}

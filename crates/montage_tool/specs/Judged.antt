@@ -15,7 +15,7 @@ use Rattle.replay.specs.ScheduleText.{IsFirstRefused, schedule_text}
 use Rattle.report_check.specs.declared.verdict.Verdict.{Verdict}
 use Rattle.report_check.specs.ReportVerdict.{IsVerdict}
 use Rattle.report_check.specs.VerdictWords.{verdict_words}
-use Rattle.montage_tool.specs.declared.reading.TheConstants.{REPORT_BYTES}
+use Rattle.montage_tool.specs.declared.read_inputs.TheConstants.{REPORT_BYTES}
 use Rattle.montage_tool.specs.declared.status.Status.{Status}
 use Rattle.montage_tool.specs.declared.status.Status.TheVariants.{BadImage, ReadFault, Memory, BadReport, NotAllowed, BadSchedule}
 use Rattle.montage_tool.specs.declared.status.SourceName.TheVariants as sources

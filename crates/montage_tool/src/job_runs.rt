@@ -8,7 +8,7 @@ ghost use Rattle.mont_image.specs.ImageText.{image_text};
 ghost use Rattle.montage_tool.specs.Devices.{IsRead, StopsAtJob, ended_as, source_seen};
 ghost use Rattle.montage_tool.specs.Service.{IsFreshRun, IsResumedRun, RefusesFresh, RefusesResumed};
 
-use crate::reading::{image_of, job_of};
+use crate::read_inputs::{image_of, job_of};
 use crate::status::{SourceName, Status};
 use index_kit::Index;
 use job_store::{WholeRun, run_fresh, run_resumed};

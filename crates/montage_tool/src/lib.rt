@@ -5,19 +5,19 @@
 mod about;
 mod adapters;
 mod command_line;
-mod contents;
 mod file_sink;
 mod forms;
 mod generated_runs;
 mod job_runs;
 mod kind_letters;
 mod program;
-mod reading;
+mod read_inputs;
 mod replayed_text;
 mod sending;
 mod serving;
 mod status;
 mod status_causes;
+mod told_contents;
 mod top_call;
 mod verdict_line;
 

@@ -4,7 +4,7 @@ ghost use Rattle.std.specs.Io.KnownBytes.{IsAtEnd};
 ghost use Rattle.montage_tool.specs.Devices.{IsRead, ended_as, source_seen};
 ghost use Rattle.montage_tool.specs.Judged.{IsReplayed, RefusesReplay};
 
-use crate::reading::schedule_of;
+use crate::read_inputs::schedule_of;
 use crate::status::{SourceName, Status};
 use mont_base::Source;
 use replay::{SCHEDULE_BYTES, replay};

@@ -5,13 +5,13 @@ ghost use Rattle.montage_tool.specs.Devices.{HasOutput, ReachesImage, StopsAtJob
 ghost use Rattle.montage_tool.specs.Forms.{AskFor, AsksImage, AsksJob, HaveForm, IsForm, KeepsImage};
 ghost use Rattle.montage_tool.specs.Service.{Serves};
 
-use crate::contents::contents_of;
 use crate::forms::{Form, form_of};
 use crate::generated_runs::{bank_run, big_run};
 use crate::job_runs::{fresh_run, resumed_run};
 use crate::replayed_text::replayed_text;
 use crate::sending::{send_both, send_report, send_text};
 use crate::status::Status;
+use crate::told_contents::contents_of;
 use crate::verdict_line::verdict_of;
 use index_kit::Index;
 use mont_base::{Sink, Source};
@@ -27,8 +27,8 @@ use std::thread::Threads;
 /// image, and `recover` tells what one holds. `check` holds a report against an image, and `replay`
 /// replays a schedule. `big` runs the generated job of a number and tells its summary, and `bank`
 /// the generated bank, whose accounts keep their total. Each map unit is given the next of the
-/// boxes, which is to be empty; `recover`, `check` and `replay` drop them. Nothing is written before
-/// all was read and run. What a form doesn't use isn't asked.
+/// boxes, which is to be empty; `recover`, `check` and `replay` drop them. Nothing is written
+/// before all was read and run. What a form doesn't use isn't asked.
 pub fn montage<R: AllocGlobal + Threads + Wait + Sync, J: Source, I: Source, O: Sink, K: Sink>(
     rt: &R,
     words: &[String],

@@ -5,7 +5,7 @@ ghost use Rattle.report_check.specs.VerdictWords.{verdict_words};
 ghost use Rattle.montage_tool.specs.Devices.{IsRead, StopsAtJob, ended_as, source_seen};
 ghost use Rattle.montage_tool.specs.Judged.{IsHeld, RefusesCheck};
 
-use crate::reading::{REPORT_BYTES, image_of, told_report};
+use crate::read_inputs::{REPORT_BYTES, image_of, told_report};
 use crate::status::{SourceName, Status};
 use image_units::ImageFault;
 use mont_base::Source;

@@ -107,4 +107,5 @@ module _ (es : List Entry) (m : Pairs) (is : finite.from_entries es ≡ m) (sort
 
   pub kept_none : (from to : Key) → is_le (key_cmp from to) ≡ false
       → entries_between key_cmp (Included from) (Excluded from) es ≡ pairs_between m from to
-  kept_none from to back = filter_agree _ _ (λ e. neither (is_le (key_cmp from e.0)) (is_le (key_cmp e.0 to)) (none_between from to e.0 back)) es ∙ filtered _
+  kept_none from to back = filter_agree _ _ (λ e. neither (is_le (key_cmp from e.0)) (is_le (key_cmp e.0 to))
+      (none_between from to e.0 back)) es ∙ filtered _

@@ -133,4 +133,5 @@ lines_told old now xs ys told =
     told ∙ regroup old (codes "durable\n") (text_of xs) (codes "current\n") (text_of ys) (codes "end\n")
     ∙ ap (λ (bs : List ℕ). old ++ bs)
     (sym (flat_map-append line_of (((codes "durable" ∷ []) ∷ xs) ++ ((codes "current" ∷ []) ∷ ys)) ((codes "end" ∷ []) ∷ [])
-    ∙ ap (λ (bs : List ℕ). bs ++ (codes "end\n" ++ [])) (flat_map-append line_of ((codes "durable" ∷ []) ∷ xs) ((codes "current" ∷ []) ∷ ys))))
+    ∙ ap (λ (bs : List ℕ). bs ++ (codes "end\n" ++ [])) (flat_map-append line_of ((codes "durable" ∷ []) ∷ xs)
+    ((codes "current" ∷ []) ∷ ys))))

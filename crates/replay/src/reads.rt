@@ -65,7 +65,8 @@ pub fn answered(
     ensures { IfOk result (λ o. MatchOption o (slice_get (map state_of states.old) unit ≡ None)
         (λ r. (x : State) × (slice_get (map state_of states.old) unit ≡ Some x)
         × (r ≡ (step x op.now).reply)
-        × (map state_of states.new ≡ slice_set (map state_of states.old) unit (step x op.now).state))) }
+        × (map state_of states.new ≡ slice_set (map state_of states.old) unit
+        (step x op.now).state))) }
 {
     if unit >= states.len() {
         return Ok(None);

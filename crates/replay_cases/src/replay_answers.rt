@@ -4,8 +4,8 @@ use crate::replay_outcome::ReplayOutcome;
 use case_file::{Case, Subject, Unanswered, numbers_in};
 use std::alloc::Global;
 
-/// Answers cases with a part `schedule`, and those on drawn schedules. Its source gives it in pieces
-/// of the sizes of the part `pieces`, and fails in the calls of the part `failing calls`.
+/// Answers cases with a part `schedule`, and those on drawn schedules. Its source gives it in
+/// pieces of the sizes of the part `pieces`, and fails in the calls of the part `failing calls`.
 #[derive(Drop)]
 pub struct ReplayCases {
     pub alloc: Global,

@@ -20,8 +20,8 @@ pub struct Found {
     pub identity: u64,
 }
 
-// What the live record of a key says, if the key is there. Where a caller was cut in the unit it may
-// be anything.
+// What the live record of a key says, if the key is there. Where a caller was cut in the unit it
+// may be anything.
 pub(crate) fn find<I: Index>(region: &Region, index: &I, key: &Text) -> Option<Found>
     requires unit { IsMapUnit region.now (I.places index.now) }
     ensures value { region.now.books.halted ≡ None

@@ -49,7 +49,7 @@ use Rattle.caller.proofs.TakenNotes.{joined_has, or_left, or_right}
 use Rattle.store.proofs.CallsContinued.{has_continued}
 use Rattle.store.specs.StoreShown.{StoreShown, OfAnyBase, store_on}
 use Rattle.store.specs.StoreCalls.{RepliesBehind, ContinuesCaller, KeepsCaller, NeedsRoom, NeedsNumber, TellsWhy, IsRefused, IsSamePass, HasCalled, receipts_more}
-use Rattle.store.specs.declared.structure.Structure.{Structure}
+use Rattle.store.specs.declared.unit_structure.Structure.{Structure}
 use Rattle.store.specs.UnitAt.{region_of, IsSeated, StandsAt}
 use Rattle.store.proofs.NumbersAtEnd.{number_at_end}
 

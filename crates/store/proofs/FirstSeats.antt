@@ -32,7 +32,7 @@ use Rattle.structure_call.specs.CountedNumbers.{HasCounted, records_opened}
 use Rattle.structure_call.specs.Standing.{IsIdle, IsStanding}
 use Rattle.structure_call.proofs.Counted.{fresh_are_counted}
 use Rattle.store.specs.FreshStore.{IsFirstSeat, AreFirstSeats, AreUnitsFrom, IsFreshHeap, IsNeverUsed}
-use Rattle.store.specs.declared.structure.Structure.{Structure}
+use Rattle.store.specs.declared.unit_structure.Structure.{Structure}
 use Rattle.store.specs.Store.{AreAllCallers, IsFirstPass}
 use Rattle.store.specs.UnitAt.{region_of, structure_kind, IsSeated, StandsAt, FitsNumber}
 use Rattle.store.proofs.AskedKeys.{is_its_kind}

@@ -29,7 +29,7 @@ use Rattle.found_regions.proofs.SweptRegions.{swept_regions_stand}
 use Rattle.recover.specs.declared.store_parts.Parts.{Parts}
 use Rattle.recover.specs.FoundTicket.{IsTicketFound}
 use Rattle.recover.specs.Recovery.{AreLiveObjects, ArePartsOf, AreSwept, IsAdvancerFound, IsRecovery, RecoveredShown}
-use Rattle.store.specs.declared.structure.Structure.{Structure}
+use Rattle.store.specs.declared.unit_structure.Structure.{Structure}
 use Rattle.store.specs.Resuming.{AreObjectsOf, AreRegionsSwept}
 use Rattle.store.specs.Store.{AreAllCallers, IsFirstPass}
 use Rattle.store.specs.UnitAt.{region_of, structure_kind, IsSeated, StandsAt}

@@ -6,7 +6,7 @@ use Rattle.mont_base.specs.Layout.{Shape, units_of}
 use Rattle.core_steps.proofs.RowFacts.{each_push}
 use Rattle.heap.specs.HeapShown.{HeapShown, UnitShown, AdvShown, CallerShown}
 use Rattle.heap.specs.Stops.{IsSeatOfUnit, AreAllSeats}
-use Rattle.store.specs.declared.structure.Structure.{Structure}
+use Rattle.store.specs.declared.unit_structure.Structure.{Structure}
 use Rattle.store.specs.Store.{AreAllCallers}
 use Rattle.store.specs.SeatsBack.{AreSeatsBelow}
 use Rattle.store.specs.UnitAt.{region_of, StandsAt}

@@ -33,8 +33,8 @@ use Rattle.shard_map.specs.declared.shift_refusal.ShiftRefusal.TheVariants.{Same
 use Rattle.shard_map.specs.MapShard.{MapShown}
 use Rattle.shard_map.specs.MapShift.{HasShifted, LeavesShift, MayBeShifted, StandsBehind, WereNoted, receipts_kept, was_checked, was_cut}
 use Rattle.shard_map.specs.MovedNumbers.{of_high, of_low}
-use Rattle.store.specs.declared.structure.Structure.{Structure}
-use Rattle.store.specs.declared.structure.Structure.TheVariants.{Map, Queue, Graph, Ordered}
+use Rattle.store.specs.declared.unit_structure.Structure.{Structure}
+use Rattle.store.specs.declared.unit_structure.Structure.TheVariants.{Map, Queue, Graph, Ordered}
 use Rattle.store.specs.Shifting.{AreOfTwoUnits, ContinuesByShift, FoundOneFull, HasTriedShift, TellsBetween, TellsShift, receipts_added}
 use Rattle.mont_base.specs.Image.{IsRecovered}
 use Rattle.store.specs.StoreShown.{StoreShown, store_on}

@@ -5,7 +5,7 @@ use Rattle.mont_base.specs.Layout.{Shape, units_of}
 use Rattle.core_steps.specs.Places.{EachAt}
 use Rattle.core_steps.proofs.RowFacts.{each_push, row_before, row_last}
 use Rattle.heap.specs.HeapShown.{HeapShown, UnitShown}
-use Rattle.store.specs.declared.structure.Structure.{Structure}
+use Rattle.store.specs.declared.unit_structure.Structure.{Structure}
 use Rattle.store.specs.FreshStore.{IsFirstSeat, AreFirstSeats, AreUnitsFrom}
 use Rattle.store.specs.MapBoxes.{HaveEmptyBoxes, AreLeft, GivesBox}
 use Rattle.store.specs.UnitAt.{StandsAt}

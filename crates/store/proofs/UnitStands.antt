@@ -15,7 +15,7 @@ use Rattle.structure_call.specs.CountedNumbers.{HasCounted}
 use Rattle.structure_call.specs.KeptReceipt.{KeepsReceipt}
 use Rattle.structure_call.specs.Standing.{IsStanding}
 use Rattle.structure_call.proofs.Counted.{answers_are_counted, refusals_are_counted}
-use Rattle.store.specs.declared.structure.Structure.{Structure}
+use Rattle.store.specs.declared.unit_structure.Structure.{Structure}
 use Rattle.store.specs.UnitAt.{region_of, structure_kind, IsSeated, StandsAt, FitsNumber}
 
 pub seated_by : (r : RegionShown) → Agrees r → IsSeated r

@@ -6,7 +6,7 @@ use Rattle.heap_rule.specs.Views.{first_unit}
 use Rattle.heap.specs.FreshOpening.{fresh_opening}
 use Rattle.heap.specs.HeapShown.{HeapShown, UnitShown, AdvShown, CallerShown}
 use Rattle.heap.specs.Opens.{Opens}
-use Rattle.store.specs.declared.structure.Structure.{Structure}
+use Rattle.store.specs.declared.unit_structure.Structure.{Structure}
 use Rattle.store.specs.UnitAt.{StandsAt}
 
 -- it was opened as a fresh one, and no step was made since

@@ -8,4 +8,4 @@ pub mod Ticking
 pub mod SeatsBack
 pub mod Resuming
 pub mod Shifting
-pub mod Closing
+pub mod StoreClosing

@@ -13,8 +13,8 @@ use Rattle.heap.specs.HeapShown.{HeapShown}
 use Rattle.slots.specs.Books.{RegionShown}
 use Rattle.structure_call.specs.CountedNumbers.{HasCounted, counted_once}
 use Rattle.structure_call.specs.Standing.{IsStanding, standing_once}
-use Rattle.store.specs.declared.structure.Structure.{Structure}
-use Rattle.store.specs.declared.structure.Structure.TheVariants.{Map, Queue, Graph, Ordered}
+use Rattle.store.specs.declared.unit_structure.Structure.{Structure}
+use Rattle.store.specs.declared.unit_structure.Structure.TheVariants.{Map, Queue, Graph, Ordered}
 
 abbrev pub region_of : {I : Type 0} → Structure I → RegionShown
 region_of (Map unit) = unit.region

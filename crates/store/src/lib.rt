@@ -4,7 +4,6 @@
 #![tactic(auto)]
 
 mod any_calls;
-mod closing;
 mod first_opening;
 mod graph_calls;
 mod map_calls;
@@ -17,13 +16,14 @@ mod resuming;
 mod shift_locks;
 mod shifting;
 mod store;
+mod store_closing;
 mod store_end;
 mod store_opening;
 mod store_refusal;
-mod structure;
 mod ticking;
 mod unit_at;
 mod unit_locks;
+mod unit_structure;
 
 pub use open_refusal::OpenRefusal;
 pub use shard_map::ShiftRefusal;

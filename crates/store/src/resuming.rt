@@ -14,7 +14,7 @@ ghost use Rattle.store.specs.UnitAt.{StandsAt};
 use crate::open_refusal::OpenRefusal;
 use crate::store::Store;
 use crate::store_opening::{boxed, empty_box, first_passes};
-use crate::structure::Structure;
+use crate::unit_structure::Structure;
 use advance::Advancer;
 use heap_pass::{HeapName, Pass};
 use index_kit::Index;

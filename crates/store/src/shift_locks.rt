@@ -7,8 +7,8 @@ ghost use Rattle.store.specs.UnitAt.{StandsAt, region_of};
 
 use crate::shifting::Shift;
 use crate::store::Store;
-use crate::structure::Structure;
 use crate::unit_at::UnitAt;
+use crate::unit_structure::Structure;
 use heap::Heap;
 use heap_pass::{HeapName, Pass};
 use index_kit::Index;

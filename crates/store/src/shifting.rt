@@ -7,7 +7,7 @@ ghost use Rattle.store.specs.StoreShown.{OfAnyBase};
 ghost use Rattle.store.specs.UnitAt.{StandsAt, region_of};
 
 use crate::store::Store;
-use crate::structure::Structure;
+use crate::unit_structure::Structure;
 use heap::Heap;
 use heap_pass::{HeapName, Pass};
 use index_kit::Index;

@@ -5,8 +5,8 @@ ghost use Rattle.plain.specs.States.{states_of};
 ghost use Rattle.store_stop.specs.Headline.{IsBaseOf, IsStopped};
 ghost use Rattle.store.specs.Store.{AreAllCallers};
 
-use crate::closing::Unlocked;
 use crate::store::Store;
+use crate::store_closing::Unlocked;
 use heap_pass::{HeapName, Pass};
 use index_kit::Index;
 use mont_base::Gate;

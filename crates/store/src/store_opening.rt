@@ -11,8 +11,8 @@ ghost use Rattle.store.specs.declared.open_refusal.OpenRefusal.TheVariants as re
 
 use crate::open_refusal::OpenRefusal;
 use crate::store::Store;
-use crate::structure::Structure;
 use crate::unit_at::UnitAt;
+use crate::unit_structure::Structure;
 use advance::Advancer;
 use heap::{Heap, Ticket};
 use heap_pass::{Apart, HeapName, Named, Pass};

@@ -9,7 +9,7 @@ ghost use Rattle.store.specs.UnitAt.{FitsNumber, FitsNumber-prop, StandsAt, regi
 
 use crate::shifting::{Shift, shift_between};
 use crate::store::Store;
-use crate::structure::Structure;
+use crate::unit_structure::Structure;
 use heap::Heap;
 use heap_pass::{HeapName, Pass};
 use index_kit::Index;

@@ -27,7 +27,7 @@ use Rattle.order_index.specs.contracts.order_index.OrderIndex as order
 use Rattle.pqueue.specs.contracts.pqueue.PQueue as queue
 use Rattle.pgraph.specs.contracts.pgraph.PGraph as graph
 use Rattle.pordered.specs.contracts.pordered.POrdered as ordered
-use Rattle.store.specs.contracts.structure.Structure as structure
+use Rattle.store.specs.contracts.unit_structure.Structure as structure
 use Rattle.store.specs.contracts.unit_at.UnitAt as unit
 use Rattle.store.specs.contracts.store.Store as store
 use Rattle.store.specs.contracts.store.Store.TheInside as inside

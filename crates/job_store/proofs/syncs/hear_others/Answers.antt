@@ -28,7 +28,8 @@ returns-in_err-news-clause-callers g c =
     let told = c.tell.new.pass in
     let tells = keeps_told (λ p. p.ticket) (λ p. IsWhole p.ticket p.receipts.items) teller told c.tell.ensures.ticket
     (λ w. ap (λ v. v.items) c.tell.ensures.receipts ∙ w ∙ sym (ap (λ q. q.known.part.receipts) c.tell.ensures.ticket)) in
-    let kept = one_keeps (λ p. p.ticket) (λ p. IsWhole p.ticket p.receipts.items) c.args.passes.now l.passes l.place teller told l.invariant.kept at tells in
+    let kept = one_keeps (λ p. p.ticket) (λ p. IsWhole p.ticket p.receipts.items) c.args.passes.now l.passes l.place teller told
+    l.invariant.kept at tells in
     all_callers (λ p. p.ticket) (λ p. IsWhole p.ticket p.receipts.items) c.args.passes.now _ kept g.N.HeapName.heap c.requires.callers
 
 pub returns-in_err-news-clause-whole : goal.returns-in_err-news-clause-whole
@@ -40,7 +41,8 @@ returns-in_err-news-clause-whole g c =
     let told = c.tell.new.pass in
     let tells = keeps_told (λ p. p.ticket) (λ p. IsWhole p.ticket p.receipts.items) teller told c.tell.ensures.ticket
     (λ w. ap (λ v. v.items) c.tell.ensures.receipts ∙ w ∙ sym (ap (λ q. q.known.part.receipts) c.tell.ensures.ticket)) in
-    let kept = one_keeps (λ p. p.ticket) (λ p. IsWhole p.ticket p.receipts.items) c.args.passes.now l.passes l.place teller told l.invariant.kept at tells in
+    let kept = one_keeps (λ p. p.ticket) (λ p. IsWhole p.ticket p.receipts.items) c.args.passes.now l.passes l.place teller told
+    l.invariant.kept at tells in
     all_whole (λ p. p.ticket) (λ p. IsWhole p.ticket p.receipts.items) c.args.passes.now _ kept
 
 pub returns-in_err-news-clause-gates : goal.returns-in_err-news-clause-gates
@@ -59,7 +61,8 @@ returns-in_err-news-clause-seen g c =
     let told = c.tell.new.pass in
     let tells = keeps_told (λ p. p.ticket) (λ p. IsWhole p.ticket p.receipts.items) teller told c.tell.ensures.ticket
     (λ w. ap (λ v. v.items) c.tell.ensures.receipts ∙ w ∙ sym (ap (λ q. q.known.part.receipts) c.tell.ensures.ticket)) in
-    let kept = one_keeps (λ p. p.ticket) (λ p. IsWhole p.ticket p.receipts.items) c.args.passes.now l.passes l.place teller told l.invariant.kept at tells in
+    let kept = one_keeps (λ p. p.ticket) (λ p. IsWhole p.ticket p.receipts.items) c.args.passes.now l.passes l.place teller told
+    l.invariant.kept at tells in
     all_answers (λ p. p.ticket) (λ p. IsWhole p.ticket p.receipts.items) c.args.passes.now _ kept
 
 pub hear-requires-clause-pass : goal.hear-requires-clause-pass
@@ -71,10 +74,12 @@ hear-requires-clause-pass g c =
     let told = c.tell.new.pass in
     let tells = keeps_told (λ p. p.ticket) (λ p. IsWhole p.ticket p.receipts.items) teller told c.tell.ensures.ticket
     (λ w. ap (λ v. v.items) c.tell.ensures.receipts ∙ w ∙ sym (ap (λ q. q.known.part.receipts) c.tell.ensures.ticket)) in
-    let kept = one_keeps (λ p. p.ticket) (λ p. IsWhole p.ticket p.receipts.items) c.args.passes.now l.passes l.place teller told l.invariant.kept at tells in
+    let kept = one_keeps (λ p. p.ticket) (λ p. IsWhole p.ticket p.receipts.items) c.args.passes.now l.passes l.place teller told
+    l.invariant.kept at tells in
     let at_first = slice_get-get_or (set l.passes l.place told) 0 c.index-passes-0.result
     (let many = length-set l.passes l.place told in let n = l.auto.passes in let some = c.requires.some in omega (arith, many, n, some)) in
-    let all = all_callers (λ p. p.ticket) (λ p. IsWhole p.ticket p.receipts.items) c.args.passes.now _ kept g.N.HeapName.heap c.requires.callers in
+    let all = all_callers (λ p. p.ticket) (λ p. IsWhole p.ticket p.receipts.items) c.args.passes.now _ kept g.N.HeapName.heap
+    c.requires.callers in
     (all.each 0 _ (row_in_map (λ p. p.ticket) (set l.passes l.place told) 0 _ at_first)).0
     ∙ sym (ap (λ h. h.table) c.heap-in-loop-place.ensures.heap)
 
@@ -92,10 +97,12 @@ loop-place-preserved g c =
     let first = get_or (set l.passes l.place told) 0 c.index-passes-0.result in
     let heard = c.hear.new.pass in
     let news = c.in_ok-news.news in
-    let hears = keeps_heard (λ p. p.ticket) (λ p. IsWhole p.ticket p.receipts.items) first heard news.known c.hear.ensures.caller c.hear.ensures.seen.own
+    let hears = keeps_heard (λ p. p.ticket) (λ p. IsWhole p.ticket p.receipts.items) first heard news.known c.hear.ensures.caller
+    c.hear.ensures.seen.own
     c.hear.ensures.greater
     (λ w. ap (λ v. v.items) c.hear.ensures.receipts ∙ w ∙ sym (ap (λ q. q.known.part.receipts) c.hear.ensures.caller)) in
-    one_more (λ p. p.ticket) (λ p. IsWhole p.ticket p.receipts.items) (λ p. p.gate) c.args.passes.now l.passes l.place teller told first heard
+    one_more (λ p. p.ticket) (λ p. IsWhole p.ticket p.receipts.items) (λ p. p.gate) c.args.passes.now l.passes l.place teller told first
+    heard
     l.invariant l.auto.place at at_first tells hears c.tell.ensures.gate c.hear.ensures.gate
     (ap (λ q. q.known.entries) c.tell.ensures.ticket) c.hear.ensures.seen.own
     (subst (λ (n : NewsShown). AreFronts heard.ticket.known.entries n.known.entries) c.in_ok-news.ensures.news c.hear.ensures.seen.others)

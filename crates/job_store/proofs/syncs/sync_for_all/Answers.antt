@@ -21,8 +21,10 @@ returns-clause-callers g c =
     let some = c.requires.some in
     let at = slice_get-get_or news 0 c.index-passes-0.result (omega (arith, many, some)) in
     let first = get_or news 0 c.index-passes-0.result in
-    let kept = one_keeps (λ p. p.ticket) (λ p. IsWhole p.ticket p.receipts.items) news news 0 first c.sync_one.new.pass (all_keep (λ p. p.ticket) (λ p. IsWhole p.ticket p.receipts.items) news) at
-    (keeps_synced (λ p. p.ticket) (λ p. IsWhole p.ticket p.receipts.items) first c.sync_one.new.pass c.sync_one.ensures.seen c.sync_one.ensures.whole) in
+    let kept = one_keeps (λ p. p.ticket) (λ p. IsWhole p.ticket p.receipts.items) news news 0 first c.sync_one.new.pass
+    (all_keep (λ p. p.ticket) (λ p. IsWhole p.ticket p.receipts.items) news) at
+    (keeps_synced (λ p. p.ticket) (λ p. IsWhole p.ticket p.receipts.items) first c.sync_one.new.pass c.sync_one.ensures.seen
+    c.sync_one.ensures.whole) in
     all_callers (λ p. p.ticket) (λ p. IsWhole p.ticket p.receipts.items) news _ kept g.N.HeapName.heap c.hear_others.ensures.callers
 
 pub returns-clause-seen : goal.returns-clause-seen
@@ -32,8 +34,10 @@ returns-clause-seen g c =
     let some = c.requires.some in
     let at = slice_get-get_or news 0 c.index-passes-0.result (omega (arith, many, some)) in
     let first = get_or news 0 c.index-passes-0.result in
-    let kept = one_keeps (λ p. p.ticket) (λ p. IsWhole p.ticket p.receipts.items) news news 0 first c.sync_one.new.pass (all_keep (λ p. p.ticket) (λ p. IsWhole p.ticket p.receipts.items) news) at
-    (keeps_synced (λ p. p.ticket) (λ p. IsWhole p.ticket p.receipts.items) first c.sync_one.new.pass c.sync_one.ensures.seen c.sync_one.ensures.whole) in
+    let kept = one_keeps (λ p. p.ticket) (λ p. IsWhole p.ticket p.receipts.items) news news 0 first c.sync_one.new.pass
+    (all_keep (λ p. p.ticket) (λ p. IsWhole p.ticket p.receipts.items) news) at
+    (keeps_synced (λ p. p.ticket) (λ p. IsWhole p.ticket p.receipts.items) first c.sync_one.new.pass c.sync_one.ensures.seen
+    c.sync_one.ensures.whole) in
     keep_on (map (λ p. p.ticket) c.args.passes.now) (map (λ p. p.ticket) news) _ c.hear_others.ensures.seen
     (all_answers (λ p. p.ticket) (λ p. IsWhole p.ticket p.receipts.items) news _ kept)
 

@@ -6,7 +6,7 @@ use Rattle.std.specs.FinMap as finite
 use Rattle.mont_base.specs.declared.kinds.UnitKind.TheVariants as kinds
 use Rattle.mont_base.specs.Layout.{Shape, IsLayout, kind_of}
 use Rattle.slots.specs.RegionBeginning.{fresh_books}
-use Rattle.store.specs.declared.structure.Structure.TheVariants.{Map, Queue, Graph, Ordered}
+use Rattle.store.specs.declared.unit_structure.Structure.TheVariants.{Map, Queue, Graph, Ordered}
 use Rattle.store.proofs.FirstSeats.{seat_begins, first_is_empty, first_stands_at}
 use Rattle.store.specs.MapBoxes.{RefusesBox}
 use Rattle.store.proofs.BoxesGiven.{gives_next, gives_to_other, refuses_next}

@@ -5,7 +5,7 @@ use Rattle.std.specs.Vec.Iter.{into_iter_items}
 use Rattle.std.specs.FinMap as finite
 use Rattle.mont_base.specs.declared.kinds.UnitKind.TheVariants as kinds
 use Rattle.shard_map.specs.MapShard.{KeepsPairs}
-use Rattle.store.specs.declared.structure.Structure.TheVariants.{Map, Queue, Graph, Ordered}
+use Rattle.store.specs.declared.unit_structure.Structure.TheVariants.{Map, Queue, Graph, Ordered}
 use Rattle.store.specs.MapBoxes.{RefusesBox}
 use Rattle.store.proofs.BoxesGiven.{gives_next, gives_to_other, refuses_next}
 use Rattle.store.proofs.Resumed.{found_inside, found_kind, found_layout, found_live, kind_in_books, make_structure, resumed_stands, structure_in_books}

@@ -1,7 +1,7 @@
 use Rattle.std.proofs.Common.{ℕ, subst}
 use Rattle.shard_map.specs.MovedNumbers.{of_high, of_low}
-use Rattle.store.specs.declared.structure.Structure.{Structure}
-use Rattle.store.specs.declared.structure.Structure.TheVariants.{Map}
+use Rattle.store.specs.declared.unit_structure.Structure.{Structure}
+use Rattle.store.specs.declared.unit_structure.Structure.TheVariants.{Map}
 use Rattle.store.specs.Shifting.{AreOfTwoUnits}
 use Rattle.store.specs.UnitAt.{StandsAt, region_of}
 use Rattle.structure_call.specs.CountedNumbers.{HasCounted}

@@ -5,7 +5,7 @@ ghost use Rattle.montage_tool.specs.Devices.{IsRead, ended_as, source_seen};
 ghost use Rattle.montage_tool.specs.Inputs.{IsImageOf};
 ghost use Rattle.montage_tool.specs.Service.{AreContents, RefusesImage};
 
-use crate::reading::image_of;
+use crate::read_inputs::image_of;
 use crate::status::{SourceName, Status};
 use job_store::{contents_in, migrated_if_old};
 use job_text::write_contents;

@@ -2,7 +2,7 @@ use Rattle.std.proofs.Common.{◌+◌}
 use Rattle.mont_image.specs.declared.image_text.TheConstants.{IMAGE_BYTES}
 use Rattle.montage_tool.specs.Devices.{source_seen}
 use Rattle.montage_tool.proofs.ToldContents.{read_behind}
-use Rattle.montage_tool.proofs.contents.contents_of.Goals as goal
+use Rattle.montage_tool.proofs.told_contents.contents_of.Goals as goal
 
 pub returns-clause-source : goal.returns-clause-source
 returns-clause-source g c =

@@ -1,6 +1,6 @@
 use Rattle.montage_tool.specs.Devices.{source_seen}
 use Rattle.montage_tool.proofs.Readings.{image_read}
-use Rattle.montage_tool.proofs.reading.image_of.Goals as goal
+use Rattle.montage_tool.proofs.read_inputs.image_of.Goals as goal
 
 pub returns-clause-source : goal.returns-clause-source
 returns-clause-source g c =

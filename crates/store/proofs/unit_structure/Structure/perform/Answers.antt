@@ -2,7 +2,7 @@ use Rattle.std.proofs.Common.{sym, ap, ◌∙◌}
 use Rattle.mont_base.specs.Layout.{is_of_kind, kind_of}
 use Rattle.store.specs.UnitAt.{region_of, structure_kind}
 use Rattle.store.proofs.AskedKeys.{asks_key}
-use Rattle.store.proofs.structure.Structure.perform.Goals as goal
+use Rattle.store.proofs.unit_structure.Structure.perform.Goals as goal
 
 pub perform-requires-clause-key : goal.perform-requires-clause-key
 perform-requires-clause-key g c =

@@ -1,6 +1,6 @@
 use Rattle.std.proofs.Common.{arith}
 use Rattle.store.proofs.SeatsTaken.{is_inside, as_many, one_taken}
-use Rattle.store.proofs.closing.give_seat.Goals as goal
+use Rattle.store.proofs.store_closing.give_seat.Goals as goal
 
 pub push_reserved-requires : goal.push_reserved-requires
 push_reserved-requires g c =

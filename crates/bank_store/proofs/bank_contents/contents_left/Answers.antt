@@ -2,7 +2,7 @@ use Rattle.std.proofs.Common.{sym, subst}
 use Rattle.mont_base.specs.Image.{IsWellFormed}
 use Rattle.mont_base.specs.Layout.{Shape}
 use Rattle.bank_store.proofs.Refused.{only_memory}
-use Rattle.bank_store.proofs.image_contents.contents_left.Goals as goal
+use Rattle.bank_store.proofs.bank_contents.contents_left.Goals as goal
 
 pub out_of_memory-requires : goal.out_of_memory-requires
 out_of_memory-requires g c =

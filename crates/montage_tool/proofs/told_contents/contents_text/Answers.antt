@@ -4,7 +4,7 @@ use Rattle.job_store.proofs.Resumed.{refusal_is}
 use Rattle.montage_tool.specs.Service.{RefusesImage}
 use Rattle.montage_tool.specs.StatusCauses.{of_words}
 use Rattle.montage_tool.proofs.ToldContents.{contents_are, refused_now}
-use Rattle.montage_tool.proofs.contents.contents_text.Goals as goal
+use Rattle.montage_tool.proofs.told_contents.contents_text.Goals as goal
 
 pub returns-in_err-contents-clause-refused : goal.returns-in_err-contents-clause-refused
 returns-in_err-contents-clause-refused g c =

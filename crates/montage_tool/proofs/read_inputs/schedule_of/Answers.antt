@@ -2,7 +2,7 @@ use Rattle.replay.specs.declared.schedule_limits.TheConstants.{SCHEDULE_BYTES}
 use Rattle.montage_tool.specs.declared.status.SourceName.TheVariants as sources
 use Rattle.montage_tool.specs.Devices.{IsRead, source_seen}
 use Rattle.montage_tool.proofs.Readings.{read_as, schedule_read, schedule_unread}
-use Rattle.montage_tool.proofs.reading.schedule_of.Goals as goal
+use Rattle.montage_tool.proofs.read_inputs.schedule_of.Goals as goal
 
 pub returns-in_err-read_schedule-clause-source : goal.returns-in_err-read_schedule-clause-source
 returns-in_err-read_schedule-clause-source g c =

@@ -4,7 +4,7 @@ ghost use Rattle.mont_base.specs.declared.constants.TheConstants.{MOST_UNITS};
 ghost use Rattle.mont_base.specs.Layout.{units_of};
 ghost use Rattle.plain.specs.States.{states_of};
 ghost use Rattle.store_stop.specs.ClosedStores.{IsClosedOn};
-ghost use Rattle.store.specs.Closing.{HasBase, IsUnlocked};
+ghost use Rattle.store.specs.StoreClosing.{HasBase, IsUnlocked};
 ghost use Rattle.store.specs.SeatsBack.{AreSeatsBelow};
 ghost use Rattle.store.specs.Store.{AreAllCallers};
 

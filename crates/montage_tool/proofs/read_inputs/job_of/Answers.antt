@@ -2,7 +2,7 @@ use Rattle.job_text.specs.declared.limits.TheConstants.{READ_BYTES}
 use Rattle.montage_tool.specs.declared.status.SourceName.TheVariants as sources
 use Rattle.montage_tool.specs.Devices.{IsRead, source_seen}
 use Rattle.montage_tool.proofs.Readings.{job_read, read_as, job_unread}
-use Rattle.montage_tool.proofs.reading.job_of.Goals as goal
+use Rattle.montage_tool.proofs.read_inputs.job_of.Goals as goal
 
 pub returns-in_err-read_job-clause-source : goal.returns-in_err-read_job-clause-source
 returns-in_err-read_job-clause-source g c =

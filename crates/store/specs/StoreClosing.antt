@@ -8,7 +8,7 @@ use Rattle.heap_rule.specs.declared.rule.Opening.{Opening}
 use Rattle.heap.specs.HeapShown.{HeapShown}
 use Rattle.heap.specs.Stops.{IsSeatOfUnit, AreAtHome}
 use Rattle.store_stop.specs.Headline.{IsBaseOf}
-use Rattle.store.specs.declared.closing.Unlocked.{Unlocked}
+use Rattle.store.specs.declared.store_closing.Unlocked.{Unlocked}
 
 -- The heap, the seats of all its units, by their numbers and each with its list at home, that of
 -- the advancer, and what the heap opened with.
