@@ -26,8 +26,7 @@ impl fmt::Display for TextWord {
             return write!(f, "%");
         }
         for at in 0..text.len() {
-            let byte = ByteWord(text.byte(at));
-            write!(f, "{byte}")?;
+            ByteWord(text.byte(at)).fmt(f)?;
         }
         Ok(())
     }
@@ -46,8 +45,7 @@ impl fmt::Display for ByteWord {
     fn fmt<W: fmt::Write>(&self, f: &mut fmt::Formatter<W>) -> fmt::Result {
         let byte = self.0;
         if is_bare(byte) {
-            let own = char::from(byte);
-            write!(f, "{own}")
+            f.write_char(char::from(byte))
         } else {
             write!(f, "%{byte:02x}")
         }
