@@ -1,10 +1,11 @@
 // The runs of the ranges in histories.
 ghost use Rattle.std.specs.Prelude.{◌≡◌, ◌++◌, IfOk, OnOk, All, slice_get, Some};
+ghost use Rattle.std.specs.List.{list_any};
 ghost use Rattle.std.specs.Option.{option_to_list};
 ghost use Rattle.mont_base.specs.History.{runs_of, IsShort};
 ghost use Rattle.mont_base.specs.State.{State, IsShortOp, run_of};
 ghost use Rattle.plain.specs.States.{state_of, states_of};
-ghost use Rattle.job_report.specs.FoundRuns.{AreRuns};
+ghost use Rattle.job_report.specs.FoundRuns.{AreRuns, is_range};
 
 use job_text::Run;
 use mont_base::{Entry, MOST_PAIRS, Op, PairList, Sequence, Unit};
@@ -50,13 +51,30 @@ fn runs_of(alloc: Global, base: &UnitState, history: &[Entry]) -> Result<Sequenc
     ensures { IfOk result
         (λ runs. All IsShort history.now → runs ≡ runs_of (state_of base.now) history.now) }
 {
-    let mut state = kept_apart(base)?;
     let mut runs = Sequence::new(alloc);
+    if !has_range(history) {
+        return Ok(runs);
+    }
+    let mut state = kept_apart(base)?;
     for entry in history {
         add_run(alloc, &state, &entry.op, &mut runs)?;
         let _ = state.apply(&entry.op)?;
     }
     Ok(runs)
+}
+
+// Whether a history has a range. One without needs no replay.
+fn has_range(history: &[Entry]) -> bool
+    ensures { result ≡ list_any is_range history.now }
+{
+    history.iter().any(|entry| is_range(entry))
+}
+
+// Whether an entry is of a range.
+fn is_range(entry: &Entry) -> bool
+    ensures { result ≡ is_range entry.now }
+{
+    matches!(entry.op, Op::ORange { .. })
 }
 
 // The same state, kept apart.

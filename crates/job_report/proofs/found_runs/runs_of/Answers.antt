@@ -1,6 +1,6 @@
 use Rattle.mont_base.specs.History.{runs_of}
 use Rattle.plain.specs.States.{state_of}
-use Rattle.job_report.proofs.RunLaws.{at_entry}
+use Rattle.job_report.proofs.RunLaws.{at_entry, no_runs}
 use Rattle.job_report.proofs.found_runs.runs_of.Goals as goal
 
 pub loop-entry-preserved : goal.loop-entry-preserved
