@@ -1,11 +1,11 @@
 // Keys and values of maps as words. A byte that can be seen stands for itself, but `%`. Any other
 // is `%` and two digits of base 16, and the empty text is `%` alone.
-ghost use Rattle.std.specs.Prelude.{◌≡◌, ◌≢◌, ◌<◌, ◌+◌, ◌++◌, ℕ, List, MatchOption};
+ghost use Rattle.std.specs.Prelude.{◌≡◌, ◌≢◌, ◌<◌, ◌+◌, ◌++◌, [], ℕ, List, IfSome, MatchOption};
 ghost use Rattle.mont_base.specs.Texts.{IsText};
 ghost use Rattle.job_text.specs.Spelling.{hex_digit, is_bare, byte_word, text_word};
 
 use mont_base::{TEXT_BYTES, Text};
-use std::fmt;
+use std::{fmt, str};
 
 /// What the empty text is spelled by, and what another's first byte is not.
 const MARK: u8 = b'%';
@@ -25,11 +25,31 @@ impl fmt::Display for TextWord {
         if text.is_empty() {
             return write!(f, "%");
         }
+        let mut held = [0; TEXT_BYTES];
+        if let Some(word) = bare_word(&text, &mut held) {
+            return f.write_str(word);
+        }
         for at in 0..text.len() {
             ByteWord(text.byte(at)).fmt(f)?;
         }
         Ok(())
     }
+}
+
+// The word of a text all of whose bytes stand for themselves, in memory that is handed in.
+fn bare_word<'a>(text: &Text, held: &'a mut [u8; TEXT_BYTES]) -> Option<&'a str>
+    requires { text.now ≢ [] }
+    ensures { IfSome result (λ word. word.now ≡ text_word text.now) }
+{
+    let len = text.len() as usize;
+    for at in 0..len {
+        let byte = text.byte(at as u64);
+        if !is_bare(byte) {
+            return None;
+        }
+        held[at] = byte;
+    }
+    str::from_utf8(&held[..len]).ok()
 }
 
 // A byte of a text, as it is spelled.
