@@ -12,7 +12,7 @@ use Rattle.mont_base.specs.declared.operation.Op.{Op}
 use Rattle.mont_base.specs.declared.operation.Op.TheVariants as ops
 use Rattle.mont_base.specs.History.{runs_of, IsShort}
 use Rattle.mont_base.specs.Layout.{Shape}
-use Rattle.mont_base.specs.State.{State, MapOf, Run, IsShortOp, step, run_of, unit_of_op, unit_aimed, range_aim, can_range}
+use Rattle.mont_base.specs.State.{State, Run, IsShortOp, step, run_of, unit_of_op, unit_aimed, range_aim, can_range}
 use Rattle.plain.proofs.Lists.{opened}
 use Rattle.core_steps.proofs.Decisions.{both, le_true, lt_true, lt_false}
 use Rattle.core_steps.proofs.RowFacts.{row_before, row_last, same_item}

@@ -1,5 +1,5 @@
 // A report is held against an image, and the verdict told.
-ghost use Rattle.std.specs.Prelude.{◌≡◌, ◌+◌, ◌++◌, [], ◌∷◌, List, ℕ, IfOk, IfErr, OnOk};
+ghost use Rattle.std.specs.Prelude.{◌≡◌, ◌+◌, ◌++◌, [], ◌∷◌, IfOk, IfErr, OnOk};
 ghost use Rattle.std.specs.Io.KnownBytes.{IsAtEnd};
 ghost use Rattle.report_check.specs.VerdictWords.{verdict_words};
 ghost use Rattle.montage_tool.specs.Devices.{IsRead, StopsAtJob, ended_as, source_seen};

@@ -10,7 +10,7 @@ use Rattle.mont_base.specs.declared.gate.Gate.{Ghosts}
 use Rattle.mont_base.specs.declared.record.Held.{Held}
 use Rattle.mont_base.specs.Image.{clock_of, empty_states, records_of, IsRecovered}
 use Rattle.mont_base.specs.State.{State}
-use Rattle.mont_base.specs.Layout.{Shape, IsLayout, is_of_kind, kind_of, units_of}
+use Rattle.mont_base.specs.Layout.{Shape, IsLayout, kind_of, units_of}
 use Rattle.core_steps.specs.declared.parts.UnitPart.{UnitPart}
 use Rattle.core_steps.specs.Fresh.{fresh_unit, fresh_words}
 use Rattle.core_steps.specs.Opened.{recovered_unit, by_version}

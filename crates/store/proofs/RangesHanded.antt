@@ -2,14 +2,13 @@
 use Rattle.std.proofs.Common.{◌≡◌, ℕ, true, List, refl, sym, ap, ◌∙◌, subst}
 use Rattle.std.specs.Prelude.{Some}
 use Rattle.mont_base.specs.declared.kinds.UnitKind.TheVariants as kinds
-use Rattle.mont_base.specs.declared.operation.Entry.{Entry}
 use Rattle.mont_base.specs.declared.operation.Op.{Op}
 use Rattle.mont_base.specs.declared.operation.Op.TheVariants as ops
 use Rattle.mont_base.specs.declared.operation.Receipt.{Receipt}
 use Rattle.mont_base.specs.History.{state_after}
 use Rattle.mont_base.specs.Image.{clock_of, IsRecovered}
 use Rattle.mont_base.specs.Layout.{Shape, kind_of}
-use Rattle.mont_base.specs.State.{State, MapOf, QueueOf, GraphOf, Pairs, Run, is_state_of, range_of, run_of, step}
+use Rattle.mont_base.specs.State.{State, MapOf, QueueOf, GraphOf, Pairs, Run, is_state_of, run_of, step}
 use Rattle.mont_laws.specs.Structures.{HasPairs, HasStructure}
 use Rattle.mont_laws.proofs.SameKind.{state_fits}
 use Rattle.mont_laws.proofs.Shown.{one_state}

@@ -1,5 +1,5 @@
 -- The regions and the objects with which a store goes on.
-use Rattle.std.specs.Prelude.{◌≡◌, ℕ, List, length, All}
+use Rattle.std.specs.Prelude.{◌≡◌, List, length, All}
 use Rattle.mont_base.specs.declared.record.Object.{Object}
 use Rattle.mont_base.specs.Layout.{units_of}
 use Rattle.core_steps.specs.Places.{EachAt}

@@ -1,5 +1,5 @@
 use denote.Param.Send.{sendable}
-use Rattle.std.proofs.Common.{◌≡◌, List, map, subst}
+use Rattle.std.proofs.Common.{List, map, subst}
 use Rattle.std.specs.Prelude.{Option, Some, IfOk, OnErr}
 use Rattle.job_text.specs.declared.outcome.Outcome.{Outcome}
 use Rattle.heap.specs.HeapShown.{HeapShown}
