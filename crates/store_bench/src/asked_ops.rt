@@ -2,7 +2,7 @@
 ghost use Rattle.std.specs.Prelude.{All, IsTrue};
 ghost use Rattle.store_bench.specs.AskableOps.{CanBeAsked};
 
-use mont_base::{Layout, Op, UnitKind};
+use mont_base::{Layout, Op};
 
 // Whether all of them can be asked.
 pub(crate) fn can_all_be_asked(layout: &Layout, ops: &[Op]) -> bool
@@ -19,15 +19,5 @@ pub(crate) fn can_all_be_asked(layout: &Layout, ops: &[Op]) -> bool
 fn can_be_asked(layout: &Layout, op: &Op) -> bool
     ensures { IsTrue result → CanBeAsked layout.now op.now }
 {
-    match *op {
-        Op::Put { .. } | Op::Get { .. } | Op::Del { .. } => layout.maps() > 0,
-        Op::Enq { unit, .. } | Op::Deq { unit } => {
-            layout.kinds().get(unit) == Some(UnitKind::Queue)
-        }
-        Op::AddV { unit, .. }
-        | Op::AddE { unit, .. }
-        | Op::DelE { unit, .. }
-        | Op::Degree { unit, .. } => layout.kinds().get(unit) == Some(UnitKind::Graph),
-        _ => true,
-    }
+    op.unit(*layout).is_some()
 }
