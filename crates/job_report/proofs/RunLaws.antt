@@ -1,5 +1,5 @@
 -- The runs of a history, entry by entry, and of histories, unit by unit.
-use Rattle.std.proofs.Common.{◌≡◌, ℕ, ◌+◌, ◌<◌, ◌≤◌, Bool, true, false, List, [], ◌∷◌, ◌++◌, length, drop, get_or, Option, Some, None, refl, sym, ap, ◌∙◌, subst, arith}
+use Rattle.std.proofs.Common.{◌≡◌, ℕ, ◌+◌, ◌<◌, ◌≤◌, Bool, true, false, ◌||◌, List, [], ◌∷◌, ◌++◌, length, drop, get_or, Option, Some, None, refl, sym, ap, ◌∙◌, subst, arith}
 use Rattle.std.specs.Prelude.{All, nat_le, nat_lt, slice_get}
 use Rattle.std.specs.List.{cons_option, list_any}
 use Rattle.std.specs.Option.{option_to_list}
@@ -12,7 +12,7 @@ use Rattle.mont_base.specs.declared.operation.Op.{Op}
 use Rattle.mont_base.specs.declared.operation.Op.TheVariants as ops
 use Rattle.mont_base.specs.History.{runs_of, IsShort}
 use Rattle.mont_base.specs.Layout.{Shape}
-use Rattle.mont_base.specs.State.{State, Run, IsShortOp, step, run_of, unit_of_op, unit_aimed, range_aim, can_range}
+use Rattle.mont_base.specs.State.{State, MapOf, Run, IsShortOp, step, run_of, unit_of_op, unit_aimed, range_aim, can_range}
 use Rattle.plain.proofs.Lists.{opened}
 use Rattle.core_steps.proofs.Decisions.{both, le_true, lt_true, lt_false}
 use Rattle.core_steps.proofs.RowFacts.{row_before, row_last, same_item}
@@ -60,7 +60,8 @@ at_entry s next h i e inside is so_far more all was stepped short added =
 -- ---- a history without a range
 no_run : (s : State) (op : Op) → of_range op ≡ false → run_of s op ≡ None
 no_run s (ops.ORange unit from to most) is = absurd (cc)
-no_run s _ is = refl
+no_run (MapOf m) _ is = refl
+no_run _ _ is = refl
 
 neither : (a b : Bool) → (a || b) ≡ false → (a ≡ false) × (b ≡ false)
 neither false b is = (refl, is)

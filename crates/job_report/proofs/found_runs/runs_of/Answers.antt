@@ -1,7 +1,13 @@
+use Rattle.std.proofs.Common.{sym, ◌∙◌}
 use Rattle.mont_base.specs.History.{runs_of}
 use Rattle.plain.specs.States.{state_of}
 use Rattle.job_report.proofs.RunLaws.{at_entry, no_runs}
 use Rattle.job_report.proofs.found_runs.runs_of.Goals as goal
+
+pub returns-then-not-has_range : goal.returns-then-not-has_range
+returns-then-not-has_range c short =
+    c.new-runs.ensures
+    ∙ sym (no_runs (state_of c.args.base.now) c.args.history.now (sym c.has_range.ensures ∙ c.if-not-has_range.true))
 
 pub loop-entry-preserved : goal.loop-entry-preserved
 loop-entry-preserved c short =
