@@ -58,12 +58,6 @@ answer_seen u k o r run h i is fits =
     (All-append IsWord (reply_words r) (run_words run) (reply_seen (is_of_key o) r fits) (run_seen run)))))
 
 -- ---- words that can be seen
-then_seen : {ws : List (List ℕ)} (w : List ℕ) → IsWord w → All IsWord ws → All IsWord (w ∷ ws)
-then_seen {ws} w is rest = All-cons IsWord w ws is rest
-
-number_then : {ws : List (List ℕ)} (n : ℕ) → IsNumber n → All IsWord ws → All IsWord (decimal n ∷ ws)
-number_then {ws} n is rest = then_seen (decimal n) (decimal_seen n is) rest
-
 part_seen : (p : Part) → IsPartName p → All IsWord (part_words p)
 part_seen (parts.Unit u) is = two_seen _ _ (seen_tested (codes "unit") refl) (decimal_seen u is)
 part_seen (parts.Caller k) is = two_seen _ _ (seen_tested (codes "caller") refl) (decimal_seen k is)
@@ -73,53 +67,59 @@ abbrev pub AllSeen : Event → Run → Type 0
 AllSeen e run = All IsWord (event_words e run)
 
 pub event_seen : (e : Event) (run : Run) → IsNamed e → IsRunBeside e run → AllSeen e run
-event_seen (events.Look unit) run h beside =
-    then_seen (codes "look") (seen_tested (codes "look") refl)
-    (number_then unit h (All-nil IsWord))
-event_seen (events.Tell unit epoch) run h beside =
-    then_seen (codes "tell") (seen_tested (codes "tell") refl)
-    (number_then unit h.0 (number_then epoch h.1 (All-nil IsWord)))
-event_seen (events.Confirm unit) run h beside =
-    then_seen (codes "confirm") (seen_tested (codes "confirm") refl)
-    (number_then unit h (All-nil IsWord))
-event_seen (events.Store unit slot field value) run h beside =
-    then_seen (codes "store") (seen_tested (codes "store") refl)
-    (number_then unit h.0 (number_then slot h.1 (number_then field h.2 (number_then value h.3 (All-nil IsWord)))))
-event_seen (events.Leave unit caller op reply) run h beside =
-    then_seen (codes "leave") (seen_tested (codes "leave") refl)
-    (answer_seen unit caller op reply run h.0 h.1 h.2 h.3)
-event_seen (events.Read unit caller op reply) run h beside =
-    then_seen (codes "read") (seen_tested (codes "read") refl)
-    (answer_seen unit caller op reply run h.0 h.1 h.2 h.3)
-event_seen (events.Withdraw unit) run h beside =
-    then_seen (codes "withdraw") (seen_tested (codes "withdraw") refl)
-    (number_then unit h (All-nil IsWord))
-event_seen (events.Freeze unit caller) run h beside =
-    then_seen (codes "freeze") (seen_tested (codes "freeze") refl)
-    (number_then unit h.0 (number_then caller h.1 (All-nil IsWord)))
-event_seen (events.LoadDurable part) run h beside =
-    then_seen (codes "durable") (seen_tested (codes "durable") refl)
-    (part_seen part h)
-event_seen (events.CloseLabel unit slot) run h beside =
-    then_seen (codes "close") (seen_tested (codes "close") refl)
-    (number_then unit h.0 (number_then slot h.1 (All-nil IsWord)))
-event_seen (events.PersistClose unit) run h beside =
-    then_seen (codes "persistclose") (seen_tested (codes "persistclose") refl)
-    (number_then unit h (All-nil IsWord))
-event_seen events.Check run h beside =
-    then_seen (codes "check") (seen_tested (codes "check") refl)
+event_seen (events.Look unit) run h beside = All-cons IsWord (codes "look") (decimal unit ∷ []) (seen_tested (codes "look") refl)
+    (All-cons IsWord (decimal unit) ([]) (decimal_seen unit h)
+    (All-nil IsWord))
+event_seen (events.Tell unit epoch) run h beside = All-cons IsWord (codes "tell") (decimal unit ∷ decimal epoch ∷ [])
+    (seen_tested (codes "tell") refl)
+    (All-cons IsWord (decimal unit) (decimal epoch ∷ []) (decimal_seen unit h.0)
+    (All-cons IsWord (decimal epoch) ([]) (decimal_seen epoch h.1)
+    (All-nil IsWord)))
+event_seen (events.Confirm unit) run h beside = All-cons IsWord (codes "confirm") (decimal unit ∷ []) (seen_tested (codes "confirm") refl)
+    (All-cons IsWord (decimal unit) ([]) (decimal_seen unit h)
+    (All-nil IsWord))
+event_seen (events.Store unit slot field value) run h beside = All-cons IsWord (codes "store")
+    (decimal unit ∷ decimal slot ∷ decimal field ∷ decimal value ∷ []) (seen_tested (codes "store") refl)
+    (All-cons IsWord (decimal unit) (decimal slot ∷ decimal field ∷ decimal value ∷ []) (decimal_seen unit h.0)
+    (All-cons IsWord (decimal slot) (decimal field ∷ decimal value ∷ []) (decimal_seen slot h.1)
+    (All-cons IsWord (decimal field) (decimal value ∷ []) (decimal_seen field h.2)
+    (All-cons IsWord (decimal value) ([]) (decimal_seen value h.3)
+    (All-nil IsWord)))))
+event_seen (events.Leave unit caller op reply) run h beside = All-cons IsWord (codes "leave")
+    (decimal unit ∷ decimal caller ∷ answer_words op reply run)
+    (seen_tested (codes "leave") refl) (answer_seen unit caller op reply run h.0 h.1 h.2 h.3)
+event_seen (events.Read unit caller op reply) run h beside = All-cons IsWord (codes "read")
+    (decimal unit ∷ decimal caller ∷ answer_words op reply run)
+    (seen_tested (codes "read") refl) (answer_seen unit caller op reply run h.0 h.1 h.2 h.3)
+event_seen (events.Withdraw unit) run h beside = All-cons IsWord (codes "withdraw") (decimal unit ∷ [])
+    (seen_tested (codes "withdraw") refl)
+    (All-cons IsWord (decimal unit) ([]) (decimal_seen unit h)
+    (All-nil IsWord))
+event_seen (events.Freeze unit caller) run h beside = All-cons IsWord (codes "freeze") (decimal unit ∷ decimal caller ∷ [])
+    (seen_tested (codes "freeze") refl)
+    (All-cons IsWord (decimal unit) (decimal caller ∷ []) (decimal_seen unit h.0)
+    (All-cons IsWord (decimal caller) ([]) (decimal_seen caller h.1)
+    (All-nil IsWord)))
+event_seen (events.LoadDurable part) run h beside = All-cons IsWord (codes "durable") (part_words part)
+    (seen_tested (codes "durable") refl) (part_seen part h)
+event_seen (events.CloseLabel unit slot) run h beside = All-cons IsWord (codes "close") (decimal unit ∷ decimal slot ∷ [])
+    (seen_tested (codes "close") refl)
+    (All-cons IsWord (decimal unit) (decimal slot ∷ []) (decimal_seen unit h.0)
+    (All-cons IsWord (decimal slot) ([]) (decimal_seen slot h.1)
+    (All-nil IsWord)))
+event_seen (events.PersistClose unit) run h beside = All-cons IsWord (codes "persistclose") (decimal unit ∷ [])
+    (seen_tested (codes "persistclose") refl)
+    (All-cons IsWord (decimal unit) ([]) (decimal_seen unit h)
+    (All-nil IsWord))
+event_seen events.Check run h beside = All-cons IsWord (codes "check") ([]) (seen_tested (codes "check") refl)
     (All-nil IsWord)
-event_seen events.LoadWord run h beside =
-    then_seen (codes "loadword") (seen_tested (codes "loadword") refl)
+event_seen events.LoadWord run h beside = All-cons IsWord (codes "loadword") ([]) (seen_tested (codes "loadword") refl)
     (All-nil IsWord)
-event_seen events.PersistWord run h beside =
-    then_seen (codes "persistword") (seen_tested (codes "persistword") refl)
+event_seen events.PersistWord run h beside = All-cons IsWord (codes "persistword") ([]) (seen_tested (codes "persistword") refl)
     (All-nil IsWord)
-event_seen events.SetClock run h beside =
-    then_seen (codes "setclock") (seen_tested (codes "setclock") refl)
+event_seen events.SetClock run h beside = All-cons IsWord (codes "setclock") ([]) (seen_tested (codes "setclock") refl)
     (All-nil IsWord)
-event_seen events.PersistClock run h beside =
-    then_seen (codes "persistclock") (seen_tested (codes "persistclock") refl)
+event_seen events.PersistClock run h beside = All-cons IsWord (codes "persistclock") ([]) (seen_tested (codes "persistclock") refl)
     (All-nil IsWord)
 event_seen (events.Split part) run h beside = absurd h
 event_seen (events.Join part note) run h beside = absurd h
