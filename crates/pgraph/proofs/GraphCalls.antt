@@ -221,6 +221,19 @@ module _ (heap : HeapShown) (old new : RegionShown) (nodes : Nodes) (called : Is
   }
   unit_uncarried q r many _ h = absurd h
 
+  -- ---- behind an answer without changes the index stays
+  kept_live : (receipt : Receipt) (slot : Option ℕ) → HasCarried old new [] receipt slot → HoldsLive news nodes
+  kept_live receipt slot carried = same_live news
+      (λ i. ap (live_of i) (carried.records_are ∙ append-nil carried.kept) ∙ carried.live i)
+
+  pub unit_answered : (q r : CallerShown) (op : Op) (receipt : Receipt) (slot : Option ℕ) → HasAnsweredCall heap old new q r op receipt
+      → HasCarried old new [] receipt slot → IsGraphUnit new nodes
+  unit_answered q r op receipt slot answered carried = record {
+    agrees = answered.ready.runs.agrees;
+    kind = kind_stays answered.ready.runs.of_heap answered.of_unit;
+    indexed = λ _. kept_live receipt slot carried;
+  }
+
   -- ---- where the nodes are behind an answer
   lower_identity : (t : Part) (m : Node) → IsNodeOf olds t m → m.identity < old.books.identity
   lower_identity t m p =
@@ -349,7 +362,7 @@ module _ (heap : HeapShown) (old new : RegionShown) (nodes : Nodes) (called : Is
 
         by : (e : GraphEdit) → Fits nodes e → HasCarried old new (changes_of nodes e) receipt slot
             → HasGraph news (graph_behind (graph_in nodes) e) → HoldsLive news (nodes_behind (prepared nodes e) e (record_at new slot))
-        by Keep fit k shown = same_live news (λ i. ap (live_of i) (k.records_are ∙ append-nil k.kept) ∙ k.live i)
+        by Keep fit k shown = kept_live receipt slot k
         by (Set name a was) fit k shown = set_behind name a was fit k shown k.slots k.each k.last_is k.records_are
         by (Remove name n) fit k shown = record {
           graph = subst (HasGraph news) (sym (graph_without nodes (part_of name))) shown;
@@ -367,6 +380,15 @@ module _ (heap : HeapShown) (old new : RegionShown) (nodes : Nodes) (called : Is
   -- the index behind a refusal
   pub index_restored : (edit : GraphEdit) → Fits nodes edit → restored (prepared nodes edit) edit ≡ nodes
   index_restored edit fits = restored_is nodes holds.graph.ends edit fits
+
+-- ---- an operation that changes nothing, where no caller was cut in the unit
+pub answer_planned : (heap : HeapShown) (shown began : RegionShown) (nodes : Nodes) → IsStanding heap shown → began ≡ shown
+    → IsGraphUnit began nodes → (op : Op) → IsOpOf heap.opening.layout shown.books.unit op → (reply : Reply)
+    → reply ≡ (graph_step (graph_in nodes) op).reply → [] ≡ (graph_step (graph_in nodes) op).effects
+    → shown.books.halted ≡ None → IsPlan shown op reply []
+answer_planned heap shown began nodes stands is unit op of_unit reply replies effects running = planned heap shown shown nodes
+    (is_called heap shown began shown nodes stands is unit (ap (λ (r : RegionShown). r.books.halted) is ∙ running) (sym is))
+    op of_unit reply Keep replies effects tt
 
 -- ---- a planned operation, behind checks that left the region and the caller as they were
 module _ (heap : HeapShown) (shown ran : RegionShown) (q s : CallerShown) (op : Op) (reply : Reply) (changes : List Change)

@@ -1,17 +1,19 @@
 -- A plan is the plain step on the graph of the attributes.
 use Rattle.std.proofs.Common.{◌≡◌, ℕ, suc, Bool, true, false, List, [], ◌∷◌, ◌++◌, map, length, refl, sym, ap, ◌∙◌}
-use Rattle.std.specs.Prelude.{Option, Some, None, is_some, option_map}
+use Rattle.std.specs.Prelude.{◌≢◌, Option, Some, None, is_some, option_map}
 use Rattle.std.specs.FinMap as finite
 use Rattle.mont_base.specs.declared.effect.Effect.{Effect}
 use Rattle.mont_base.specs.declared.effect.Effect.TheVariants.{Removes}
 use Rattle.mont_base.specs.declared.effect.Thing.TheVariants.{Vertex}
+use Rattle.mont_base.specs.declared.operation.Op.{Op}
+use Rattle.mont_base.specs.declared.operation.Op.TheVariants as ops
 use Rattle.mont_base.specs.declared.operation.Reply.TheVariants.{Count, NoEnds}
-use Rattle.mont_base.specs.State.{Ends, GraphOf, earlier, edge_thing, set_effects, add_edge, del_vertex, del_edge, degree, can_join}
+use Rattle.mont_base.specs.State.{Ends, GraphOf, earlier, edge_thing, set_effects, graph_step, add_edge, del_vertex, del_edge, degree, can_join}
 use Rattle.pgraph.specs.declared.node.Name.TheVariants as names
 use Rattle.pgraph.specs.declared.node.Node.{Node}
 use Rattle.pgraph.specs.GraphIndex.{Nodes, nodes_at, degree_of, joins, graph_in}
 use Rattle.pgraph.specs.GraphEdit.{effects_of, edge_effect, graph_behind}
-use Rattle.pgraph.specs.GraphPlan.{setting_plan, removing_plan, earlier_of, counted}
+use Rattle.pgraph.specs.GraphPlan.{setting_plan, removing_plan, earlier_of, counted, looked_up}
 use Rattle.pgraph.proofs.Attributes.{attribute_entry, vertex_attribute, edge_attribute, vertex_there, edge_there, graph_joins, graph_edges_at}
 
 edge_effects : (es : List (Ends × Node)) → map edge_effect es ≡ map (λ (e : Ends × ℕ). Removes (edge_thing e)) (map attribute_entry es)
@@ -108,3 +110,19 @@ module _ (n : Nodes) where
           ≡ degree (graph_in n) v (finite.contains_key (graph_in n).vertices v)
       by None f = rw f refl
       by (Some x) f = rw f (ap (λ k. Count k) (as_many_entries (nodes_at n v) ∙ ap length (sym (graph_edges_at n v))))
+
+-- what is looked up is the plain step's reply, which changes nothing
+pub record IsLookedUp (n : Nodes) (op : Op) : Type 0 where
+  pub reply : looked_up n op ≡ (graph_step (graph_in n) op).reply
+  pub effects : [] ≡ (graph_step (graph_in n) op).effects
+  pub state : (graph_step (graph_in n) op).state ≡ GraphOf (graph_in n)
+
+pub look_step : (n : Nodes) (op : Op) → ((u v a : ℕ) → op ≢ ops.AddV u v a) → ((u v : ℕ) → op ≢ ops.DelV u v)
+    → ((u from to a : ℕ) → op ≢ ops.AddE u from to a) → ((u from to : ℕ) → op ≢ ops.DelE u from to) → IsLookedUp n op
+look_step n (ops.AddV u v a) addv delv adde dele = absurd (addv u v a refl)
+look_step n (ops.DelV u v) addv delv adde dele = absurd (delv u v refl)
+look_step n (ops.AddE u from to a) addv delv adde dele = absurd (adde u from to a refl)
+look_step n (ops.DelE u from to) addv delv adde dele = absurd (dele u from to refl)
+look_step n (ops.Vertex u v) addv delv adde dele = record { reply = addv_reply n v; effects = refl; state = refl }
+look_step n (ops.Degree u v) addv delv adde dele = record { reply = degree_reply n v; effects = refl; state = refl }
+look_step n _ addv delv adde dele = record { reply = refl; effects = refl; state = refl }

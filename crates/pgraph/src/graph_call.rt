@@ -21,7 +21,7 @@ ghost use Rattle.pgraph.specs.PGraph.{IsGraphUnit};
 
 use crate::graph_edit::{GraphEdit, list_changes, prepare, setting};
 use crate::graph_index::GraphIndex;
-use crate::graph_plan::{GraphPlan, plan};
+use crate::graph_plan::{GraphPlan, look_up, plan};
 use crate::node::{Name, Node};
 use crate::pgraph::PGraph;
 use heap::Heap;
@@ -60,8 +60,46 @@ impl PGraph {
         ensures stands { IsStanding heap.now self.new.region }
         ensures unit { IsGraphUnit self.new.region self.new.nodes }
     {
-        check_running(heap, &mut self.region, pass)?;
+        match *op {
+            Op::AddV { .. } | Op::DelV { .. } | Op::AddE { .. } | Op::DelE { .. } => {
+                self.carry(rt, heap, pass, op)
+            }
+            _ => {
+                let reply = look_up(&self.index, op);
+                self.answer(heap, pass, op, &reply)
+            }
+        }
+    }
+
+    // Carries an operation out as it is planned, and answers one at once that changes nothing.
+    fn carry<R: Wait, G: Gate>(
+        &mut self,
+        rt: &R,
+        heap: &Heap,
+        pass: &mut Pass<G>,
+        op: &Op,
+    ) -> Result<(), CallRefusal>
+        requires stands { IsStanding heap.now self.old.region }
+        requires pass { pass.old.ticket.table ≡ heap.now.table }
+        requires op { IsOpOf heap.now.opening.layout self.old.region.books.unit op.now }
+        ensures gate { IsAskedOften G.cuts G.endless pass.old.gate pass.new.gate (was_cut result) }
+        ensures unasked { was_asked result ≡ false → pass.new.gate ≡ pass.old.gate }
+        ensures answered { OnOk result (KeepsReceipt pass.old.receipts.items
+            pass.new.receipts.items (HasAnsweredCall heap.now self.old.region self.new.region
+            pass.old.ticket pass.new.ticket op.now)) }
+        ensures kept { OnErr result (pass.new.receipts.items ≡ pass.old.receipts.items) }
+        ensures refused { IfErr result (λ why. LeavesCall heap.now self.old.region self.new.region
+            pass.old.ticket pass.new.ticket op.now why) }
+        ensures checked { was_checked result ≡ true
+            → MayBeCalled pass.old.ticket self.old.region op.now }
+        ensures stands { IsStanding heap.now self.new.region }
+        ensures unit { IsGraphUnit self.new.region self.new.nodes }
+    {
         let GraphPlan { reply, edit } = plan(&self.index, op);
+        if let GraphEdit::Keep = edit {
+            return self.answer(heap, pass, op, &reply);
+        }
+        check_running(heap, &mut self.region, pass)?;
         check_edit(heap, &mut self.region, pass, &self.index, &edit)?;
         take_memory(&mut self.index, &mut self.changes, pass, &edit)?;
         match carry_out(rt, heap, &mut self.region, pass, op, &reply, &self.changes) {

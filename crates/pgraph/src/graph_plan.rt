@@ -3,7 +3,7 @@ ghost use Rattle.std.specs.Prelude.{◌≡◌};
 ghost use Rattle.mont_base.specs.State.{GraphOf, graph_step};
 ghost use Rattle.pgraph.specs.GraphIndex.{graph_in, node_of, part_of};
 ghost use Rattle.pgraph.specs.GraphEdit.{Fits, effects_of, graph_behind};
-ghost use Rattle.pgraph.specs.GraphPlan.{answering, counted, earlier_of, removing_plan, setting_plan};
+ghost use Rattle.pgraph.specs.GraphPlan.{answering, counted, earlier_of, looked_up, removing_plan, setting_plan};
 
 use crate::graph_edit::GraphEdit;
 use crate::graph_index::GraphIndex;
@@ -37,9 +37,18 @@ pub(crate) fn plan(index: &GraphIndex, op: &Op) -> GraphPlan
             }
         }
         Op::DelE { from, to, .. } => remove(index, Name::Edge((from, to))),
-        Op::Vertex { vertex, .. } => answer(earlier_of(index.vertex(vertex))),
-        Op::Degree { vertex, .. } => answer(counted(index.degree(vertex))),
-        _ => answer(Reply::Nothing),
+        _ => answer(look_up(index, op)),
+    }
+}
+
+// What an operation is answered that sets and removes nothing.
+pub(crate) fn look_up(index: &GraphIndex, op: &Op) -> Reply
+    ensures { result ≡ looked_up index.now op.now }
+{
+    match *op {
+        Op::Vertex { vertex, .. } => earlier_of(index.vertex(vertex)),
+        Op::Degree { vertex, .. } => counted(index.degree(vertex)),
+        _ => Reply::Nothing,
     }
 }
 

@@ -2,6 +2,7 @@
 #![tactic(auto)]
 
 mod edges_at;
+mod graph_answer;
 mod graph_beginning;
 mod graph_call;
 mod graph_edit;

@@ -4,9 +4,9 @@ use Rattle.mont_base.specs.State.{GraphOf, graph_step}
 use Rattle.pgraph.specs.declared.graph_plan.GraphPlan.{GraphPlan}
 use Rattle.pgraph.specs.GraphIndex.{graph_in}
 use Rattle.pgraph.specs.GraphEdit.{effects_of, graph_behind}
-use Rattle.pgraph.specs.GraphPlan.{earlier_of, counted}
-use Rattle.pgraph.proofs.GraphPlans.{addv_reply, addv_effects, delv_step, delv_state, adde_reply, adde_effects, adde_state, no_ends, no_ends_state, dele_step, dele_state, degree_reply}
+use Rattle.pgraph.proofs.GraphPlans.{addv_reply, addv_effects, delv_step, delv_state, adde_reply, adde_effects, adde_state, no_ends, no_ends_state, dele_step, dele_state, IsLookedUp, look_step}
 use Rattle.pgraph.proofs.graph_plan.plan.Goals as goal
+use Rattle.pgraph.proofs.graph_plan.plan.Goals.{After-answer-in_default}
 
 pub returns-in-AddV-clause-reply : goal.returns-in-AddV-clause-reply
 returns-in-AddV-clause-reply c =
@@ -64,18 +64,6 @@ returns-in-DelE-clause-effects c =
     ∙ (dele_step c.args.index.now (c.in-DelE.from, c.in-DelE.to)).1
     ∙ sym (ap (λ (o : Op). (graph_step (graph_in c.args.index.now) o).effects) c.in-DelE.is)
 
-pub returns-in-Vertex-clause-reply : goal.returns-in-Vertex-clause-reply
-returns-in-Vertex-clause-reply c =
-    ap (λ (p : GraphPlan). p.reply) c.answer-in-Vertex.ensures ∙ c.earlier_of.ensures ∙ ap earlier_of c.vertex.ensures
-    ∙ addv_reply c.args.index.now c.in-Vertex.vertex
-    ∙ sym (ap (λ (o : Op). (graph_step (graph_in c.args.index.now) o).reply) c.in-Vertex.is)
-
-pub returns-in-Degree-clause-reply : goal.returns-in-Degree-clause-reply
-returns-in-Degree-clause-reply c =
-    ap (λ (p : GraphPlan). p.reply) c.answer-in-Degree.ensures ∙ c.counted.ensures ∙ ap counted c.degree.ensures
-    ∙ degree_reply c.args.index.now c.in-Degree.vertex
-    ∙ sym (ap (λ (o : Op). (graph_step (graph_in c.args.index.now) o).reply) c.in-Degree.is)
-
 pub returns-in-AddV-clause-state : goal.returns-in-AddV-clause-state
 returns-in-AddV-clause-state c =
     ap (λ (o : Op). (graph_step (graph_in c.args.index.now) o).state) c.in-AddV.is
@@ -103,3 +91,20 @@ returns-in-DelE-clause-state c =
     ap (λ (o : Op). (graph_step (graph_in c.args.index.now) o).state) c.in-DelE.is
     ∙ dele_state c.args.index.now (c.in-DelE.from, c.in-DelE.to)
     ∙ sym (ap (λ (p : GraphPlan). GraphOf (graph_behind (graph_in c.args.index.now) p.edit)) c.remove-in-DelE.ensures)
+
+look_up_step : (c : After-answer-in_default) → IsLookedUp c.args.index.now c.args.op.now
+look_up_step c = look_step c.args.index.now c.args.op.now c.in_default.not-AddV c.in_default.not-DelV c.in_default.not-AddE
+    c.in_default.not-DelE
+
+pub returns-in_default-clause-reply : goal.returns-in_default-clause-reply
+returns-in_default-clause-reply c =
+    ap (λ (p : GraphPlan). p.reply) c.answer-in_default.ensures ∙ c.look_up.ensures ∙ (look_up_step c).reply
+
+pub returns-in_default-clause-effects : goal.returns-in_default-clause-effects
+returns-in_default-clause-effects c =
+    ap (λ (p : GraphPlan). effects_of c.args.index.now p.edit) c.answer-in_default.ensures ∙ (look_up_step c).effects
+
+pub returns-in_default-clause-state : goal.returns-in_default-clause-state
+returns-in_default-clause-state c =
+    (look_up_step c).state
+    ∙ sym (ap (λ (p : GraphPlan). GraphOf (graph_behind (graph_in c.args.index.now) p.edit)) c.answer-in_default.ensures)
