@@ -1,8 +1,9 @@
 -- The runs of a history, entry by entry, and of histories, unit by unit.
-use Rattle.std.proofs.Common.{◌≡◌, ℕ, ◌+◌, ◌<◌, ◌≤◌, Bool, true, false, ◌||◌, List, [], ◌∷◌, ◌++◌, length, drop, get_or, Option, Some, None, refl, sym, ap, ◌∙◌, subst, arith}
+use Rattle.std.proofs.Common.{◌≡◌, ℕ, ◌+◌, ◌<◌, ◌≤◌, Bool, true, false, List, [], ◌∷◌, ◌++◌, length, drop, get_or, Option, Some, None, refl, sym, ap, ◌∙◌, subst, arith}
 use Rattle.std.specs.Prelude.{All, nat_le, nat_lt, slice_get}
 use Rattle.std.specs.List.{cons_option, list_any}
 use Rattle.std.specs.Option.{option_to_list}
+use Rattle.std.proofs.lemmas.Bool.{or_parts}
 use Rattle.std.proofs.lemmas.List.{append_assoc, length-append}
 use Rattle.std.proofs.lemmas.List.Elements.{All-get_or, All-weaker}
 use Rattle.std.proofs.lemmas.Option.{slice_get_within}
@@ -16,7 +17,7 @@ use Rattle.mont_base.specs.State.{State, MapOf, Run, IsShortOp, step, run_of, un
 use Rattle.plain.proofs.Lists.{opened}
 use Rattle.core_steps.proofs.Decisions.{both, le_true, lt_true, lt_false}
 use Rattle.core_steps.proofs.RowFacts.{row_before, row_last, same_item}
-use Rattle.job_report.specs.FoundRuns.{AreRuns, is_range, of_range}
+use Rattle.job_report.specs.FoundRuns.{AreRuns, asks_range}
 
 -- ---- ranges of a legal history have room
 short_range : (s : Shape) (unit own most : ℕ) (b : Bool) → can_range most ≡ b → unit_aimed s (range_aim b own) ≡ Some unit
@@ -58,19 +59,15 @@ at_entry s next h i e inside is so_far more all was stepped short added =
     (ap (λ (es : List Entry). so_far ++ runs_of s es) (sym here) ∙ was) stepped (added own)
 
 -- ---- a history without a range
-no_run : (s : State) (op : Op) → of_range op ≡ false → run_of s op ≡ None
+no_run : (s : State) (op : Op) → asks_range op ≡ false → run_of s op ≡ None
 no_run s (ops.ORange unit from to most) is = absurd (cc)
 no_run (MapOf m) _ is = refl
 no_run _ _ is = refl
 
-neither : (a b : Bool) → (a || b) ≡ false → (a ≡ false) × (b ≡ false)
-neither false b is = (refl, is)
-neither true b is = absurd (cc)
-
-pub no_runs : (s : State) (h : List Entry) → list_any is_range h ≡ false → runs_of s h ≡ []
+pub no_runs : (s : State) (h : List Entry) → list_any (λ (e : Entry). asks_range e.op) h ≡ false → runs_of s h ≡ []
 no_runs s [] is = refl
 no_runs s (e ∷ es) is =
-    let none = neither (is_range e) (list_any is_range es) is in
+    let none = or_parts (asks_range e.op) (list_any (λ (x : Entry). asks_range x.op) es) is in
     ap (λ (o : Option Run). cons_option o (runs_of (step s e.op).state es)) (no_run s e.op none.0)
     ∙ no_runs (step s e.op).state es none.1
 

@@ -6,13 +6,10 @@ use Rattle.mont_base.specs.declared.operation.Op.TheVariants as ops
 use Rattle.mont_base.specs.History.{runs_of, IsShort}
 use Rattle.mont_base.specs.State.{State, Run}
 
-abbrev pub of_range : Op → Bool
-of_range (ops.ORange unit from to most) = true
-of_range _ = false
-
--- whether an entry is of a range
-abbrev pub is_range : Entry → Bool
-is_range e = of_range e.op
+-- whether an operation is a range
+abbrev pub asks_range : Op → Bool
+asks_range (ops.ORange unit from to most) = true
+asks_range _ = false
 
 -- each unit whose ranges are short has the runs of its history
 pub record AreRuns (base : List State) (histories : List (List Entry)) (runs : List (List Run))

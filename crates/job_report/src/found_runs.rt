@@ -2,10 +2,11 @@
 ghost use Rattle.std.specs.Prelude.{◌≡◌, ◌++◌, IfOk, OnOk, All, slice_get, Some};
 ghost use Rattle.std.specs.List.{list_any};
 ghost use Rattle.std.specs.Option.{option_to_list};
+ghost use Rattle.mont_base.specs.declared.operation.Entry.{Entry};
 ghost use Rattle.mont_base.specs.History.{runs_of, IsShort};
 ghost use Rattle.mont_base.specs.State.{State, IsShortOp, run_of};
 ghost use Rattle.plain.specs.States.{state_of, states_of};
-ghost use Rattle.job_report.specs.FoundRuns.{AreRuns, is_range};
+ghost use Rattle.job_report.specs.FoundRuns.{AreRuns, asks_range};
 
 use job_text::Run;
 use mont_base::{Entry, MOST_PAIRS, Op, PairList, Sequence, Unit};
@@ -65,16 +66,16 @@ fn runs_of(alloc: Global, base: &UnitState, history: &[Entry]) -> Result<Sequenc
 
 // Whether a history has a range. One without needs no replay.
 fn has_range(history: &[Entry]) -> bool
-    ensures { result ≡ list_any is_range history.now }
+    ensures { result ≡ list_any (λ (e : Entry). asks_range e.op) history.now }
 {
-    history.iter().any(|entry| is_range(entry))
+    history.iter().any(|entry| asks_range(&entry.op))
 }
 
-// Whether an entry is of a range.
-fn is_range(entry: &Entry) -> bool
-    ensures { result ≡ is_range entry.now }
+// Whether an operation is a range.
+fn asks_range(op: &Op) -> bool
+    ensures { result ≡ asks_range op.now }
 {
-    matches!(entry.op, Op::ORange { .. })
+    matches!(op, Op::ORange { .. })
 }
 
 // The same state, kept apart.

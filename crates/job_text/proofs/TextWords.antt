@@ -1,12 +1,17 @@
 -- How keys and values are spelled: by bytes that can be seen, and each by one word.
 use Rattle.std.proofs.Common.{◌≡◌, ◌≢◌, ℕ, ◌+◌, ◌*◌, ◌-◌, ◌/◌, ◌%◌, ◌^◌, ◌<◌, ◌≤◌, Bool, true, false, cond, ◌==◌, List, ◌⊎◌, [], ◌∷◌, ◌++◌, length, take, get_or, refl, sym, ap, ◌∙◌, inl, inr, arith, subst, slice_set}
 use Rattle.std.specs.List.{All, flat_map}
+use Rattle.std.specs.Prelude.{Result, Ok, Err, MatchResult, MatchOption}
+use Rattle.std.specs.Result.{result_ok}
+use Rattle.std.specs.Str.{IsUtf8}
 use Rattle.std.specs.Fmt.{digits, padded_integral, format_spec}
 use Rattle.std.proofs.lemmas.Fmt.{hex_byte}
 use Rattle.std.proofs.lemmas.Bool.{cases_Bool, cases_lt, lt-ltb, le-ltb, and_parts, leb-true, eqb-false, not-true}
 use Rattle.std.proofs.lemmas.List.{append_assoc, append-nil, length-append, take_more, take_all, get_or_at, take_more_set}
 use Rattle.std.proofs.lemmas.Grind.{flat_map-append}
-use Rattle.std.proofs.lemmas.List.Elements.{All-append, All-cons, All-nil, All-head, All-tail, All-push}
+use Rattle.std.proofs.lemmas.List.Elements.{All-append, All-cons, All-nil, All-head, All-tail, All-push, All-weaker}
+use Rattle.std.proofs.lemmas.Str.{IsUtf8-from_ascii}
+use Rattle.std.proofs.lemmas.Str.Ascii.{IsAscii-from_all}
 use Rattle.mont_base.specs.declared.constants.TheConstants.{TEXT_BYTES}
 use Rattle.mont_base.specs.Texts.{IsText}
 use Rattle.job_text.specs.Spelling.{hex_digit, hex_digits, is_bare, byte_word, text_word}
@@ -171,9 +176,28 @@ bytes_more t i within =
     ∙ ap (λ (bs : List ℕ). flat_map byte_word (take i t) ++ bs) (append-nil (byte_word (get_or t i 0)))
 
 -- a text that isn't empty is its bytes
-pub text_bytes : (t : List ℕ) (i : ℕ) → false ≡ (length t == 0) → length t ≤ i → flat_map byte_word (take i t) ≡ text_word t
-text_bytes [] i some all = absurd cc
+pub counts_some : (t : List ℕ) → false ≡ (length t == 0) → t ≢ []
+counts_some [] counts is = absurd cc
+counts_some (b ∷ bs) counts is = absurd cc
+
+pub text_bytes : (t : List ℕ) (i : ℕ) → t ≢ [] → length t ≤ i → flat_map byte_word (take i t) ≡ text_word t
+text_bytes [] i some all = absurd (some refl)
 text_bytes (b ∷ bs) i some all = ap (λ (xs : List ℕ). flat_map byte_word xs) (take_all i (b ∷ bs) all)
+
+-- what spells bytes is a text of ASCII
+spelling_utf8 : (t : List ℕ) → IsUtf8 (flat_map byte_word t)
+spelling_utf8 t = IsUtf8-from_ascii (flat_map byte_word t) (IsAscii-from_all (flat_map byte_word t)
+    (All-weaker IsSeen (λ (b : ℕ). b < 128) (λ b seen. omega (arith, seen)) (flat_map byte_word t) (bytes_seen t)))
+
+-- bytes that are spelled by themselves are read as the text's word
+pub read_word : {B E : Type 0} (now : B → List ℕ) (Q : E → Type 0) (t held : List ℕ) (at len : ℕ) (r : Result B E) (none : Type 0)
+    → t ≢ [] → length t ≡ len → at ≡ len → flat_map byte_word (take at t) ≡ take at held
+    → MatchResult r (λ s. (now s ≡ take len held) × IsUtf8 (take len held)) (λ e. (¬ IsUtf8 (take len held)) × Q e)
+    → MatchOption (result_ok r) none (λ s. now s ≡ text_word t)
+read_word now Q t held at len (Ok s) none some long ends spelled read =
+    read.0 ∙ ap (λ (n : ℕ). take n held) (sym ends) ∙ sym spelled ∙ text_bytes t at some (omega (arith, long, ends))
+read_word now Q t held at len (Err e) none some long ends spelled read =
+    absurd (read.0 (subst IsUtf8 (spelled ∙ ap (λ (n : ℕ). take n held) ends) (spelling_utf8 (take at t))))
 
 -- ---- texts read byte by byte
 module _ (word front rest : List ℕ) (is : word ≡ flat_map byte_word front ++ rest) (small : All IsByte front) (no_mark : word ≢ 37 ∷ [])

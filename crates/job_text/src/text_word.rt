@@ -1,6 +1,7 @@
 // Keys and values of maps as words. A byte that can be seen stands for itself, but `%`. Any other
 // is `%` and two digits of base 16, and the empty text is `%` alone.
-ghost use Rattle.std.specs.Prelude.{◌≡◌, ◌≢◌, ◌<◌, ◌+◌, ◌++◌, [], ℕ, List, IfSome, MatchOption};
+ghost use Rattle.std.specs.Prelude.{◌≡◌, ◌≢◌, ◌<◌, ◌+◌, ◌++◌, [], ℕ, List, false, MatchOption};
+ghost use Rattle.std.specs.List.{list_all};
 ghost use Rattle.mont_base.specs.Texts.{IsText};
 ghost use Rattle.job_text.specs.Spelling.{hex_digit, is_bare, byte_word, text_word};
 
@@ -39,7 +40,8 @@ impl fmt::Display for TextWord {
 // The word of a text all of whose bytes stand for themselves, in memory that is handed in.
 fn bare_word<'a>(text: &Text, held: &'a mut [u8; TEXT_BYTES]) -> Option<&'a str>
     requires { text.now ≢ [] }
-    ensures { IfSome result (λ word. word.now ≡ text_word text.now) }
+    ensures { MatchOption result (list_all is_bare text.now ≡ false)
+        (λ word. word.now ≡ text_word text.now) }
 {
     let len = text.len() as usize;
     for at in 0..len {

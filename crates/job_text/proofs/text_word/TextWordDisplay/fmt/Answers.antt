@@ -1,6 +1,6 @@
 use Rattle.std.proofs.Common.{arith, rules}
 use Rattle.std.proofs.Output.{has_written_append}
-use Rattle.job_text.proofs.TextWords.{bytes_more, text_bytes}
+use Rattle.job_text.proofs.TextWords.{bytes_more, counts_some, text_bytes}
 use Rattle.job_text.proofs.text_word.TextWordDisplay.fmt.Goals as goal
 
 pub loop-at-preserved : goal.loop-at-preserved
@@ -14,4 +14,4 @@ pub returns-clause-writes : goal.returns-clause-writes
 returns-clause-writes g c =
     λ plain _.
     let text = c.args.self.now.0 in
-    rw (← text_bytes text c.loop-at.at c.if-is_empty.ensures (omega arith)) (c.loop-at.invariant plain)
+    rw (← text_bytes text c.loop-at.at (counts_some text c.if-is_empty.ensures) (omega arith)) (c.loop-at.invariant plain)
