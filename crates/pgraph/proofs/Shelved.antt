@@ -10,7 +10,8 @@ use Rattle.std.specs.Map.{lookup}
 use Rattle.std.specs.BTreeMap.{BTreeMap, IsOrdered, is_at}
 use Rattle.std.proofs.lemmas.List.Elements.{All-head, All-tail}
 use Rattle.std.proofs.lemmas.Map.Views.{All-found}
-use Rattle.slab.specs.Slab.{Slab, get, Updates}
+use Rattle.slab.specs.Slab.{Slab, get, with_value, Updates}
+use Rattle.slab.proofs.SlabLemmas.{Updates-with_value}
 use Rattle.pgraph.specs.Shelf.{named_first, shelved, value_of, SetsValue, AreShelved}
 
 -- what is kept under a key, if there is one
@@ -131,6 +132,16 @@ module _ {K V : Type 0} {cmp : K → K → Ordering} (values after : Slab V) (es
       by : (t : Bool) → is_at (cmp name) q ≡ t → kept after (cond t o (value_of cmp es q)) ≡ cond t w (value_of cmp seen q)
       by true e = here
       by false e = same q e ∙ sym (value_kept values es are seen is q)
+
+-- the value of a name that has one is written in its place
+pub written_sets : {K V : Type 0} {cmp : K → K → Ordering} → IsTotalOrder cmp → (values : Slab V) (es : List (K × ℕ))
+    → AreShelved cmp values es → (name : K) (key : ℕ) → value_of cmp es name ≡ Some key → (w : V) (seen : List (K × V))
+    → shelved values es ≡ seen → SetsValue cmp seen (shelved (with_value values key w) es) name (Some w)
+written_sets order values es are name key has w =
+    let updates = Updates-with_value values key w (are.there name key has) in
+    sets_value values (with_value values key w) es es name (Some key) (Some w) are (key_again values es are order name key has)
+    (λ q f. others_kept values (with_value values key w) key (Some w) updates _ (not_others values es are name key has q f))
+    updates.changed (λ h. refl)
 
 -- a new name has a key that was free
 module _ {K V : Type 0} {cmp : K → K → Ordering} (order : IsTotalOrder cmp) (values after : Slab V) (es fs : List (K × ℕ)) (name : K)

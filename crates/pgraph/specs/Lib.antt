@@ -1,4 +1,5 @@
 pub mod Shelf
+pub mod Lending
 pub mod GraphIndex
 pub mod EdgesAt
 pub mod GraphEdit

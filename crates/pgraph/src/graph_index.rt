@@ -92,9 +92,10 @@ impl GraphIndex {
         requires { finite.contains_key self.old.vertices vertex ≡ true }
         ensures { self.new ≡ with_vertex self.old vertex node }
     {
-        if let Some(VertexNode { degree, .. }) = self.vertices.get(vertex) {
-            self.vertices.set(vertex, VertexNode { node, degree });
-        }
+        let Some(there) = self.vertices.get_mut(vertex) else {
+            return;
+        };
+        there.node = node;
     }
 
     // Adds an edge from one vertex to another.
@@ -121,7 +122,10 @@ impl GraphIndex {
         requires { finite.contains_key self.old.edges ends ≡ true }
         ensures { self.new ≡ with_edge self.old ends node }
     {
-        self.edges.set(ends, node);
+        let Some(there) = self.edges.get_mut(ends) else {
+            return;
+        };
+        *there = node;
     }
 
     // Takes a vertex out, with every edge from or to it.
@@ -184,9 +188,8 @@ fn raise_degree(vertices: &mut Shelf<u64, VertexNode>, vertex: u64)
     ensures { SetsValue nat_cmp vertices.old vertices.new vertex
         (option_map raised (value_of nat_cmp vertices.old vertex)) }
 {
-    if let Some(VertexNode { node, degree }) = vertices.get(vertex) {
-        let degree = degree + 1;
-        vertices.set(vertex, VertexNode { node, degree });
+    if let Some(there) = vertices.get_mut(vertex) {
+        there.degree += 1;
     }
 }
 
@@ -196,8 +199,7 @@ fn lower_degree(vertices: &mut Shelf<u64, VertexNode>, vertex: u64)
     ensures { SetsValue nat_cmp vertices.old vertices.new vertex
         (option_map lowered (value_of nat_cmp vertices.old vertex)) }
 {
-    if let Some(VertexNode { node, degree }) = vertices.get(vertex) {
-        let degree = degree - 1;
-        vertices.set(vertex, VertexNode { node, degree });
+    if let Some(there) = vertices.get_mut(vertex) {
+        there.degree -= 1;
     }
 }

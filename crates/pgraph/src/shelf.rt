@@ -1,6 +1,9 @@
 // Values in a slab, each found by its name in an ordered map.
-ghost use Rattle.std.specs.Prelude.{◌≡◌, ◌<◌, ◌^◌, length, [], Some, None, IsSome, OnOk, OnErr};
+ghost use Rattle.std.specs.Prelude.{◌≡◌, ◌<◌, ◌^◌, length, [], Some, None, OnOk, OnErr};
+ghost use Rattle.std.specs.Borrow.{sem};
+ghost use Rattle.std.specs.Option.{option_copied_mut};
 ghost use Rattle.pgraph.specs.Shelf.{value_of, SetsValue};
+ghost use Rattle.pgraph.specs.Lending.{LendsValue};
 
 use slab::Slab;
 use std::alloc::{AllocError, Global};
@@ -44,6 +47,15 @@ impl<K: Ord + Copy, V: Copy> Shelf<K, V> {
         self.values.get(key).copied()
     }
 
+    // The value of a name, if it has one, to be changed there.
+    pub(crate) fn get_mut(&mut self, name: K) -> Option<&mut V>
+        ensures* lends { sem 𝓛 (LendsValue K.row V.row K.Ord self.entry name result) }
+        ensures value { option_copied_mut result ≡ value_of K.cmp self.old name }
+    {
+        let key = *self.keys.get(&name)?;
+        self.values.get_mut(key)
+    }
+
     // How many values there are.
     pub(crate) fn len(&self) -> usize
         ensures value { result ≡ length self.now }
@@ -63,15 +75,6 @@ impl<K: Ord + Copy, V: Copy> Shelf<K, V> {
         self.keys.insert(name, key)?;
         self.values.insert_reserved(value);
         Ok(())
-    }
-
-    // Sets the value of a name that has one.
-    pub(crate) fn set(&mut self, name: K, value: V)
-        requires { IsSome (value_of K.cmp self.old name) }
-        ensures { SetsValue K.cmp self.old self.new name (Some value) }
-    {
-        let key = self.keys[&name];
-        self.values[key] = value;
     }
 
     // Takes the value of a name, if it has one.

@@ -1,10 +1,19 @@
-use Rattle.std.proofs.Common.{◌+◌, ◌<◌, ◌^◌, ap, sym, ◌∙◌, arith}
-use Rattle.std.specs.Prelude.{option_map}
+use Rattle.std.proofs.Common.{◌+◌, ◌<◌, ◌^◌, ap, sym, subst, arith}
+use Rattle.std.specs.Prelude.{Option, option_map}
+use Rattle.std.specs.Ordering.{nat_cmp}
 use Rattle.pgraph.specs.declared.node.VertexNode.{VertexNode}
+use Rattle.pgraph.specs.GraphIndex.{raised}
+use Rattle.pgraph.specs.Shelf.{SetsValue}
 use Rattle.pgraph.proofs.graph_index.raise_degree.Goals as goal
 
-pub overflow_add-degree : goal.overflow_add-degree
-overflow_add-degree c =
-    let below : c.in-Some.field-0.degree + 1 < 2 ^ 64 = c.requires c.in-Some.field-0.degree
-    (ap (option_map (λ (x : VertexNode). x.degree)) (sym c.get.ensures ∙ c.in-Some.is)) in
+pub overflow_add-there : goal.overflow_add-there
+overflow_add-there c =
+    let below : c.in-Some.there.now.degree + 1 < 2 ^ 64 = c.requires c.in-Some.there.now.degree
+    (ap (option_map (λ (x : VertexNode). x.degree)) (sym c.in-Some.ensures.value)) in
     omega arith
+
+pub returns-in-Some : goal.returns-in-Some
+returns-in-Some c =
+    let w : VertexNode = raised c.in-Some.there.now in
+    subst (λ (o : Option VertexNode). SetsValue nat_cmp c.args.vertices.now (c.get_mut.follows.lender w) c.args.vertex o)
+    (ap (option_map raised) c.in-Some.ensures.value) (rw c.in-Some.is at c.get_mut.follows.holds w)
