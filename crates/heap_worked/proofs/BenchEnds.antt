@@ -94,9 +94,6 @@ module _ (s : Shape) (heap : HeapShown) (one : units_of s ≡ 1) (empty : OpensE
         clean = all_clean;
         advancer = subst (λ (o : Opening). IsOfLayout o.layout (first_advancer (fresh_opening s 2))) (sym opening) of_layout;
         advancer_clean = all_clean;
-        calls = refl;
-        fronts = ap (λ n. length (replicate n zero)) one;
-        synced = ap (λ n. length (replicate n zero)) one;
       })
 
 -- what the calls of the beginning give

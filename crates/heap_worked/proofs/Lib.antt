@@ -1,3 +1,1 @@
 pub mod BenchEnds
-pub mod Counting
-pub mod HeardFronts

@@ -1,5 +1,5 @@
 -- A heap of one unit and two callers, with all its seats.
-use Rattle.std.specs.Prelude.{◌≡◌, false, length, IsTrue}
+use Rattle.std.specs.Prelude.{◌≡◌, false, IsTrue}
 use Rattle.mont_base.specs.Layout.{units_of}
 use Rattle.core_steps.specs.Fresh.{fresh_unit}
 use Rattle.heap_rule.specs.Views.{are_clean}
@@ -20,16 +20,13 @@ pub record AreHome (b : Bench) : Type 0 where
   pub other : b.other.known.caller ≡ 1
   pub home : b.queue.known.turn.out ≡ false
 
--- No call was made. Each caller has a front of the one unit.
+-- No call was made.
 pub record IsFresh (b : Bench) : Type 0 where
   pub home : AreHome b
   pub part : b.queue.known.part ≡ fresh_unit
   pub clean : IsTrue (are_clean (units_of b.heap.opening.layout) b.queue.known.clean)
   pub advancer : IsOfLayout b.heap.opening.layout b.advancer.known
   pub advancer_clean : IsTrue (are_clean (units_of b.heap.opening.layout) b.advancer.known.clean)
-  pub calls : b.caller.known.part.calls ≡ 0
-  pub fronts : length b.other.known.part.fronts ≡ 1
-  pub synced : length b.other.known.part.synced ≡ 1
 
 -- The same seat, later, with its list where it was.
 abbrev pub IsSameUnit : UnitShown → UnitShown → Type 0

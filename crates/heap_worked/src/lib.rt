@@ -1,5 +1,4 @@
-//! What no file of cases can say: what two callers tell each other, and threads that step side by
-//! side.
+//! What no file of cases can say: threads that step side by side on a heap.
 //!
 //! The crate has tests alone: beside the heap's calls they would have all of it proved again.
 #![tactic(auto)]

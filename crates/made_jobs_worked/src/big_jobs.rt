@@ -1,12 +1,11 @@
 // The generated job of a number and the summary of its run, as they were worked out from their
 // definition.
 use big_job::{big_job, big_summary};
-use big_store::run_big;
-use index_kit::SortedIndex;
-use job_text::{Deed, Job, write_job};
+use job_text::{Deed, Job, Line, write_job};
 use mont_base::{Kinds, Layout};
 use plain::Contents;
 use std::alloc::Global;
+use std::process::Abort;
 use std::str;
 use std::test::Fail;
 
@@ -60,55 +59,66 @@ clockend
 fn lines_are_those_of_the_definition(rt: HostRuntime) -> Result<(), Fail> {
     let job = big_job(rt.alloc(), 7)?;
     let text = write_job(rt.alloc(), &job)?;
-    let text = str::from_utf8(text.as_slice())?;
-    let mut count = 0;
-    for (at, line) in text.lines().enumerate() {
-        for (place, wanted) in LINES {
-            assert!(rt; at != *place || line == *wanted, "{at}");
-        }
-        count = at + 1;
-    }
-    assert_eq!(rt; count, 20_001);
+    are_lines(&rt, str::from_utf8(text.as_slice())?);
     Ok(())
+}
+
+// The text has 20,001 lines, among them those above.
+fn are_lines(rt: &impl Abort, text: &str) {
+    let mut last = 0;
+    for (at, line) in text.lines().enumerate() {
+        is_line(rt, at, line);
+        last = at;
+    }
+    assert_eq!(rt; last, 20_000);
+}
+
+fn is_line(rt: &impl Abort, at: usize, line: &str) {
+    for (place, wanted) in LINES {
+        assert!(rt; at != *place || line == *wanted, "{at}");
+    }
 }
 
 // What the job's lines leave of a store, one behind the other.
 fn contents_after(alloc: Global, job: &Job) -> Result<Contents, Fail> {
     let mut contents = Contents::empty(alloc, job.layout)?;
     for line in job.lines.as_slice() {
-        if let Deed::Call { op } = line.deed {
-            if let Some(unit) = op.unit(job.layout) {
-                if unit < contents.units.len() {
-                    let _ = contents.units.item_mut(unit).apply(&op)?;
-                }
-            }
-        }
+        apply(&mut contents, job.layout, line)?;
     }
     Ok(contents)
 }
 
-#[test]
-fn the_summary_counts_and_sums(rt: HostRuntime) -> Result<(), Fail> {
-    let alloc = rt.alloc();
-    let job = big_job(alloc, 7)?;
-    let contents = contents_after(alloc, &job)?;
-    let summary = big_summary(alloc, 7, &contents, 20_000, 20_000, false)?;
-    assert!(rt; summary.as_slice() == SUMMARY.as_bytes());
-    let nothing = Contents::empty(alloc, Layout::new(Kinds::old(4), 2048)?)?;
-    let summary = big_summary(alloc, u64::MAX, &nothing, 0, 0, true)?;
-    assert!(rt; summary.as_slice() == NOTHING_DONE.as_bytes());
+// What the line calls is carried out on its unit.
+fn apply(contents: &mut Contents, layout: Layout, line: &Line) -> Result<(), Fail> {
+    if let Deed::Call { op } = line.deed {
+        if let Some(unit) = op.unit(layout) {
+            if unit < contents.units.len() {
+                let _ = contents.units.item_mut(unit).apply(&op)?;
+            }
+        }
+    }
     Ok(())
 }
 
-// Four callers on threads, and what a crash leaves of their run.
 #[test]
-fn a_run_loses_nothing(rt: HostRuntime) -> Result<(), Fail> {
-    let alloc = rt.alloc();
-    let mut boxes = Vec::new(alloc);
-    for _ in 0..4 {
-        boxes.push(SortedIndex::new(alloc))?;
-    }
-    let summary = run_big(&rt, alloc, 7, boxes)?;
+fn the_summary_counts_and_sums(rt: HostRuntime) -> Result<(), Fail> {
+    let job = big_job(rt.alloc(), 7)?;
+    let contents = contents_after(rt.alloc(), &job)?;
+    is_summed(&rt, &contents)
+}
+
+// The contents have the summary of the job of 7.
+fn is_summed(rt: &(impl Abort + AllocGlobal), contents: &Contents) -> Result<(), Fail> {
+    let summary = big_summary(rt.alloc(), 7, contents, 20_000, 20_000, false)?;
     assert!(rt; summary.as_slice() == SUMMARY.as_bytes());
+    Ok(())
+}
+
+#[test]
+fn a_summary_of_nothing_tells_the_clocks_end(rt: HostRuntime) -> Result<(), Fail> {
+    let layout = Layout::new(Kinds::old(4), 2048)?;
+    let nothing = Contents::empty(rt.alloc(), layout)?;
+    let summary = big_summary(rt.alloc(), u64::MAX, &nothing, 0, 0, true)?;
+    assert!(rt; summary.as_slice() == NOTHING_DONE.as_bytes());
     Ok(())
 }
