@@ -1,5 +1,7 @@
 // Parts of the lower crates that no file of cases can show: gates, devices, lists in place, sizes,
 // and operations and replies that no text spells.
+ghost use Rattle.std.specs.Prelude.{◌<◌, length};
+
 use mont_base::{
     Aim, Cut, Entry, Failed, Fuel, Gate, Kinds, Layout, MemSink, MemSource, Op, PairList, Receipt,
     Reply, Sink, SlotList, Source, Steady, Text, UnitKind, deliver,
@@ -35,47 +37,65 @@ fn a_list_of_slots_is_filled_and_cleared(rt: HostRuntime) -> Result<(), Fail> {
 }
 
 #[test]
-fn devices_in_memory_give_take_and_fail(rt: HostRuntime) -> Result<(), Fail> {
+fn a_source_in_memory_gives_and_fails(rt: HostRuntime) -> Result<(), Fail> {
     let alloc = rt.alloc();
     let bytes = Vec::from_slice(alloc, b"abcde")?;
     let mut source = MemSource::new(bytes, 3, vec![in alloc; 1]?);
     let mut buf = [0u8; 4];
-    assert_eq!(rt; source.read(&mut buf), Ok(3));
-    assert_eq!(rt; buf, *b"abc\0");
-    assert_eq!(rt; source.read(&mut buf), Err(Failed));
-    assert_eq!(rt; source.read(&mut buf[..1]), Ok(1));
-    assert_eq!(rt; source.read(&mut buf), Ok(1));
-    assert_eq!(rt; buf, *b"ebc\0");
-    assert_eq!(rt; source.read(&mut buf), Ok(0));
-
-    let mut sink = MemSink::new(alloc, 4, 3, vec![in alloc; 1]?)?;
-    assert_eq!(rt; sink.write(b"abcde"), Ok(3));
-    assert_eq!(rt; sink.write(b"de"), Err(Failed));
-    assert_eq!(rt; sink.write(b"de"), Ok(1));
-    assert_eq!(rt; sink.write(b"e"), Err(Failed));
-    assert_eq!(rt; sink.taken(), b"abcd".as_slice());
+    gives(&rt, &mut source, &mut buf, Ok(3));
+    assert!(rt; buf == *b"abc\0");
+    gives(&rt, &mut source, &mut buf, Err(Failed));
+    gives(&rt, &mut source, &mut buf[..1], Ok(1));
+    gives(&rt, &mut source, &mut buf, Ok(1));
+    assert!(rt; buf == *b"ebc\0");
+    gives(&rt, &mut source, &mut buf, Ok(0));
     Ok(())
 }
 
+fn gives(rt: &impl Abort, source: &mut MemSource, buf: &mut [u8], given: Result<usize, Failed>)
+    requires { 0 < length buf.old }
+{
+    assert_eq!(rt; source.read(buf), given);
+}
+
 #[test]
-fn pairs_are_kept_in_place(rt: HostRuntime) {
+fn a_sink_in_memory_takes_and_fails(rt: HostRuntime) -> Result<(), Fail> {
+    let alloc = rt.alloc();
+    let mut sink = MemSink::new(alloc, 4, 3, vec![in alloc; 1]?)?;
+    takes(&rt, &mut sink, b"abcde", Ok(3));
+    takes(&rt, &mut sink, b"de", Err(Failed));
+    takes(&rt, &mut sink, b"de", Ok(1));
+    takes(&rt, &mut sink, b"e", Err(Failed));
+    assert!(rt; sink.taken() == b"abcd".as_slice());
+    Ok(())
+}
+
+fn takes(rt: &impl Abort, sink: &mut MemSink, bytes: &[u8], taken: Result<usize, Failed>)
+    requires { 0 < length bytes.now }
+{
+    assert_eq!(rt; sink.write(bytes), taken);
+}
+
+#[test]
+fn pairs_are_kept_in_place(rt: HostRuntime) -> Result<(), Fail> {
+    assert!(rt; Text::empty() == Text::of_bytes(b"")?);
     let mut pairs = PairList::empty();
-    assert_eq!(rt;
-        (pairs.len(), Text::empty()),
-        (0, Text::of_bytes(b"").ok().expect(&rt, ""))
-    );
+    assert!(rt; pairs.len() == 0);
     for at in 0..16 {
         assert!(rt; pairs.len() == at);
         pairs.push(Text::of_number(at), Text::of_number(2 * at));
     }
-    let copy = pairs;
-    for (at, pair) in copy.as_slice().iter().enumerate() {
+    are_sixteen_pairs(&rt, &pairs);
+    Ok(())
+}
+
+fn are_sixteen_pairs(rt: &impl Abort, pairs: &PairList) {
+    for (at, pair) in pairs.as_slice().iter().enumerate() {
         let at = at as u64;
-        assert_eq!(rt; *pair, (Text::of_number(at), Text::of_number(2 * at)));
-        assert!(rt; at < copy.len());
-        assert_eq!(rt; copy.pair(at), *pair);
+        assert!(rt; at < pairs.len() && pairs.pair(at) == *pair);
+        assert!(rt; *pair == (Text::of_number(at), Text::of_number(at.wrapping_mul(2))));
     }
-    assert_eq!(rt; (copy.len(), copy == PairList::empty()), (16, false));
+    assert_eq!(rt; (pairs.len(), *pairs == PairList::empty()), (16, false));
 }
 
 #[test]

@@ -4,6 +4,7 @@ use mont_base::{MemSource, ObjectFault, SlotFault};
 use mont_image::{Image, read_image};
 use old_image::migrate;
 use std::alloc::{AllocError, Global};
+use std::process::Abort;
 use std::test::Fail;
 
 const MAGIC: u64 = 0x0a45_4741_544e_4f4d;
@@ -27,7 +28,7 @@ const PUT_NOW: &[u64] = &[2, 256, 1, 1, 1, 2, 49, 0, 0, 12_337, 0, 0];
 // The same beyond the cut of clock 4.
 const LATE: &[u64] = &[3, 256, 1, 1, 1, 10, 0, 0];
 
-const ROWS: [Row; 32] = [
+static ROWS: &[Row] = &[
     (1, 24, 4, &[], Ok(&[])),
     (1, 24, 4, &[(0, PUT)], Ok(&[(0, PUT_NOW)])),
     (8, 80, LAST, &[], Ok(&[])),
@@ -454,21 +455,29 @@ fn words_now(
 
 #[test]
 fn old_images_are_migrated_or_refused(rt: HostRuntime) -> Result<(), Fail> {
-    let alloc = rt.alloc();
-    for (maps, total, clock, slots, found) in ROWS {
-        let image = old_image(alloc, maps, total, clock, slots)?;
-        assert!(rt; image.old);
-        let answer = migrate(alloc, &image);
+    for row in ROWS {
+        let (maps, total, clock, slots, found) = *row;
+        let image = old_image(rt.alloc(), maps, total, clock, slots)?;
         match found {
             Ok(now) => {
-                let made = answer.ok().ok_or("an image")?;
-                let words = words_now(alloc, total, clock, now)?;
-                assert!(rt; !made.old);
-                assert!(rt; made.layout == image.layout);
-                assert_eq!(rt; made.words.as_slice(), words.as_slice());
+                let words = words_now(rt.alloc(), total, clock, now)?;
+                is_migrated(&rt, &image, words.as_slice())?;
             }
-            Err(refusal) => assert_eq!(rt; answer.err(), Some(refusal)),
+            Err(refusal) => is_refused(&rt, &image, refusal),
         }
     }
     Ok(())
+}
+
+fn is_migrated(rt: &(impl Abort + AllocGlobal), image: &Image, words: &[u64]) -> Result<(), Fail> {
+    assert!(rt; image.old);
+    let made = migrate(rt.alloc(), image).ok().ok_or("an image")?;
+    assert!(rt; !made.old && made.layout == image.layout);
+    assert_eq!(rt; made.words.as_slice(), words);
+    Ok(())
+}
+
+fn is_refused(rt: &(impl Abort + AllocGlobal), image: &Image, refusal: RecoverRefusal) {
+    assert!(rt; image.old);
+    assert_eq!(rt; migrate(rt.alloc(), image).err(), Some(refusal));
 }

@@ -1,10 +1,11 @@
 // Images that are read, refused, written and picked. The bytes and words were worked out by hand
 // from the format.
-ghost use Rattle.std.specs.Prelude.{◌<◌};
+ghost use Rattle.std.specs.Prelude.{◌≡◌, ◌<◌, false};
 
 use mont_base::{Failed, Kinds, Layout, MemSink, MemSource, Sequence, Words};
 use mont_image::{Image, ImageRefusal, pick, read_image, write_image};
 use std::alloc::{AllocError, Global};
+use std::process::Abort;
 use std::test::Fail;
 
 // The front of the text of an image of a map, a queue and a graph of 8 slots each, with clock 4,
@@ -45,7 +46,7 @@ const SIXTEEN: &[u64] = &[
     MAGIC, 3, 16, 8, LAST, 1, 2, 3, 1, 2, 3, 1, 2, 3, 1, 2, 3, 3, 3, 3, 3,
 ];
 
-const GOOD: [Good; 8] = [
+static GOOD: &[Good] = &[
     (&[MAGIC, 3, 3, 8, 4, 1, 2, 3], b"mqg", false, 12, 0, PUT),
     (&[MAGIC, 2, 1, 8, 4], b"mqg", false, 12, 0, PUT),
     (&[MAGIC, 1, 1, 8, 4], b"mqg", true, 8, 0, OLD_PUT),
@@ -59,7 +60,7 @@ const GOOD: [Good; 8] = [
 // The words in front, how many words and how many bytes more follow, and the refusal.
 type Bad = (&'static [u64], usize, usize, ImageRefusal);
 
-const BAD: [Bad; 44] = [
+static BAD: &[Bad] = &[
     (&[], 0, 0, ImageRefusal::Short { words: 0 }),
     (&[], 0, 7, ImageRefusal::Short { words: 0 }),
     (&[1, 9, 0, 0], 0, 7, ImageRefusal::Short { words: 4 }),
@@ -181,6 +182,10 @@ fn good_text(alloc: Global, good: &Good) -> Result<Vec<u8>, Fail> {
     Ok(text)
 }
 
+fn first_text(alloc: Global) -> Result<Vec<u8>, Fail> {
+    good_text(alloc, GOOD.first().ok_or("a text")?)
+}
+
 fn read(alloc: Global, text: &[u8], piece: u64, fails: &[u64]) -> Result<Image, ImageRefusal>
     requires { 0 < piece }
 {
@@ -199,72 +204,130 @@ fn words_of(image: &Image, fields: usize, slot: usize) -> Option<&[u64]> {
 
 #[test]
 fn images_are_read_and_written(rt: HostRuntime) -> Result<(), Fail> {
-    let alloc = rt.alloc();
-    let first = good_text(alloc, &GOOD[0])?;
-    assert_eq!(rt; first.len(), 2368);
+    let first = first_text(rt.alloc())?;
     assert_eq!(rt; first.as_slice().get(..FRONT.len()), Some(FRONT));
-    for good in &GOOD {
-        let text = good_text(alloc, good)?;
-        let (front, letters, old, fields, slot, words) = *good;
-        let layout = Layout::new(Kinds::of_letters(letters)?, 8)?;
+    for good in GOOD {
+        let text = good_text(rt.alloc(), good)?;
         for piece in PIECES {
-            assert!(rt; piece > 0);
-            let image = read(alloc, text.as_slice(), piece, &[])
-                .ok()
-                .ok_or("an image")?;
-            assert_eq!(rt; (image.layout, image.old), (layout, old));
-            assert_eq!(rt; Some(image.clock()), front.get(4).copied());
-            assert_eq!(rt; words_of(&image, fields, slot), Some(words));
-            let other = words_of(&image, fields, 1).ok_or("a slot")?;
-            assert!(rt; other.iter().all(|word| *word == 0));
-            if !image.old && front.len() > 5 {
-                let mut sink = MemSink::new(alloc, 20_000, piece, Vec::new(alloc))?;
-                assert_eq!(rt; write_image(&image, &mut sink), Ok(()));
-                assert_eq!(rt; sink.taken(), text.as_slice());
-            }
+            is_read_and_written(&rt, good, text.as_slice(), piece)?;
         }
     }
+    Ok(())
+}
+
+// A text is read by pieces of so many bytes, and that of a new image is written again.
+fn is_read_and_written(
+    rt: &(impl Abort + AllocGlobal),
+    good: &Good,
+    text: &[u8],
+    piece: u64,
+) -> Result<(), Fail> {
+    assert!(rt; piece > 0);
+    let image = read(rt.alloc(), text, piece, &[]).ok().ok_or("an image")?;
+    is_read(rt, good, &image)?;
+    if image.old {
+        return Ok(());
+    }
+    let (front, ..) = *good;
+    if front.len() > 5 {
+        is_written(rt, &image, text, piece)?;
+    }
+    Ok(())
+}
+
+// The image is that of the table.
+fn is_read(rt: &impl Abort, good: &Good, image: &Image) -> Result<(), Fail> {
+    let (front, letters, old, fields, slot, words) = *good;
+    let layout = Layout::new(Kinds::of_letters(letters)?, 8)?;
+    assert_eq!(rt; (image.layout, image.old), (layout, old));
+    assert_eq!(rt; Some(image.clock()), front.get(4).copied());
+    assert_eq!(rt; words_of(image, fields, slot), Some(words));
+    let other = words_of(image, fields, 1).ok_or("a slot")?;
+    assert!(rt; other.iter().all(|word| *word == 0));
+    Ok(())
+}
+
+// The image is written as it was read.
+fn is_written(
+    rt: &(impl Abort + AllocGlobal),
+    image: &Image,
+    text: &[u8],
+    piece: u64,
+) -> Result<(), Fail>
+    requires new { image.now.old ≡ false }
+    requires some { 0 < piece }
+{
+    let alloc = rt.alloc();
+    let mut sink = MemSink::new(alloc, 20_000, piece, Vec::new(alloc))?;
+    assert_eq!(rt; write_image(image, &mut sink), Ok(()));
+    assert_eq!(rt; sink.taken(), text);
     Ok(())
 }
 
 #[test]
 fn wrong_bytes_are_refused(rt: HostRuntime) -> Result<(), Fail> {
-    for (front, words, more, refusal) in BAD {
-        let mut text = Vec::new(rt.alloc());
-        push_words(&mut text, front)?;
-        push_zeros(&mut text, words.checked_mul(8).ok_or("few words")?)?;
-        push_zeros(&mut text, more)?;
+    for bad in BAD {
+        let text = bad_text(rt.alloc(), bad)?;
         for piece in PIECES {
-            assert!(rt; piece > 0);
-            let answer = read(rt.alloc(), text.as_slice(), piece, &[]).err();
-            assert_eq!(rt;
-                answer,
-                Some(refusal),
-                "{front:?} and {words} words, {more} bytes"
-            );
+            is_refused(&rt, bad, text.as_slice(), piece);
         }
     }
     Ok(())
 }
 
+fn bad_text(alloc: Global, bad: &Bad) -> Result<Vec<u8>, Fail> {
+    let (front, words, more, _) = *bad;
+    let mut text = Vec::new(alloc);
+    push_words(&mut text, front)?;
+    push_zeros(&mut text, words.checked_mul(8).ok_or("few words")?)?;
+    push_zeros(&mut text, more)?;
+    Ok(text)
+}
+
+// A text that is read by pieces of so many bytes is refused as in the table.
+fn is_refused(rt: &(impl Abort + AllocGlobal), bad: &Bad, text: &[u8], piece: u64) {
+    let (front, words, more, refusal) = *bad;
+    assert!(rt; piece > 0);
+    let answer = read(rt.alloc(), text, piece, &[]).err();
+    assert_eq!(rt;
+        answer,
+        Some(refusal),
+        "{front:?} and {words} words, {more} bytes"
+    );
+}
+
 #[test]
 fn devices_fail_at_each_call(rt: HostRuntime) -> Result<(), Fail> {
     let alloc = rt.alloc();
-    let text = good_text(alloc, &GOOD[0])?;
+    let text = first_text(alloc)?;
     let image = read(alloc, text.as_slice(), 64, &[])
         .ok()
         .ok_or("an image")?;
     assert!(rt; !image.old);
+    assert_eq!(rt; text.len(), 2368);
     for call in 0..text.len() {
-        let fails = vec![in alloc; call as u64]?;
-        let answer = read(alloc, text.as_slice(), 1, fails.as_slice()).err();
-        assert_eq!(rt; answer, Some(ImageRefusal::Read));
-        let mut sink = MemSink::new(alloc, 3000, 1, fails)?;
-        assert_eq!(rt; write_image(&image, &mut sink), Err(Failed));
-        assert_eq!(rt; Some(sink.taken()), text.as_slice().get(..call));
+        fails_at(&rt, &image, text.as_slice(), call)?;
     }
     let magic = read(alloc, b"MONTAGE!aaaaaaaabbbbbbbbccccccccdddddddd", 8, &[5]).err();
     assert_eq!(rt; magic, Some(ImageRefusal::Magic));
+    Ok(())
+}
+
+// A reader and a writer of single bytes are refused by the device's call of this number.
+fn fails_at(
+    rt: &(impl Abort + AllocGlobal),
+    image: &Image,
+    text: &[u8],
+    call: usize,
+) -> Result<(), Fail>
+    requires { image.now.old ≡ false }
+{
+    let fails = vec![in rt.alloc(); call as u64]?;
+    let answer = read(rt.alloc(), text, 1, fails.as_slice()).err();
+    assert_eq!(rt; answer, Some(ImageRefusal::Read));
+    let mut sink = MemSink::new(rt.alloc(), 3000, 1, fails)?;
+    assert_eq!(rt; write_image(image, &mut sink), Err(Failed));
+    assert_eq!(rt; Some(sink.taken()), text.get(..call));
     Ok(())
 }
 
@@ -284,32 +347,43 @@ fn numbered(alloc: Global, layout: Layout) -> Result<Words, Fail> {
     })
 }
 
+// The places of words that are looked at, and what each mask picks there.
+const PLACES: [u64; 8] = [0, 1, 62, 63, 64, 127, 128, 288];
+
+static PICKS: &[(u64, [u64; 8])] = &[
+    (0, [5000, 5001, 5062, 5063, 5064, 5127, 5128, 5288]),
+    (u64::MAX, [1000, 1001, 1062, 1063, 1064, 1127, 1128, 1288]),
+    (1, [1000, 5001, 5062, 5063, 1064, 5127, 1128, 5288]),
+    (1 << 63, [5000, 5001, 5062, 1063, 5064, 1127, 5128, 5288]),
+    (
+        0x5555_5555_5555_5555,
+        [1000, 5001, 1062, 5063, 1064, 5127, 1128, 1288],
+    ),
+    (1 << 32, [5000, 5001, 5062, 5063, 5064, 5127, 5128, 1288]),
+];
+
 #[test]
 fn a_mask_picks_each_word(rt: HostRuntime) -> Result<(), Fail> {
     let layout = Layout::new(Kinds::of_letters(b"mqg")?, 8)?;
     let words = numbered(rt.alloc(), layout)?;
-    assert_eq!(rt; words.cur.len(), words.layout.words());
-    assert_eq!(rt; words.dur.len(), words.layout.words());
-    let clocks = (words.cur.as_slice()[0], words.dur.as_slice()[0]);
-    assert_eq!(rt; clocks, (1000, 5000));
-    let table = [
-        (0, [5000, 5001, 5062, 5063, 5064, 5127, 5128, 5288]),
-        (u64::MAX, [1000, 1001, 1062, 1063, 1064, 1127, 1128, 1288]),
-        (1, [1000, 5001, 5062, 5063, 1064, 5127, 1128, 5288]),
-        (1 << 63, [5000, 5001, 5062, 1063, 5064, 1127, 5128, 5288]),
-        (
-            0x5555_5555_5555_5555,
-            [1000, 5001, 1062, 5063, 1064, 5127, 1128, 1288],
-        ),
-        (1 << 32, [5000, 5001, 5062, 5063, 5064, 5127, 5128, 1288]),
-    ];
-    for (mask, expected) in table {
-        let image = pick(rt.alloc(), &words, mask)?;
+    for (mask, expected) in PICKS {
+        let image = picked(&rt, &words, *mask)?;
         assert_eq!(rt; (image.layout, image.old), (layout, false));
         assert_eq!(rt; image.words.len(), 289);
-        for (at, word) in [0, 1, 62, 63, 64, 127, 128, 288].iter().zip(expected) {
-            assert_eq!(rt; image.words.get(*at), Some(&word), "{mask} at {at}");
-        }
+        are_picked(&rt, &image, *mask, expected);
     }
     Ok(())
+}
+
+fn picked(rt: &(impl Abort + AllocGlobal), words: &Words, mask: u64) -> Result<Image, Fail> {
+    assert!(rt; words.cur.len() == words.layout.words());
+    assert!(rt; words.dur.len() == words.layout.words());
+    assert!(rt; words.cur.as_slice()[0] == 1000 && words.dur.as_slice()[0] == 5000);
+    Ok(pick(rt.alloc(), words, mask)?)
+}
+
+fn are_picked(rt: &impl Abort, image: &Image, mask: u64, expected: &[u64; 8]) {
+    for (at, word) in PLACES.iter().zip(expected) {
+        assert_eq!(rt; image.words.get(*at), Some(word), "{mask} at {at}");
+    }
 }

@@ -3,7 +3,9 @@ use mont_base::{Held, Kind, Label, MemSource, Slot, SlotFault};
 use mont_image::{Image, read_image};
 use scan::{ScanRefusal, scan};
 use std::alloc::{AllocError, Global};
+use std::process::Abort;
 use std::test::Fail;
+use std::thread::Threads;
 
 const MAGIC: u64 = 0x0a45_4741_544e_4f4d;
 
@@ -95,7 +97,7 @@ const HELD_LAST: Held = Held {
     body: PAIR,
 };
 
-const ROWS: [Row; 9] = [
+static ROWS: &[Row] = &[
     (FRONT, 24, &[(5, CLOSED)], Ok((&[], &[]))),
     (
         FRONT,
@@ -182,22 +184,33 @@ fn image_of(alloc: Global, front: &[u64], total: usize, slots: Slots) -> Result<
 
 #[test]
 fn images_are_scanned_by_any_number_of_workers(rt: HostRuntime) -> Result<(), Fail> {
-    let alloc = rt.alloc();
-    for (front, total, slots, found) in ROWS {
-        let image = image_of(alloc, front, total, slots)?;
-        assert!(rt; !image.old);
+    for row in ROWS {
+        let (front, total, slots, found) = *row;
+        let image = image_of(rt.alloc(), front, total, slots)?;
         for workers in WORKERS {
-            assert!(rt; (1..=64).contains(&workers));
-            let answer = scan(&rt, alloc, &image, workers);
-            match found {
-                Ok((records, lost)) => {
-                    let all = answer.ok().ok_or("a scan")?;
-                    assert_eq!(rt; all.records.as_slice(), records, "{workers}");
-                    assert_eq!(rt; all.lost.as_slice(), lost, "{workers}");
-                }
-                Err(refusal) => assert_eq!(rt; answer.err(), Some(refusal), "{workers}"),
-            }
+            is_scanned(&rt, &image, workers, found)?;
         }
     }
+    Ok(())
+}
+
+fn is_scanned(
+    rt: &(impl Abort + AllocGlobal + Threads + Sync),
+    image: &Image,
+    workers: u64,
+    found: Found,
+) -> Result<(), Fail> {
+    assert!(rt; !image.old && (1..=64).contains(&workers));
+    let answer = scan(rt, rt.alloc(), image, workers);
+    let (records, lost) = match found {
+        Ok(found) => found,
+        Err(refusal) => {
+            assert_eq!(rt; answer.err(), Some(refusal), "{workers}");
+            return Ok(());
+        }
+    };
+    let all = answer.ok().ok_or("a scan")?;
+    assert_eq!(rt; all.records.as_slice(), records, "{workers}");
+    assert_eq!(rt; all.lost.as_slice(), lost, "{workers}");
     Ok(())
 }

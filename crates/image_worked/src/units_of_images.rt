@@ -4,7 +4,9 @@ use mont_base::{MemSource, ObjectFault, Slot, SlotFault, Text};
 use mont_image::{Image, ImageRefusal, read_image};
 use plain::UnitState;
 use std::alloc::{AllocError, Global};
+use std::process::Abort;
 use std::test::Fail;
+use std::thread::Threads;
 
 const MAGIC: u64 = 0x0a45_4741_544e_4f4d;
 
@@ -16,9 +18,12 @@ type Slots = &'static [(usize, &'static [u64])];
 // Of each unit the slots of its records, of what is lost, and of its live objects.
 type Units = &'static [(&'static [Slot], &'static [Slot], &'static [Slot])];
 
+// What is found.
+type Found = Result<Units, RecoverRefusal>;
+
 // The codes of the kinds, which slots aren't closed, and what is found. Each unit has eight slots,
 // and the clock is 4.
-type Row = (&'static [u64], Slots, Result<Units, RecoverRefusal>);
+type Row = (&'static [u64], Slots, Found);
 
 const ZEROS: &[u64] = &[0; 12];
 
@@ -49,7 +54,7 @@ const MAP_QUEUE: &[u64] = &[1, 2];
 
 const TWO_MAPS: &[u64] = &[1, 1];
 
-const ROWS: [Row; 8] = [
+static ROWS: &[Row] = &[
     (
         MAP_QUEUE,
         &[
@@ -162,18 +167,27 @@ fn is_found(found: &FoundImage, units: Units) -> bool {
 
 #[test]
 fn images_are_looked_through_by_any_number_of_workers(rt: HostRuntime) -> Result<(), Fail> {
-    let alloc = rt.alloc();
-    for (codes, slots, found) in ROWS {
-        let image = image_of(alloc, codes, slots)?;
-        assert!(rt; !image.old);
+    for row in ROWS {
+        let (codes, slots, found) = *row;
+        let image = image_of(rt.alloc(), codes, slots)?;
         for workers in WORKERS {
-            assert!(rt; (1..=64).contains(&workers));
-            let answer = find_units(&rt, alloc, &image, workers);
-            match found {
-                Ok(units) => assert!(rt; is_found(&answer.ok().ok_or("units")?, units)),
-                Err(refusal) => assert_eq!(rt; answer.err(), Some(refusal), "{workers}"),
-            }
+            is_looked_through(&rt, &image, workers, found)?;
         }
+    }
+    Ok(())
+}
+
+fn is_looked_through(
+    rt: &(impl Abort + AllocGlobal + Threads + Sync),
+    image: &Image,
+    workers: u64,
+    found: Found,
+) -> Result<(), Fail> {
+    assert!(rt; !image.old && (1..=64).contains(&workers));
+    let answer = find_units(rt, rt.alloc(), image, workers);
+    match found {
+        Ok(units) => assert!(rt; is_found(&answer.ok().ok_or("units")?, units)),
+        Err(refusal) => assert_eq!(rt; answer.err(), Some(refusal), "{workers}"),
     }
     Ok(())
 }
@@ -181,7 +195,7 @@ fn images_are_looked_through_by_any_number_of_workers(rt: HostRuntime) -> Result
 #[test]
 fn found_contents_are_those_of_the_newest_versions(rt: HostRuntime) -> Result<(), Fail> {
     let alloc = rt.alloc();
-    let (codes, slots, _) = ROWS[0];
+    let (codes, slots, _) = *ROWS.first().ok_or("a row")?;
     let image = image_of(alloc, codes, slots)?;
     assert!(rt; !image.old);
     let found = find_units(&rt, alloc, &image, 4).ok().ok_or("units")?;

@@ -19,6 +19,15 @@ pub enum Device {
     ImageOut,
 }
 
+/// The devices of a process, in memory.
+#[derive(Drop)]
+pub struct Ends {
+    pub job: MemSource,
+    pub image: MemSource,
+    pub out: MemSink,
+    pub image_out: MemSink,
+}
+
 /// How the devices of a case give and take bytes.
 #[derive(Drop)]
 pub struct Devices {
@@ -62,24 +71,15 @@ impl Devices {
         }
     }
 
-    /// A source of a job.
-    pub fn job(&self, alloc: Global, text: &[u8]) -> Result<MemSource, AllocError> {
-        source(alloc, text, self.piece, &self.reads)
-    }
-
-    /// A source of an image.
-    pub fn image(&self, alloc: Global, text: &[u8]) -> Result<MemSource, AllocError> {
-        source(alloc, text, self.piece, &self.image_reads)
-    }
-
-    /// A sink of a report.
-    pub fn out(&self, alloc: Global) -> Result<MemSink, AllocError> {
-        sink(alloc, self.piece, &self.writes)
-    }
-
-    /// A sink of an image.
-    pub fn image_out(&self, alloc: Global) -> Result<MemSink, AllocError> {
-        sink(alloc, self.piece, &self.image_writes)
+    /// The devices of a process with this job and this image.
+    pub fn made(&self, alloc: Global, job: &[u8], image: &[u8]) -> Result<Ends, AllocError> {
+        let piece = self.piece;
+        Ok(Ends {
+            job: source(alloc, job, piece, &self.reads)?,
+            image: source(alloc, image, piece, &self.image_reads)?,
+            out: sink(alloc, piece, &self.writes)?,
+            image_out: sink(alloc, piece, &self.image_writes)?,
+        })
     }
 }
 

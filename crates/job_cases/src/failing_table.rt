@@ -43,11 +43,21 @@ pub fn failing_table<R: AllocGlobal + Files + Threads + Wait + Sync>(
         job: &job,
         image: &image,
     };
-    let mut told = String::new(alloc);
+    tables_of(rt, case, &given, lines)
+}
+
+// What comes where the calls fail of which lines tell.
+fn tables_of<R: AllocGlobal + Threads + Wait + Sync>(
+    rt: &R,
+    case: &Case,
+    given: &Given<'_>,
+    lines: &str,
+) -> Result<Vec<u8>, Unanswered> {
+    let mut told = String::new(rt.alloc());
     for line in lines.trim().split('\n') {
-        told.push_str(line)?;
-        told.push_str("\n")?;
-        told.push_str(table_of(rt, case, &given, line)?.as_str())?;
+        let table = table_of(rt, case, given, line)?;
+        writeln!(told, "{line}")?;
+        told.push_str(table.as_str())?;
     }
     Ok(told.into_bytes())
 }
@@ -60,26 +70,66 @@ fn table_of<R: AllocGlobal + Threads + Wait + Sync>(
     line: &str,
 ) -> Result<String, Unanswered> {
     let alloc = rt.alloc();
+    let failing = failing_in(line)?;
+    let mut devices = Devices::of_case(alloc, case)?;
+    let whole = came_of(rt, &devices, given)?;
+    let mut ranges = NumberRanges::new(alloc);
+    push_calls(rt, &mut devices, given, failing, &whole, &mut ranges)?;
+    Ok(ranges.into_table()?)
+}
+
+// A device, and how many calls fail behind one that does.
+#[derive(Clone, Copy)]
+struct Failing {
+    device: Device,
+    behind: u64,
+}
+
+fn failing_in(line: &str) -> Result<Failing, Unanswered> {
     let (name, behind) = match line.strip_prefix("all ") {
         Some(name) => (name, CALLS_BEHIND),
         None => (line, 0),
     };
-    let Some(device) = device_of(name) else {
-        return Err(Unanswered::Unclear { head: EACH_FAILING });
-    };
-    let mut devices = Devices::of_case(alloc, case)?;
-    let whole = came_of(rt, &devices, given)?;
-    let mut ranges = NumberRanges::new(alloc);
+    match device_of(name) {
+        Some(device) => Ok(Failing { device, behind }),
+        None => Err(Unanswered::Unclear { head: EACH_FAILING }),
+    }
+}
+
+// Adds what comes where each call fails, up to the first that isn't made.
+fn push_calls<R: AllocGlobal + Threads + Wait + Sync>(
+    rt: &R,
+    devices: &mut Devices,
+    given: &Given<'_>,
+    failing: Failing,
+    whole: &Came,
+    ranges: &mut NumberRanges,
+) -> Result<(), AllocError> {
     for call in 0..MOST_CALLS {
-        devices.fail(device, numbers(alloc, call, call.saturating_add(behind))?);
-        let came = came_of(rt, &devices, given)?;
-        let taken = call.saturating_mul(devices.piece());
-        ranges.push(call, told_of(alloc, device, &whole, &came, taken)?)?;
-        if came.code == whole.code {
-            break;
+        if push_call(rt, devices, given, failing, whole, call, ranges)? == whole.code {
+            return Ok(());
         }
     }
-    Ok(ranges.into_table()?)
+    Ok(())
+}
+
+// Adds what comes where a call fails, and gives the exit status.
+fn push_call<R: AllocGlobal + Threads + Wait + Sync>(
+    rt: &R,
+    devices: &mut Devices,
+    given: &Given<'_>,
+    failing: Failing,
+    whole: &Came,
+    call: u64,
+    ranges: &mut NumberRanges,
+) -> Result<u8, AllocError> {
+    let alloc = rt.alloc();
+    let Failing { device, behind } = failing;
+    devices.fail(device, numbers(alloc, call, call.saturating_add(behind))?);
+    let came = came_of(rt, devices, given)?;
+    let taken = call.saturating_mul(devices.piece());
+    ranges.push(call, told_of(alloc, device, whole, &came, taken)?)?;
+    Ok(came.code)
 }
 
 // The device that a line names.
@@ -111,25 +161,36 @@ fn told_of(
     came: &Came,
     taken: u64,
 ) -> Result<String, AllocError> {
-    let code = came.code;
-    if code == whole.code {
+    if came.code == whole.code {
         let same = came.out == whole.out && came.image == whole.image;
-        let told = if same { "isn't made" } else { "another answer" };
-        return format!(in alloc; "{told}");
+        return String::from_str(alloc, if same { "isn't made" } else { "another answer" });
     }
     let (out, image) = match device {
         Device::Job | Device::Image => (0, 0),
         Device::Out => (taken, 0),
         Device::ImageOut => (u64::MAX, taken),
     };
-    let said = came.out.strip_prefix(front(&whole.out, out));
-    let Some(said) = said else {
+    told_behind(
+        alloc,
+        came,
+        front(&whole.out, out),
+        front(&whole.image, image),
+    )
+}
+
+// What was said behind this output, if the sinks took it and this image; and the exit status.
+fn told_behind(alloc: Global, came: &Came, out: &[u8], image: &[u8]) -> Result<String, AllocError> {
+    let code = came.code;
+    let Some(said) = came.out.strip_prefix(out) else {
         return format!(in alloc; "another output, exit status {code}");
     };
-    if came.image.as_slice() != front(&whole.image, image) {
+    if came.image.as_slice() != image {
         return format!(in alloc; "another image, exit status {code}");
     }
-    let said = str::from_utf8(said).unwrap_or("").trim_end();
+    told_said(alloc, code, str::from_utf8(said).unwrap_or("").trim_end())
+}
+
+fn told_said(alloc: Global, code: u8, said: &str) -> Result<String, AllocError> {
     let said = if said.is_empty() {
         "nothing said"
     } else {

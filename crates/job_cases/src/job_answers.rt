@@ -1,6 +1,6 @@
 // What comes of a case on words, a job and an image.
 use crate::boxes::{BoxKind, boxes_in, empty_boxes};
-use crate::devices_told::{Devices, first_number};
+use crate::devices_told::{Devices, Ends, first_number};
 use crate::ended_process::ended;
 use crate::failing_table::{EACH_FAILING, failing_table};
 use crate::image_told::tell_image;
@@ -9,7 +9,7 @@ use crate::stop_table::{STOPS, stop_table};
 use case_file::{Case, Unanswered, is_wanted};
 use case_image::{has_image, image_text};
 use index_kit::{Index, ProbeIndex, SortedIndex};
-use mont_base::{MemSink, MemSource, Text};
+use mont_base::Text;
 use std::alloc::{AllocError, Global};
 use std::rt::Files;
 use std::sync::Wait;
@@ -18,7 +18,7 @@ use std::{fs, str};
 
 // The heads of what the process is asked, first and behind that, each time with the image that was
 // written last.
-const STEPS: [(&str, &str); 3] = [
+static STEPS: &[(&str, &str)] = &[
     ("words", "job"),
     ("next words", "next job"),
     ("last words", "last job"),
@@ -42,16 +42,35 @@ pub fn answer<R: AllocGlobal + Files + Threads + Wait + Sync>(
     if let Some(told) = case.part("boxes") {
         return answer_with(rt, case, &boxes_in(alloc, told)?);
     }
-    let mut got = Vec::new(alloc);
-    for _time in 0..first_number(alloc, case, "times")?.unwrap_or(1) {
+    let times = first_number(alloc, case, "times")?.unwrap_or(1);
+    answer_often(rt, case, times)
+}
+
+// What comes of a case with empty boxes of either kind, which is tried so often.
+fn answer_often<R: AllocGlobal + Files + Threads + Wait + Sync>(
+    rt: &R,
+    case: &Case,
+    times: u64,
+) -> Result<Vec<u8>, Unanswered> {
+    let mut got = Vec::new(rt.alloc());
+    for _time in 0..times {
         for sorted in [true, false] {
-            got = answer_with(rt, case, &empty_boxes(alloc, sorted)?)?;
+            got = answer_with_empty(rt, case, sorted)?;
             if !is_wanted(case, got.as_slice()) {
                 return Ok(got);
             }
         }
     }
     Ok(got)
+}
+
+fn answer_with_empty<R: AllocGlobal + Files + Threads + Wait + Sync>(
+    rt: &R,
+    case: &Case,
+    sorted: bool,
+) -> Result<Vec<u8>, Unanswered> {
+    let boxes = empty_boxes(rt.alloc(), sorted)?;
+    answer_with(rt, case, &boxes)
 }
 
 // What comes of a case with these boxes.
@@ -61,57 +80,94 @@ fn answer_with<R: AllocGlobal + Files + Threads + Wait + Sync>(
     boxes: &[BoxKind],
 ) -> Result<Vec<u8>, Unanswered> {
     let alloc = rt.alloc();
-    let devices = Devices::of_case(alloc, case)?;
-    let mut image = image_of(alloc, case)?;
-    let _ = case.needed(STEPS[0].0)?;
     let mut answer = Vec::new(alloc);
-    for (words_head, job_head) in STEPS {
-        if let Some(words) = case.part(words_head) {
-            let words = words_in(alloc, words)?;
-            let job = job_of(rt, case, job_head)?;
-            let written = step(rt, &words, &devices, &job, &image, boxes, &mut answer)?;
-            if !written.is_empty() {
-                image = written;
-            }
-        }
-    }
+    add_steps(rt, case, boxes, &mut answer)?;
     in_short(alloc, case, answer)
 }
 
-// Adds what the process answers these words, and gives the image that it writes.
+// Adds what the process answers, each time it is asked.
+fn add_steps<R: AllocGlobal + Files + Threads + Wait + Sync>(
+    rt: &R,
+    case: &Case,
+    boxes: &[BoxKind],
+    answer: &mut Vec<u8>,
+) -> Result<(), Unanswered> {
+    let alloc = rt.alloc();
+    let devices = Devices::of_case(alloc, case)?;
+    let mut image = image_of(alloc, case)?;
+    let _ = case.needed("words")?;
+    for heads in STEPS {
+        add_asked(rt, case, *heads, &devices, boxes, &mut image, answer)?;
+    }
+    Ok(())
+}
+
+// Adds what the process answers the words with a head, where the case has them.
+fn add_asked<R: AllocGlobal + Files + Threads + Wait + Sync>(
+    rt: &R,
+    case: &Case,
+    heads: (&'static str, &'static str),
+    devices: &Devices,
+    boxes: &[BoxKind],
+    image: &mut Vec<u8>,
+    answer: &mut Vec<u8>,
+) -> Result<(), Unanswered> {
+    let (words_head, job_head) = heads;
+    let Some(words) = case.part(words_head) else {
+        return Ok(());
+    };
+    let words = words_in(rt.alloc(), words)?;
+    let job = job_of(rt, case, job_head)?;
+    Ok(step(rt, &words, devices, &job, boxes, image, answer)?)
+}
+
+// Adds what the process answers these words, and takes the image over that it writes.
 fn step<R: AllocGlobal + Threads + Wait + Sync>(
     rt: &R,
     words: &[String],
     devices: &Devices,
     job: &[u8],
-    image: &[u8],
     boxes: &[BoxKind],
+    image: &mut Vec<u8>,
     answer: &mut Vec<u8>,
-) -> Result<Vec<u8>, AllocError> {
+) -> Result<(), AllocError> {
     let alloc = rt.alloc();
-    let mut job = devices.job(alloc, job)?;
-    let mut image = devices.image(alloc, image)?;
-    let mut out = devices.out(alloc)?;
-    let mut image_out = devices.image_out(alloc)?;
-    let code = ended_with(
-        rt,
-        words,
-        &mut job,
-        &mut image,
-        boxes,
-        &mut out,
-        &mut image_out,
-    )?;
-    answer.extend_from_slice(out.taken())?;
-    let written = image_out.taken();
-    if !written.is_empty() {
-        let mut told = String::new(alloc);
-        tell_image(alloc, &mut told, written)?;
-        answer.extend_from_slice(told.as_bytes())?;
-    }
+    let mut ends = devices.made(alloc, job, image.as_slice())?;
+    let code = ended_with(rt, words, &mut ends, boxes)?;
+    add_written(alloc, answer, &ends, code)?;
+    take_image(alloc, image, ends.image_out.taken())
+}
+
+// Adds what the sinks took, and the exit status.
+fn add_written(
+    alloc: Global,
+    answer: &mut Vec<u8>,
+    ends: &Ends,
+    code: u8,
+) -> Result<(), AllocError> {
+    answer.extend_from_slice(ends.out.taken())?;
+    add_image(alloc, answer, ends.image_out.taken())?;
     let last = format!(in alloc; "exit status {code}\n")?;
-    answer.extend_from_slice(last.as_bytes())?;
-    written.to_vec(alloc)
+    answer.extend_from_slice(last.as_bytes())
+}
+
+// Adds what is told of a written image.
+fn add_image(alloc: Global, answer: &mut Vec<u8>, written: &[u8]) -> Result<(), AllocError> {
+    if written.is_empty() {
+        return Ok(());
+    }
+    let mut told = String::new(alloc);
+    tell_image(alloc, &mut told, written)?;
+    answer.extend_from_slice(told.as_bytes())
+}
+
+// Takes the image over that was written, if one was.
+fn take_image(alloc: Global, image: &mut Vec<u8>, written: &[u8]) -> Result<(), AllocError> {
+    if !written.is_empty() {
+        let taken = written.to_vec(alloc)?;
+        *image = taken;
+    }
+    Ok(())
 }
 
 // The exit status behind these words, with boxes of these kinds, which are made where they are
@@ -119,11 +175,8 @@ fn step<R: AllocGlobal + Threads + Wait + Sync>(
 fn ended_with<R: AllocGlobal + Threads + Wait + Sync>(
     rt: &R,
     words: &[String],
-    job: &mut MemSource,
-    image: &mut MemSource,
+    ends: &mut Ends,
     boxes: &[BoxKind],
-    out: &mut MemSink,
-    image_out: &mut MemSink,
 ) -> Result<u8, AllocError> {
     let alloc = rt.alloc();
     let mut indexes: Vec<Box<dyn Index + Send>> = Vec::new(alloc);
@@ -131,15 +184,26 @@ fn ended_with<R: AllocGlobal + Threads + Wait + Sync>(
         match kind {
             BoxKind::Sorted => indexes.push(Box::new(alloc, SortedIndex::new(alloc))?)?,
             BoxKind::Probed => indexes.push(Box::new(alloc, ProbeIndex::new(alloc))?)?,
-            BoxKind::Full => {
-                let mut index = SortedIndex::new(alloc);
-                index.reserve()?;
-                let _ = index.put(Text::of_number(1), 0);
-                indexes.push(Box::new(alloc, index)?)?;
-            }
+            BoxKind::Full => indexes.push(Box::new(alloc, full_index(alloc)?)?)?,
         }
     }
-    Ok(ended(rt, words, job, image, indexes, out, image_out))
+    Ok(ended(
+        rt,
+        words,
+        &mut ends.job,
+        &mut ends.image,
+        indexes,
+        &mut ends.out,
+        &mut ends.image_out,
+    ))
+}
+
+// A sorted box that holds a pair.
+fn full_index(alloc: Global) -> Result<SortedIndex, AllocError> {
+    let mut index = SortedIndex::new(alloc);
+    index.reserve()?;
+    let _ = index.put(Text::of_number(1), 0);
+    Ok(index)
 }
 
 /// The image that a case has, or no byte.

@@ -1,9 +1,9 @@
 // What comes of one process on devices in memory, with empty boxes.
-use crate::devices_told::Devices;
+use crate::devices_told::{Devices, Ends};
 use crate::ended_process::ended;
 use index_kit::{Index, SortedIndex};
 use mont_base::MOST_UNITS;
-use std::alloc::AllocError;
+use std::alloc::{AllocError, Global};
 use std::sync::Wait;
 use std::thread::Threads;
 
@@ -30,26 +30,38 @@ pub fn came_of<R: AllocGlobal + Threads + Wait + Sync>(
     given: &Given<'_>,
 ) -> Result<Came, AllocError> {
     let alloc = rt.alloc();
-    let mut job = devices.job(alloc, given.job)?;
-    let mut image = devices.image(alloc, given.image)?;
-    let mut out = devices.out(alloc)?;
-    let mut image_out = devices.image_out(alloc)?;
+    let mut ends = devices.made(alloc, given.job, given.image)?;
+    let code = code_of(rt, given.words, &mut ends)?;
+    came_with(alloc, code, &ends)
+}
+
+// The exit status of a process with these devices. The boxes are made where they are handed in.
+fn code_of<R: AllocGlobal + Threads + Wait + Sync>(
+    rt: &R,
+    words: &[String],
+    ends: &mut Ends,
+) -> Result<u8, AllocError> {
+    let alloc = rt.alloc();
     let mut indexes: Vec<Box<dyn Index + Send>> = Vec::new(alloc);
     for _unit in 0..MOST_UNITS {
         indexes.push(Box::new(alloc, SortedIndex::new(alloc))?)?;
     }
-    let code = ended(
+    Ok(ended(
         rt,
-        given.words,
-        &mut job,
-        &mut image,
+        words,
+        &mut ends.job,
+        &mut ends.image,
         indexes,
-        &mut out,
-        &mut image_out,
-    );
+        &mut ends.out,
+        &mut ends.image_out,
+    ))
+}
+
+// An exit status, and what the sinks took.
+fn came_with(alloc: Global, code: u8, ends: &Ends) -> Result<Came, AllocError> {
     Ok(Came {
         code,
-        out: out.taken().to_vec(alloc)?,
-        image: image_out.taken().to_vec(alloc)?,
+        out: ends.out.taken().to_vec(alloc)?,
+        image: ends.image_out.taken().to_vec(alloc)?,
     })
 }

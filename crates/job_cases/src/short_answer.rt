@@ -15,17 +15,29 @@ pub fn in_short(alloc: Global, case: &Case, answer: Vec<u8>) -> Result<Vec<u8>, 
     };
     let below = case.part("below").unwrap_or(b"");
     let mut short = Vec::new(alloc);
+    push_lines(alloc, &mut short, answer.as_slice(), only, below)?;
+    Ok(short)
+}
+
+// Adds the lines whose first word stands in a text, with `..` for others between them.
+fn push_lines(
+    alloc: Global,
+    short: &mut Vec<u8>,
+    answer: &[u8],
+    only: &[u8],
+    below: &[u8],
+) -> Result<(), AllocError> {
     let mut leaves_out = false;
     for line in answer.split(|byte| *byte == b'\n') {
         if stands_in(only, word(line, 0)) {
-            push_told(alloc, &mut short, line, below)?;
+            push_told(alloc, short, line, below)?;
             leaves_out = false;
         } else if !leaves_out && !line.is_empty() {
             short.extend_from_slice(LEFT_OUT)?;
             leaves_out = true;
         }
     }
-    Ok(short)
+    Ok(())
 }
 
 // Adds a line, or that its number is below another.

@@ -1,14 +1,16 @@
 // A caller is held in the middle of its put until the other caller and the advancer are under way,
 // and these are held until it is.
 ghost use Rattle.std.specs.Prelude.{◌≡◌, ℕ, false, true};
+ghost use Rattle.job_text.specs.Grammar.{IsJob};
 
 use crate::reports::{is_right, job_of, report_of_run};
 use job_text::{Job, Report, write_report};
 use mont_base::{Cut, Gate};
 use std::alloc::{AllocError, Global};
-use std::sync::Arc;
 use std::sync::atomic::{AtomicU64, Ordering};
+use std::sync::{Arc, Wait};
 use std::test::Fail;
+use std::thread::Threads;
 
 // How often a gate looks for what it waits for, by one load each time.
 const TURNS: u64 = 1_000_000_000;
@@ -145,34 +147,64 @@ fn gate(signals: &Arc<Signals, Global>, hold: Hold) -> Result<Holding, AllocErro
 // Whether the report has this text with one of the two epochs.
 fn is_expected(alloc: Global, report: &Report) -> Result<bool, AllocError> {
     let text = write_report(alloc, report)?;
-    for epoch in 2..4_u64 {
-        let mut expected = String::new(alloc);
-        write!(expected, "{BEFORE_EPOCH}{epoch}{BEHIND_EPOCH}")?;
-        if text.as_slice() == expected.as_bytes() {
-            return Ok(true);
-        }
-    }
-    Ok(false)
+    let before = is_of_epoch(alloc, text.as_slice(), 2)?;
+    Ok(before || is_of_epoch(alloc, text.as_slice(), 3)?)
+}
+
+fn is_of_epoch(alloc: Global, text: &[u8], epoch: u64) -> Result<bool, AllocError> {
+    let mut expected = String::new(alloc);
+    write!(expected, "{BEFORE_EPOCH}{epoch}{BEHIND_EPOCH}")?;
+    Ok(text == expected.as_bytes())
 }
 
 #[test]
 fn others_are_under_way_while_a_put_is_held(rt: HostRuntime) -> Result<(), Fail> {
     let alloc = rt.alloc();
     let job = job_of(alloc, Vec::from_slice(alloc, JOB.as_bytes())?)?;
-    if job.callers != 2 {
-        return Err(Fail::new("another job"));
-    }
     let signals = Arc::new(alloc, Signals::new())?;
-    let gates = vec![in alloc;
-        gate(&signals, Hold::Put { steps: STEPS })?,
-        gate(&signals, Hold::Other)?,
-    ]?;
-    let advancers = gate(&signals, Hold::Other)?;
-    let report = report_of_run(&rt, alloc, &job, gates, advancers)?;
+    meet(&rt, alloc, &job, &signals)
+}
+
+// The threads of a run meet, and its report is right.
+fn meet(
+    rt: &(impl Threads + Wait + Sync),
+    alloc: Global,
+    job: &Job,
+    signals: &Arc<Signals, Global>,
+) -> Result<(), Fail>
+    requires { IsJob job.now }
+{
+    let report = held_report(rt, alloc, job, signals)?;
     if signals.late.load(Ordering::SeqCst) != 0 {
         return Err(Fail::new("the threads didn't meet"));
     }
-    if !is_expected(alloc, &report)? || !is_right(alloc, &job, &report)? {
+    judge(alloc, job, &report)
+}
+
+// The report of a run in which the gates hold the first caller's put, the other caller and the
+// advancer.
+fn held_report(
+    rt: &(impl Threads + Wait + Sync),
+    alloc: Global,
+    job: &Job,
+    signals: &Arc<Signals, Global>,
+) -> Result<Report, Fail>
+    requires { IsJob job.now }
+{
+    if job.callers != 2 {
+        return Err(Fail::new("another job"));
+    }
+    let gates = vec![in alloc;
+        gate(signals, Hold::Put { steps: STEPS })?,
+        gate(signals, Hold::Other)?,
+    ]?;
+    let advancers = gate(signals, Hold::Other)?;
+    report_of_run(rt, alloc, job, gates, advancers)
+}
+
+// The report is the expected one, and faithful.
+fn judge(alloc: Global, job: &Job, report: &Report) -> Result<(), Fail> {
+    if !is_expected(alloc, report)? || !is_right(alloc, job, report)? {
         return Err(Fail::new("another report"));
     }
     Ok(())

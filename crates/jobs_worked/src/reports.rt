@@ -10,7 +10,7 @@ use heap_pass::HeapName;
 use index_kit::SortedIndex;
 use job_report::make_report;
 use job_text::{Job, Outcome, Report, read_job};
-use mont_base::{FIRST_CLOCK, Gate, MemSource, Sequence, Steady};
+use mont_base::{Epoch, FIRST_CLOCK, Gate, Held, MemSource, Sequence, Steady};
 use mont_check::is_faithful;
 use mont_image::pick;
 use montage::{Ran, Store, run};
@@ -61,13 +61,14 @@ pub(crate) fn report_of_run<R: Threads + Wait + Sync, G: Gate + Drop + Send>(
     alloc: Global,
     job: &Job,
     gates: Vec<G>,
-    gate: G,
+    mut gate: G,
 ) -> Result<Report, Fail>
     requires job { IsJob job.now }
     requires gates { vec_len gates ≡ job.now.callers }
 {
+    let boxes = boxes_for(alloc, job)?;
     let (heap, seats) = Heap::fresh(alloc, job.layout, job.callers)?;
-    let ended = run_on::<_, Brand, _>(rt, alloc, heap, seats, gates, gate, job)?;
+    let ended = run_on::<_, Brand, _>(rt, alloc, heap, seats, gates, boxes, &mut gate, job)?;
     reported(alloc, job, ended)
 }
 
@@ -85,7 +86,8 @@ fn run_on<R: Threads + Wait + Sync, N: HeapName + Send + Sync, G: Gate + Drop + 
     heap: Heap,
     seats: Seats,
     gates: Vec<G>,
-    mut gate: G,
+    boxes: Vec<SortedIndex>,
+    gate: &mut G,
     job: &Job,
 ) -> Result<Ended, Fail>
     requires named { heap ≡ N.heap }
@@ -95,9 +97,8 @@ fn run_on<R: Threads + Wait + Sync, N: HeapName + Send + Sync, G: Gate + Drop + 
     requires job { IsJob job.now }
     ensures { IfOk result (λ e. WasStopped job.now.layout e.stopped) }
 {
-    let boxes = boxes_for(alloc, job)?;
     let (store, mut passes) = Store::<N, SortedIndex>::fresh(alloc, heap, seats, gates, boxes)?;
-    let ran = run(rt, alloc, &store, job, &mut passes, &mut gate);
+    let ran = run(rt, alloc, &store, job, &mut passes, gate);
     let stopped = store.stop(alloc, passes);
     Ok(ended_with(ran, stopped)?)
 }
@@ -128,19 +129,32 @@ fn ended_with(
 fn reported(alloc: Global, job: &Job, ended: Ended) -> Result<Report, Fail>
     requires { WasStopped job.now.layout ended.stopped }
 {
+    let (clock, contents) = found(alloc, job, &ended.stopped)?;
     let Ended { outcomes, stopped } = ended;
+    Ok(make_report(alloc, job, stopped, outcomes, clock, contents)?)
+}
+
+// The clock of the image that the job's mask picks, and what recovery finds in it.
+fn found(alloc: Global, job: &Job, stopped: &Stopped) -> Result<(Epoch, Contents), Fail>
+    requires { WasStopped job.now.layout stopped.now }
+{
     let image = pick(alloc, &stopped.words, job.mask)?;
     let contents = recover(alloc, job.layout, image.words.as_slice())?;
-    let clock = image.clock();
-    Ok(make_report(alloc, job, stopped, outcomes, clock, contents)?)
+    Ok((image.clock(), contents))
 }
 
 // Whether a report of a run on a store that was never used is faithful to its job.
 pub(crate) fn is_right(alloc: Global, job: &Job, report: &Report) -> Result<bool, AllocError> {
     let base = Contents::empty(alloc, job.layout)?;
+    let records = no_records(alloc, job)?;
+    is_faithful(alloc, job, FIRST_CLOCK, &base, records.as_slice(), report)
+}
+
+// The records of units that hold none.
+fn no_records(alloc: Global, job: &Job) -> Result<Vec<Sequence<Held>>, AllocError> {
     let mut records = Vec::new(alloc);
     for _ in 0..job.layout.units() {
         records.push(Sequence::new(alloc))?;
     }
-    is_faithful(alloc, job, FIRST_CLOCK, &base, records.as_slice(), report)
+    Ok(records)
 }

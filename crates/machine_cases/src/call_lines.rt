@@ -91,13 +91,19 @@ fn call_of(alloc: Global, line: &str) -> Result<Call, LineFault> {
     let op = op_of(&mut words)?;
     let reply = reply_of(&op, &mut words)?;
     words.end()?;
+    let changes = changes_of(alloc, &op, done)?;
+    Ok(Call { op, reply, changes })
+}
+
+// What an operation does to records.
+fn changes_of(alloc: Global, op: &Op, done: &str) -> Result<Vec<Change>, LineFault> {
     let mut changes = Vec::new(alloc);
     if !done.is_empty() {
         for told in done.split(", ") {
-            changes.push(change_of(&op, told)?)?;
+            changes.push(change_of(op, told)?)?;
         }
     }
-    Ok(Call { op, reply, changes })
+    Ok(changes)
 }
 
 fn change_of(op: &Op, told: &str) -> Result<Change, LineFault> {

@@ -16,20 +16,69 @@ pub fn show_images(
     let unit = words.number()?;
     let op = op_of(words)?;
     let images = images_of(alloc, core)?;
-    let mut text = String::new(alloc);
-    let mut last = String::new(alloc);
-    let mut count = 0u64;
-    for image in images.as_slice() {
-        let answer = answer_of(alloc, core.layout, image.as_slice(), unit, &op)?;
-        if answer.as_str() != last.as_str() {
-            add_count(&mut text, count, last.as_str())?;
-            last = answer;
-            count = 0;
+    let mut answers = Answers::none(alloc);
+    add_answers(
+        alloc,
+        &mut answers,
+        core.layout,
+        images.as_slice(),
+        unit,
+        &op,
+    )?;
+    Ok(answers.into_text()?)
+}
+
+// The answers of images, told for each run of such with the same.
+#[derive(Drop)]
+struct Answers {
+    text: String,
+    // The answer of the run that goes on, and how many images are in it.
+    last: String,
+    count: u64,
+}
+
+impl Answers {
+    fn none(alloc: Global) -> Answers {
+        Answers {
+            text: String::new(alloc),
+            last: String::new(alloc),
+            count: 0,
         }
-        count = count.saturating_add(1);
     }
-    add_count(&mut text, count, last.as_str())?;
-    Ok(text)
+
+    // Adds the answer of the next image.
+    fn add(&mut self, answer: String) -> Result<(), AllocError> {
+        if answer.as_str() != self.last.as_str() {
+            add_count(&mut self.text, self.count, self.last.as_str())?;
+            self.last = answer;
+            self.count = 0;
+        }
+        self.count = self.count.saturating_add(1);
+        Ok(())
+    }
+
+    // What is told of all.
+    fn into_text(self) -> Result<String, AllocError> {
+        let mut answers = self;
+        add_count(&mut answers.text, answers.count, answers.last.as_str())?;
+        Ok(answers.text)
+    }
+}
+
+// Adds what a unit answers in each image.
+fn add_answers(
+    alloc: Global,
+    answers: &mut Answers,
+    layout: Layout,
+    images: &[Vec<u64>],
+    unit: u64,
+    op: &Op,
+) -> Result<(), LineFault> {
+    for image in images {
+        let answer = answer_of(alloc, layout, image.as_slice(), unit, op)?;
+        answers.add(answer)?;
+    }
+    Ok(())
 }
 
 /// What a unit answers in the image that a mask picks, behind the image's clock. Words are current
@@ -140,11 +189,21 @@ fn answer_of(
     let clock = image.first().copied().unwrap_or(0);
     if is_well_formed(alloc, layout, image)? {
         let mut contents = recover(alloc, layout, image)?;
-        let reply = replied(&mut contents, unit, op)?;
-        Ok(spelled(alloc, clock, &reply)?)
+        answer_in(alloc, clock, &mut contents, unit, op)
     } else {
         Ok(String::from_str(alloc, "refused")?)
     }
+}
+
+fn answer_in(
+    alloc: Global,
+    clock: u64,
+    contents: &mut Contents,
+    unit: u64,
+    op: &Op,
+) -> Result<String, LineFault> {
+    let reply = replied(contents, unit, op)?;
+    Ok(spelled(alloc, clock, &reply)?)
 }
 
 fn replied(contents: &mut Contents, unit: u64, op: &Op) -> Result<Reply, LineFault> {
@@ -156,22 +215,20 @@ fn replied(contents: &mut Contents, unit: u64, op: &Op) -> Result<Reply, LineFau
 
 fn spelled(alloc: Global, clock: u64, reply: &Reply) -> Result<String, AllocError> {
     match reply {
-        Reply::WasText { value } => {
-            let mut text = format!(in alloc; "{clock} was ")?;
-            add_text(&mut text, value)?;
-            Ok(text)
-        }
+        Reply::WasText { value } => spelled_text(alloc, clock, "was", value),
         Reply::Was { value } => format!(in alloc; "{clock} was {value}"),
         Reply::Count { number } => format!(in alloc; "{clock} count {number}"),
         Reply::Nothing => format!(in alloc; "{clock} none"),
         Reply::NoEnds => format!(in alloc; "{clock} noends"),
-        Reply::Key { key } => {
-            let mut text = format!(in alloc; "{clock} key ")?;
-            add_text(&mut text, key)?;
-            Ok(text)
-        }
+        Reply::Key { key } => spelled_text(alloc, clock, "key", key),
         Reply::Pairs { number } => format!(in alloc; "{clock} pairs {number}"),
     }
+}
+
+fn spelled_text(alloc: Global, clock: u64, name: &str, value: &Text) -> Result<String, AllocError> {
+    let mut text = format!(in alloc; "{clock} {name} ")?;
+    add_text(&mut text, value)?;
+    Ok(text)
 }
 
 fn add_text(text: &mut String, value: &Text) -> Result<(), AllocError> {

@@ -115,20 +115,28 @@ fn take_one(
             run.note = Some(note(alloc, run.core.layout.units(), words)?);
             Ok(())
         }
-        "split" => {
-            let part = part_of(words)?;
-            run.note = note_of(alloc, &run.core, part)?;
-            make(alloc, run, &Event::Split { part })
-        }
-        "join" => {
-            let part = part_of(words)?;
-            let note = run.note.take().ok_or(LineFault::Unclear)?;
-            make(alloc, run, &Event::Join { part, note })
-        }
+        "split" => split_off(alloc, run, words),
+        "join" => take_in(alloc, run, words),
         _ => {
             let event = event_of(kind, words)?;
             make(alloc, run, &event)
         }
+    }
+}
+
+// A part splits its note off.
+fn split_off(alloc: Global, run: &mut Run, words: &mut WordRow<'_>) -> Result<(), LineFault> {
+    let part = part_of(words)?;
+    run.note = note_of(alloc, &run.core, part)?;
+    make(alloc, run, &Event::Split { part })
+}
+
+// A part takes the note in that is at hand.
+fn take_in(alloc: Global, run: &mut Run, words: &mut WordRow<'_>) -> Result<(), LineFault> {
+    let part = part_of(words)?;
+    match run.note.take() {
+        Some(note) => make(alloc, run, &Event::Join { part, note }),
+        None => Err(LineFault::Unclear),
     }
 }
 

@@ -16,13 +16,13 @@ use crate::drawn_puts::{Drawn, holds_cut, put_many};
 use crate::engine_ends::begin_with;
 use crate::following::follow_all;
 use crate::line_fault::LineFault;
-use crate::machine_run::{begin, steps_made};
+use crate::machine_run::{Run, begin, steps_made};
 use crate::moving_clock::least_moved;
 use crate::reopened::reopened;
 use crate::stopped_calls::{first_apart, steps_of};
 use crate::store_line::{StoreLine, store_of};
 use case_file::{Case, Unanswered, numbers_in};
-use mont_base::{Fuel, Layout};
+use mont_base::{Epoch, Fuel, Layout, Words};
 use std::alloc::Global;
 use std::str;
 use std::sync::Wait;
@@ -70,18 +70,40 @@ fn answer_run<R: Wait>(
     case: &Case,
 ) -> Result<Vec<u8>, Unanswered> {
     let mut run = begin(alloc, store.layout, store.callers)?;
-    let with_effects = case.part("ask") == Some(b"effects\n");
-    follow_all(alloc, &mut run, text_of(case, "steps")?, with_effects)?;
-    if case.part("calls").is_some() {
-        let calls = text_of(case, "calls")?;
-        let steps = steps_made(&run);
-        match first_apart(rt, alloc, store.layout, calls, &run.memories) {
-            Ok(None) => writeln!(run.told, "the same words behind each of {steps} steps")?,
-            Ok(Some(steps)) => writeln!(run.told, "other words behind {steps} steps")?,
-            Err(fault) => return told_fault(alloc, fault),
-        }
+    follow_case(alloc, &mut run, case)?;
+    match tell_apart(rt, alloc, store.layout, case, &mut run)? {
+        None => Ok(run.told.into_bytes()),
+        Some(fault) => told_fault(alloc, fault),
     }
-    Ok(run.told.into_bytes())
+}
+
+// Follows the steps of a case.
+fn follow_case(alloc: Global, run: &mut Run, case: &Case) -> Result<(), Unanswered> {
+    let with_effects = case.part("ask") == Some(b"effects\n");
+    let steps = text_of(case, "steps")?;
+    Ok(follow_all(alloc, run, steps, with_effects)?)
+}
+
+// Tells of the calls of a case, if it has some, whether a heap has other words than the run. It
+// answers the fault of the calls, if they have one.
+fn tell_apart<R: Wait>(
+    rt: &R,
+    alloc: Global,
+    layout: Layout,
+    case: &Case,
+    run: &mut Run,
+) -> Result<Option<LineFault>, Unanswered> {
+    if case.part("calls").is_none() {
+        return Ok(None);
+    }
+    let calls = text_of(case, "calls")?;
+    let steps = steps_made(run);
+    match first_apart(rt, alloc, layout, calls, &run.memories) {
+        Ok(None) => writeln!(run.told, "the same words behind each of {steps} steps")?,
+        Ok(Some(steps)) => writeln!(run.told, "other words behind {steps} steps")?,
+        Err(fault) => return Ok(Some(fault)),
+    }
+    Ok(None)
 }
 
 fn answer_calls<R: Wait>(
@@ -120,14 +142,26 @@ fn answer_moves<R: Wait>(
     layout: Layout,
     case: &Case,
 ) -> Result<Vec<u8>, Unanswered> {
+    let numbers = numbers_in(alloc, "moves", case.needed("moves")?)?;
     let mut told = String::new(alloc);
-    for moves in &numbers_in(alloc, "moves", case.needed("moves")?)? {
-        match least_moved(rt, alloc, layout, *moves) {
-            Ok(steps) => writeln!(told, "{moves} moves: {steps} steps")?,
-            Err(fault) => return told_fault(alloc, fault),
-        }
+    match tell_moves(&mut told, rt, alloc, layout, numbers.as_slice()) {
+        Ok(()) => Ok(told.into_bytes()),
+        Err(fault) => told_fault(alloc, fault),
     }
-    Ok(told.into_bytes())
+}
+
+fn tell_moves<R: Wait>(
+    told: &mut String,
+    rt: &R,
+    alloc: Global,
+    layout: Layout,
+    numbers: &[u64],
+) -> Result<(), LineFault> {
+    for moves in numbers {
+        let steps = least_moved(rt, alloc, layout, *moves)?;
+        writeln!(told, "{moves} moves: {steps} steps")?;
+    }
+    Ok(())
 }
 
 fn answer_puts<R: Wait>(
@@ -136,18 +170,23 @@ fn answer_puts<R: Wait>(
     layout: Layout,
     case: &Case,
 ) -> Result<Vec<u8>, Unanswered> {
-    let numbers = numbers_in(alloc, "puts", case.needed("puts")?)?;
-    let [puts, keys, each] = numbers.as_slice() else {
-        return Err(Unanswered::Unclear { head: "puts" });
-    };
-    let drawn = Drawn {
-        puts: *puts,
-        keys: *keys,
-        each: *each,
-    };
+    let drawn = drawn_in(alloc, case)?;
     match told_puts(rt, alloc, layout, drawn) {
         Ok(told) => Ok(told.into_bytes()),
         Err(fault) => told_fault(alloc, fault),
+    }
+}
+
+// The puts that a case tells.
+fn drawn_in(alloc: Global, case: &Case) -> Result<Drawn, Unanswered> {
+    let numbers = numbers_in(alloc, "puts", case.needed("puts")?)?;
+    match numbers.as_slice() {
+        [puts, keys, each] => Ok(Drawn {
+            puts: *puts,
+            keys: *keys,
+            each: *each,
+        }),
+        _ => Err(Unanswered::Unclear { head: "puts" }),
     }
 }
 
@@ -159,39 +198,61 @@ fn told_puts<R: Wait>(
 ) -> Result<String, LineFault> {
     let (words, epochs) = put_many(rt, alloc, layout, drawn)?;
     let mut told = String::new(alloc);
-    for image in [words.cur.as_slice(), words.dur.as_slice()] {
-        let clock = image.first().copied().unwrap_or(0);
-        let last = clock.saturating_sub(2);
-        let within = epochs.iter().filter(|epoch| **epoch <= last).count();
-        write!(told, "clock {clock}, {within} of {} puts", epochs.len())?;
-        if holds_cut(alloc, layout, image, drawn, &epochs)? {
-            writeln!(told, " are held")?;
-        } else {
-            writeln!(told, " aren't held")?;
-        }
-    }
+    tell_puts(
+        &mut told,
+        alloc,
+        layout,
+        words.cur.as_slice(),
+        drawn,
+        &epochs,
+    )?;
+    tell_puts(
+        &mut told,
+        alloc,
+        layout,
+        words.dur.as_slice(),
+        drawn,
+        &epochs,
+    )?;
     Ok(told)
+}
+
+// Tells how many puts are within the cut of an image, and whether it holds it.
+fn tell_puts(
+    told: &mut String,
+    alloc: Global,
+    layout: Layout,
+    image: &[u64],
+    drawn: Drawn,
+    epochs: &[Epoch],
+) -> Result<(), LineFault> {
+    let clock = image.first().copied().unwrap_or(0);
+    let last = clock.saturating_sub(2);
+    let within = epochs.iter().filter(|epoch| **epoch <= last).count();
+    write!(told, "clock {clock}, {within} of {} puts", epochs.len())?;
+    if holds_cut(alloc, layout, image, drawn, epochs)? {
+        writeln!(told, " are held")?;
+    } else {
+        writeln!(told, " aren't held")?;
+    }
+    Ok(())
 }
 
 fn answer_image(alloc: Global, layout: Layout, case: &Case) -> Result<Vec<u8>, Unanswered> {
     let image = numbers_in(alloc, "image", case.needed("image")?)?;
     match reopened(alloc, layout, &image) {
-        Ok(words) => {
-            let mut told = String::new(alloc);
-            tell_words(
-                &mut told,
-                "current",
-                words.cur.as_slice() == image.as_slice(),
-            )?;
-            tell_words(
-                &mut told,
-                "durable",
-                words.dur.as_slice() == image.as_slice(),
-            )?;
-            Ok(told.into_bytes())
-        }
+        Ok(words) => told_words(alloc, &words, image.as_slice()),
         Err(fault) => told_fault(alloc, fault),
     }
+}
+
+// Whether the words of a heap are those of an image.
+fn told_words(alloc: Global, words: &Words, image: &[u64]) -> Result<Vec<u8>, Unanswered> {
+    let (current, durable) = (words.cur.as_slice(), words.dur.as_slice());
+    let mut told = String::new(alloc);
+    tell_words(&mut told, "current", current == image)?;
+    tell_words(&mut told, "durable", durable == image)?;
+    Ok(told.into_bytes())
 }
 
 fn tell_words(told: &mut String, memory: &str, same: bool) -> Result<(), Unanswered> {

@@ -30,16 +30,8 @@ pub fn show(
     words: &mut WordRow<'_>,
 ) -> Result<String, LineFault> {
     match name {
-        "steps" => Ok(spaced(alloc, &[steps_made(run)])?),
-        "clock" => Ok(show_word(alloc, &run.core, 0)?),
-        "word" => {
-            let slot = words.number()?;
-            let field = words.number()?;
-            Ok(show_slot_word(alloc, &run.core, slot, field)?)
-        }
-        "list" => Ok(spaced(alloc, flush_list(alloc, &run.core)?.as_slice())?),
-        "odd" => Ok(spaced(alloc, run.core.odd.as_slice())?),
-        "advancer" => Ok(show_advancer(alloc, run.core.advancer)?),
+        "steps" | "clock" | "list" | "odd" | "advancer" => Ok(show_whole(alloc, run, name)?),
+        "word" => show_slot_word(alloc, &run.core, words),
         "fronts" | "synced" | "newest" | "cuts" | "marks" => {
             show_caller(alloc, &run.core, name, words.number()?)
         }
@@ -47,15 +39,38 @@ pub fn show(
     }
 }
 
+// What is of no unit and no caller.
+fn show_whole(alloc: Global, run: &Run, name: &str) -> Result<String, AllocError> {
+    match name {
+        "steps" => spaced(alloc, &[steps_made(run)]),
+        "clock" => show_word(alloc, &run.core, 0),
+        "list" => show_list(alloc, &run.core),
+        "odd" => spaced(alloc, run.core.odd.as_slice()),
+        _ => show_advancer(alloc, run.core.advancer),
+    }
+}
+
+// The slots that the advancer is to write back.
+fn show_list(alloc: Global, core: &Core) -> Result<String, AllocError> {
+    let list = flush_list(alloc, core)?;
+    spaced(alloc, list.as_slice())
+}
+
 fn spaced(alloc: Global, numbers: &[u64]) -> Result<String, AllocError> {
     let mut text = String::new(alloc);
     for number in numbers {
-        if !text.is_empty() {
-            text.push_str(" ")?;
-        }
+        push_space(&mut text)?;
         write!(text, "{number}")?;
     }
     Ok(text)
+}
+
+// A space, if something stands before it.
+fn push_space(text: &mut String) -> Result<(), AllocError> {
+    if !text.is_empty() {
+        text.push_str(" ")?;
+    }
+    Ok(())
 }
 
 // The current value of a word, and its durable one.
@@ -65,8 +80,14 @@ fn show_word(alloc: Global, core: &Core, place: u64) -> Result<String, AllocErro
     spaced(alloc, &[current, durable])
 }
 
-fn show_slot_word(alloc: Global, core: &Core, slot: u64, field: u64) -> Result<String, AllocError> {
-    show_word(alloc, core, place_of(slot, field))
+fn show_slot_word(
+    alloc: Global,
+    core: &Core,
+    words: &mut WordRow<'_>,
+) -> Result<String, LineFault> {
+    let slot = words.number()?;
+    let field = words.number()?;
+    Ok(show_word(alloc, core, place_of(slot, field))?)
 }
 
 fn show_advancer(alloc: Global, advancer: AdvPart) -> Result<String, AllocError> {
@@ -85,14 +106,22 @@ fn show_unit(alloc: Global, core: &Core, name: &str, unit: u64) -> Result<String
     let Some(part) = core.units.get(unit) else {
         return Err(LineFault::Unclear);
     };
+    let told = core.told.get(unit).copied().unwrap_or(0);
     match name {
-        "unit" => Ok(show_stage(alloc, part.stage, core.told.get(unit).copied().unwrap_or(0))?),
-        "records" => Ok(show_records(alloc, part.records.as_slice())?),
-        "retired" => Ok(show_retired(alloc, part)?),
-        "lost" => Ok(spaced(alloc, part.lost.as_slice())?),
-        "entries" => Ok(show_entries(alloc, part)?),
-        "epochs" => Ok(show_epochs(alloc, part)?),
+        "unit" => Ok(show_stage(alloc, part.stage, told)?),
+        "records" | "retired" | "lost" | "entries" | "epochs" => Ok(show_part(alloc, part, name)?),
         _ => Err(LineFault::Unclear),
+    }
+}
+
+// A list of a unit.
+fn show_part(alloc: Global, part: &UnitPart, name: &str) -> Result<String, AllocError> {
+    match name {
+        "records" => show_records(alloc, part.records.as_slice()),
+        "retired" => show_retired(alloc, part),
+        "lost" => spaced(alloc, part.lost.as_slice()),
+        "entries" => show_entries(alloc, part),
+        _ => show_epochs(alloc, part),
     }
 }
 
@@ -110,9 +139,7 @@ fn show_stage(alloc: Global, stage: UnitStage, told: u64) -> Result<String, Allo
 fn show_records(alloc: Global, records: &[Held]) -> Result<String, AllocError> {
     let mut text = String::new(alloc);
     for held in records {
-        if !text.is_empty() {
-            text.push_str(" ")?;
-        }
+        push_space(&mut text)?;
         show_record(&mut text, held)?;
     }
     Ok(text)
@@ -143,9 +170,7 @@ fn kind_name(kind: Kind) -> &'static str {
 fn show_retired(alloc: Global, part: &UnitPart) -> Result<String, AllocError> {
     let mut text = String::new(alloc);
     for waiting in part.retired.as_slice() {
-        if !text.is_empty() {
-            text.push_str(" ")?;
-        }
+        push_space(&mut text)?;
         let slot = waiting.slot;
         let epoch = waiting.epoch;
         write!(text, "{slot}@{epoch}")?;
@@ -157,9 +182,7 @@ fn show_retired(alloc: Global, part: &UnitPart) -> Result<String, AllocError> {
 fn show_entries(alloc: Global, part: &UnitPart) -> Result<String, AllocError> {
     let mut text = String::new(alloc);
     for entry in part.history.as_slice() {
-        if !text.is_empty() {
-            text.push_str(" ")?;
-        }
+        push_space(&mut text)?;
         let Entry {
             caller,
             call,
@@ -184,12 +207,16 @@ fn show_caller(alloc: Global, core: &Core, name: &str, caller: u64) -> Result<St
     let Some(part) = core.callers.get(caller) else {
         return Err(LineFault::Unclear);
     };
+    Ok(show_of_caller(alloc, part, name)?)
+}
+
+fn show_of_caller(alloc: Global, part: &CallerPart, name: &str) -> Result<String, AllocError> {
     match name {
-        "fronts" => Ok(spaced(alloc, part.fronts.as_slice())?),
-        "synced" => Ok(spaced(alloc, part.synced.as_slice())?),
-        "cuts" => Ok(spaced(alloc, part.cuts.as_slice())?),
-        "marks" => Ok(show_marks(alloc, part)?),
-        _ => Ok(spaced(alloc, &[part.newest, part.durable])?),
+        "fronts" => spaced(alloc, part.fronts.as_slice()),
+        "synced" => spaced(alloc, part.synced.as_slice()),
+        "cuts" => spaced(alloc, part.cuts.as_slice()),
+        "marks" => show_marks(alloc, part),
+        _ => spaced(alloc, &[part.newest, part.durable]),
     }
 }
 
@@ -197,9 +224,7 @@ fn show_caller(alloc: Global, core: &Core, name: &str, caller: u64) -> Result<St
 fn show_marks(alloc: Global, part: &CallerPart) -> Result<String, AllocError> {
     let mut text = String::new(alloc);
     for mark in part.marks.as_slice() {
-        if !text.is_empty() {
-            text.push_str(" ")?;
-        }
+        push_space(&mut text)?;
         show_mark(&mut text, *mark)?;
     }
     Ok(text)

@@ -13,7 +13,7 @@ use crate::leftovers::left_by;
 use crate::plain_store::PlainStore;
 use case_file::Unanswered;
 use case_image::number_in;
-use mont_base::{FIELDS, FIRST_CLOCK, Kinds, Layout};
+use mont_base::{Epoch, FIELDS, FIRST_CLOCK, Kinds, Layout};
 use mont_image::Image;
 use recover::{RecoverRefusal, recover};
 use std::alloc::Global;
@@ -74,15 +74,43 @@ fn first_difference(
     for round in 0..chains.rounds {
         let clock = from.saturating_add(draws.below(5));
         store.run(alloc, &mut draws, from, clock)?;
-        let image = store.crash(alloc, clock, draws.number())?;
-        let contents = store.contents_text(alloc, clock)?;
-        match swept(rt, alloc, &mut draws, image, contents.as_slice())? {
-            Some(image) => store = store.with_image(alloc, &image)?,
-            None => return Ok(Some(round)),
+        if !goes_on(rt, alloc, &mut draws, &mut store, clock)? {
+            return Ok(Some(round));
         }
         from = clock;
     }
     Ok(None)
+}
+
+// Lets a store crash at a clock, and takes the image over that is left behind its sweeps, if
+// recovery finds each time what the plain structures come to.
+fn goes_on(
+    rt: &(impl Threads + Sync),
+    alloc: Global,
+    draws: &mut Draws,
+    store: &mut PlainStore,
+    clock: Epoch,
+) -> Result<bool, Unanswered> {
+    match image_behind(rt, alloc, draws, store, clock)? {
+        Some(image) => {
+            store.take_image(alloc, &image)?;
+            Ok(true)
+        }
+        None => Ok(false),
+    }
+}
+
+// The image that is left.
+fn image_behind(
+    rt: &(impl Threads + Sync),
+    alloc: Global,
+    draws: &mut Draws,
+    store: &PlainStore,
+    clock: Epoch,
+) -> Result<Option<Image>, Unanswered> {
+    let contents = store.contents_text(alloc, clock)?;
+    let image = store.crash(alloc, clock, draws.number())?;
+    swept(rt, alloc, draws, image, contents.as_slice())
 }
 
 // The image behind a sweep that went to its end, and before that some that were cut, if recovery

@@ -24,33 +24,108 @@ pub fn damaged_images(
     case: &Case,
     part: &[u8],
 ) -> Result<Vec<u8>, Unanswered> {
-    let unclear = Unanswered::Unclear { head: DAMAGED };
-    let numbers = numbers_in(alloc, DAMAGED, part)?;
-    let [count, front, fields] = numbers.as_slice() else {
-        return Err(unclear);
-    };
-    let shape = TextShape {
-        front: *front as usize,
-        fields: *fields as usize,
-    };
+    let drawn = drawn_in(alloc, part)?;
     let text = image_text(alloc, case)?;
-    let mut came = BTreeSet::new(alloc);
-    for seed in 0..*count {
-        let mut draws = Draws::of_seed(seed);
-        let other = damaged(alloc, &mut draws, shape, text.as_slice())?;
-        let found = told_of(rt, alloc, &mut draws, other.as_slice())?;
-        let plain = plainly_told(alloc, other.as_slice())?;
-        if found.as_slice() != plain.as_slice() {
-            return Ok(differing(alloc, seed, found.as_slice(), plain.as_slice())?);
-        }
-        came.insert(first_word(alloc, plain.as_slice())?)?;
+    told_of_all(rt, alloc, drawn, text.as_slice())
+}
+
+// How many images there are, and how their text lies.
+#[derive(Clone, Copy)]
+struct Drawn {
+    count: u64,
+    shape: TextShape,
+}
+
+fn drawn_in(alloc: Global, part: &[u8]) -> Result<Drawn, Unanswered> {
+    let numbers = numbers_in(alloc, DAMAGED, part)?;
+    match numbers.as_slice() {
+        [count, front, fields] => Ok(Drawn {
+            count: *count,
+            shape: TextShape {
+                front: *front as usize,
+                fields: *fields as usize,
+            },
+        }),
+        _ => Err(Unanswered::Unclear { head: DAMAGED }),
     }
+}
+
+// What is told of all images that are drawn of a text.
+fn told_of_all(
+    rt: &(impl Threads + Sync),
+    alloc: Global,
+    drawn: Drawn,
+    text: &[u8],
+) -> Result<Vec<u8>, Unanswered> {
+    let mut came = BTreeSet::new(alloc);
+    match first_difference(rt, alloc, drawn, text, &mut came)? {
+        Some(differs) => Ok(differs),
+        None => told_words(alloc, drawn.count, &came),
+    }
+}
+
+// What differs at the first image of which something else is found. The first words of what is
+// told of the images before it come into a set.
+fn first_difference(
+    rt: &(impl Threads + Sync),
+    alloc: Global,
+    drawn: Drawn,
+    text: &[u8],
+    came: &mut BTreeSet<String>,
+) -> Result<Option<Vec<u8>>, Unanswered> {
+    for seed in 0..drawn.count {
+        let differs = difference(rt, alloc, seed, drawn.shape, text, came)?;
+        if differs.is_some() {
+            return Ok(differs);
+        }
+    }
+    Ok(None)
+}
+
+// What differs at an image; else its first word comes into the set.
+fn difference(
+    rt: &(impl Threads + Sync),
+    alloc: Global,
+    seed: u64,
+    shape: TextShape,
+    text: &[u8],
+    came: &mut BTreeSet<String>,
+) -> Result<Option<Vec<u8>>, Unanswered> {
+    let mut draws = Draws::of_seed(seed);
+    let other = damaged(alloc, &mut draws, shape, text)?;
+    let found = told_of(rt, alloc, &mut draws, other.as_slice())?;
+    compare(alloc, seed, other.as_slice(), found.as_slice(), came)
+}
+
+// The same, once it is told what is found in the image.
+fn compare(
+    alloc: Global,
+    seed: u64,
+    image: &[u8],
+    found: &[u8],
+    came: &mut BTreeSet<String>,
+) -> Result<Option<Vec<u8>>, Unanswered> {
+    let plain = plainly_told(alloc, image)?;
+    if found == plain.as_slice() {
+        came.insert(first_word(alloc, plain.as_slice())?)?;
+        Ok(None)
+    } else {
+        Ok(Some(differing(alloc, seed, found, plain.as_slice())?))
+    }
+}
+
+// How many images there were, and these words.
+fn told_words(alloc: Global, count: u64, came: &BTreeSet<String>) -> Result<Vec<u8>, Unanswered> {
     let mut told = format!(in alloc; "{count} images:")?;
-    for word in &came {
+    push_words(&mut told, came)?;
+    Ok(told.into_bytes())
+}
+
+fn push_words(told: &mut String, words: &BTreeSet<String>) -> Result<(), AllocError> {
+    for word in words {
         write!(told, " {word}")?;
     }
-    writeln!(told)?;
-    Ok(told.into_bytes())
+    writeln!(told)
 }
 
 // What is found in a text, by some workers.

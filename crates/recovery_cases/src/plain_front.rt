@@ -65,12 +65,23 @@ fn read_words_of(
     if slots.len() as u64 > count || more {
         return Ok(Err(ImageFault::Long));
     }
-    Ok(Ok(PlainText {
+    Ok(Ok(text_with(alloc, &front, layout, slots)?))
+}
+
+// A text with these words of its slots.
+fn text_with(
+    alloc: Global,
+    front: &Front,
+    layout: Layout,
+    slots: &[u64],
+) -> Result<PlainText, AllocError> {
+    let old = front.version == 1;
+    Ok(PlainText {
         layout,
         clock: front.clock,
         old,
         slots: slots_in(alloc, &layout, old, slots)?,
-    }))
+    })
 }
 
 // The first five words.
@@ -104,23 +115,34 @@ fn front_of(words: &[u64]) -> Result<Front, ImageFault> {
 // The layout, whose kinds the codes tell; in the first two versions there are maps, a queue and a
 // graph.
 fn layout_of(alloc: Global, front: &Front, words: &[u64]) -> Result<Option<Layout>, AllocError> {
-    let mut letters = Vec::new(alloc);
-    for unit in 0..front.units {
-        let code = words.get(5usize.saturating_add(unit as usize));
-        letters.push(match code {
-            _ if front.version < 3 => b'm',
-            Some(1) => b'm',
-            Some(2) => b'q',
-            Some(3) => b'g',
-            Some(4) => b'o',
-            _ => b'?',
-        })?;
-    }
-    if front.version < 3 {
-        letters.extend_from_slice(b"qg")?;
-    }
+    let letters = letters_of(alloc, front, words)?;
     let Ok(kinds) = Kinds::of_letters(letters.as_slice()) else {
         return Ok(None);
     };
     Ok(Layout::new(kinds, front.slots).ok())
+}
+
+// The letters of the kinds.
+fn letters_of(alloc: Global, front: &Front, words: &[u64]) -> Result<Vec<u8>, AllocError> {
+    let mut letters = Vec::new(alloc);
+    for unit in 0..front.units {
+        let code = words.get(5usize.saturating_add(unit as usize));
+        letters.push(letter_of(front, code))?;
+    }
+    if front.version < 3 {
+        letters.extend_from_slice(b"qg")?;
+    }
+    Ok(letters)
+}
+
+// The letter of a code.
+fn letter_of(front: &Front, code: Option<&u64>) -> u8 {
+    match code {
+        _ if front.version < 3 => b'm',
+        Some(1) => b'm',
+        Some(2) => b'q',
+        Some(3) => b'g',
+        Some(4) => b'o',
+        _ => b'?',
+    }
 }

@@ -14,19 +14,27 @@ use std::alloc::{AllocError, Global};
 
 /// What is found, as a case tells it.
 pub fn plainly_told(alloc: Global, text: &[u8]) -> Result<Vec<u8>, AllocError> {
-    let found = match plain_text(alloc, text)? {
-        Ok(found) => found,
-        Err(fault) => return told_fault(alloc, fault),
-    };
-    let records = match records_in(alloc, &found)? {
-        Ok(records) => records,
-        Err(fault) => return told_fault(alloc, fault),
-    };
-    if let Some(fault) = twice_in(records.as_slice()) {
+    match plain_text(alloc, text)? {
+        Ok(found) => told_text(alloc, &found),
+        Err(fault) => told_fault(alloc, fault),
+    }
+}
+
+// What is found in a text without a fault of its bytes.
+fn told_text(alloc: Global, found: &PlainText) -> Result<Vec<u8>, AllocError> {
+    match records_in(alloc, found)? {
+        Ok(records) => told_records(alloc, found, records.as_slice()),
+        Err(fault) => told_fault(alloc, fault),
+    }
+}
+
+// What is found in a text with these records.
+fn told_records(alloc: Global, found: &PlainText, records: &[Held]) -> Result<Vec<u8>, AllocError> {
+    if let Some(fault) = twice_in(records) {
         return told_fault(alloc, fault);
     }
-    match units_in(alloc, &found, records.as_slice())? {
-        Ok(contents) => told_contents(alloc, &found, &contents),
+    match units_in(alloc, found, records)? {
+        Ok(contents) => told_contents(alloc, found, &contents),
         Err(fault) => told_fault(alloc, fault),
     }
 }
@@ -41,6 +49,14 @@ fn told_contents(
     found: &PlainText,
     contents: &Contents,
 ) -> Result<Vec<u8>, AllocError> {
+    let lost = lost_in(found);
+    let text = write_contents(alloc, found.layout, found.clock, contents)?;
+    let mut told = format!(in alloc; "lost {lost}\n")?.into_bytes();
+    told.extend_from_slice(text.as_slice())?;
+    Ok(told)
+}
+
+fn lost_in(found: &PlainText) -> u64 {
     let cut = found.clock.saturating_sub(2);
     let mut lost = 0u64;
     for slot in &found.slots {
@@ -48,10 +64,7 @@ fn told_contents(
             lost = lost.saturating_add(1);
         }
     }
-    let mut told = format!(in alloc; "lost {lost}\n")?.into_bytes();
-    let text = write_contents(alloc, found.layout, found.clock, contents)?;
-    told.extend_from_slice(text.as_slice())?;
-    Ok(told)
+    lost
 }
 
 // The records within the cut, or the first slot there that holds none.
@@ -113,23 +126,41 @@ fn units_in(
     records: &[Held],
 ) -> Result<Result<Contents, ImageFault>, AllocError> {
     let mut units = Sequence::new(alloc);
+    match push_units(alloc, &mut units, found, records)? {
+        Some(fault) => Ok(Err(fault)),
+        None => Ok(Ok(Contents { units })),
+    }
+}
+
+// Adds the structures of all units, up to the first fault.
+fn push_units(
+    alloc: Global,
+    units: &mut Sequence<UnitState>,
+    found: &PlainText,
+    records: &[Held],
+) -> Result<Option<ImageFault>, AllocError> {
     for unit in 0..found.layout.units() {
-        let mut of_unit = Vec::new(alloc);
-        for held in records {
-            if held.label.unit == unit {
-                of_unit.push(*held)?;
-            }
-        }
-        let objects = live_objects(alloc, of_unit.as_slice())?;
+        let objects = objects_in(alloc, unit, records)?;
         match structure_of(alloc, found, unit, objects.as_slice()) {
             Ok(state) => units.push(state)?,
             Err(BuildRefusal::Object { slot, fault }) => {
-                return Ok(Err(ImageFault::Object { unit, slot, fault }));
+                return Ok(Some(ImageFault::Object { unit, slot, fault }));
             }
             Err(BuildRefusal::Memory) => return Err(AllocError),
         }
     }
-    Ok(Ok(Contents { units }))
+    Ok(None)
+}
+
+// The live objects of a unit.
+fn objects_in(alloc: Global, unit: Unit, records: &[Held]) -> Result<Vec<Object>, AllocError> {
+    let mut of_unit = Vec::new(alloc);
+    for held in records {
+        if held.label.unit == unit {
+            of_unit.push(*held)?;
+        }
+    }
+    live_objects(alloc, of_unit.as_slice())
 }
 
 // The structure of a unit's objects. An object with a spare word is a fault, unless one stands

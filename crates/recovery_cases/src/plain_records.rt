@@ -17,30 +17,44 @@ pub fn record_of(
 ) -> Result<(Label, [u64; BODY]), Unanswered> {
     let live = live_objects(alloc, records)?;
     let live = live.as_slice();
-    let (kind, identity, version, body) = match effect {
+    match effect {
         Effect::Inserts { thing } => {
-            let identity = next_identity(records);
-            (Kind::New, identity, 1, body_of(&thing, next_serial(live)))
+            let label = Label {
+                epoch,
+                kind: Kind::New,
+                unit,
+                identity: next_identity(records),
+                version: 1,
+            };
+            Ok((label, body_of(&thing, next_serial(live))))
         }
         Effect::Replaces { thing } => {
-            let object = object_of(live, &thing)?;
-            let version = object.version.saturating_add(1);
-            (Kind::Copy, object.identity, version, body_of(&thing, 0))
+            let label = label_behind(live, &thing, unit, epoch, Kind::Copy)?;
+            Ok((label, body_of(&thing, 0)))
         }
         Effect::Removes { thing } => {
-            let object = object_of(live, &thing)?;
-            let version = object.version.saturating_add(1);
-            (Kind::Delete, object.identity, version, no_body())
+            let label = label_behind(live, &thing, unit, epoch, Kind::Delete)?;
+            Ok((label, no_body()))
         }
-    };
-    let label = Label {
+    }
+}
+
+// The label of the next record of a thing's live object.
+fn label_behind(
+    live: &[Object],
+    thing: &Thing,
+    unit: Unit,
+    epoch: Epoch,
+    kind: Kind,
+) -> Result<Label, Unanswered> {
+    let object = object_of(live, thing)?;
+    Ok(Label {
         epoch,
         kind,
         unit,
-        identity,
-        version,
-    };
-    Ok((label, body))
+        identity: object.identity,
+        version: object.version.saturating_add(1),
+    })
 }
 
 // One more than the greatest identity of the records.

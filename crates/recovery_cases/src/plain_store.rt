@@ -9,7 +9,8 @@ use case_file::Unanswered;
 use case_image::record_words;
 use job_text::write_contents;
 use mont_base::{
-    Effect, Epoch, FIELDS, FIRST_CLOCK, Held, LAST, Layout, Op, Sequence, Slot, Unit, Words,
+    BODY, Effect, Epoch, FIELDS, FIRST_CLOCK, Held, LAST, Label, Layout, Op, Sequence, Slot, Unit,
+    Words,
 };
 use mont_image::{Image, pick};
 use payload::read_words;
@@ -41,17 +42,14 @@ impl PlainStore {
         })
     }
 
-    /// The same store with the words of an image.
-    pub fn with_image(self, alloc: Global, image: &Image) -> Result<PlainStore, AllocError> {
+    /// Takes the words of an image over.
+    pub fn take_image(&mut self, alloc: Global, image: &Image) -> Result<(), AllocError> {
         let mut slots = Vec::new(alloc);
         for word in image.words.as_slice().iter().skip(1) {
             slots.push(*word)?;
         }
-        Ok(PlainStore {
-            layout: self.layout,
-            slots,
-            kept: self.kept,
-        })
+        self.slots = slots;
+        Ok(())
     }
 
     /// Draws changes in the epochs from one to another, which is the clock when it crashes. The
@@ -107,14 +105,29 @@ impl PlainStore {
         epoch: Epoch,
     ) -> Result<bool, Unanswered> {
         let effects = state.effects(alloc, op)?;
+        let changed = self.write_all(alloc, draws, unit, epoch, &effects)?;
+        if changed {
+            let _reply = state.apply(op)?;
+        }
+        Ok(changed)
+    }
+
+    // Writes these effects, if there are any and there is room for them.
+    fn write_all(
+        &mut self,
+        alloc: Global,
+        draws: &mut Draws,
+        unit: Unit,
+        epoch: Epoch,
+        effects: &[Effect],
+    ) -> Result<bool, Unanswered> {
         let room = self.free_slots(alloc, unit)?.len();
         if effects.is_empty() || effects.len() > room {
             return Ok(false);
         }
-        for effect in &effects {
+        for effect in effects {
             self.write(alloc, draws, unit, epoch, *effect)?;
         }
-        let _reply = state.apply(op)?;
         Ok(true)
     }
 
@@ -127,18 +140,34 @@ impl PlainStore {
         epoch: Epoch,
         effect: Effect,
     ) -> Result<(), Unanswered> {
+        let (label, body) = self.next_record(alloc, unit, epoch, effect)?;
+        let slot = self.drawn_slot(alloc, draws, unit)?;
+        match slot_mut(&mut self.slots, slot) {
+            Some(words) => {
+                *words = record_words(&label, &body);
+                Ok(())
+            }
+            None => Err(UNCLEAR),
+        }
+    }
+
+    // The label and the body by which an effect is written.
+    fn next_record(
+        &self,
+        alloc: Global,
+        unit: Unit,
+        epoch: Epoch,
+        effect: Effect,
+    ) -> Result<(Label, [u64; BODY]), Unanswered> {
         let records = self.records(alloc, unit)?;
-        let (label, body) = record_of(alloc, records.as_slice(), unit, epoch, effect)?;
+        record_of(alloc, records.as_slice(), unit, epoch, effect)
+    }
+
+    // A free slot of the unit.
+    fn drawn_slot(&self, alloc: Global, draws: &mut Draws, unit: Unit) -> Result<Slot, Unanswered> {
         let free = self.free_slots(alloc, unit)?;
         let drawn = draws.below(free.len() as u64);
-        let Some(slot) = free.get(drawn as usize) else {
-            return Err(UNCLEAR);
-        };
-        let Some(words) = slot_mut(&mut self.slots, *slot) else {
-            return Err(UNCLEAR);
-        };
-        *words = record_words(&label, &body);
-        Ok(())
+        free.get(drawn as usize).copied().ok_or(UNCLEAR)
     }
 
     // The records of a unit, of whatever epoch.
@@ -172,22 +201,27 @@ impl PlainStore {
     pub fn crash(&self, alloc: Global, clock: Epoch, mask: u64) -> Result<Image, Unanswered>
         ensures { IfOk result (λ image. image.old ≡ false) }
     {
-        let mut current = Vec::new(alloc);
-        let mut durable = Vec::new(alloc);
-        current.push(clock)?;
-        durable.push(clock)?;
-        for words in self.slots.chunks(FIELDS) {
-            current.extend_from_slice(words)?;
-            if words
-                .first()
-                .is_some_and(|epoch| *epoch > clock.saturating_sub(2))
-            {
-                durable.extend_from_slice(&[0; FIELDS])?;
-            } else {
-                durable.extend_from_slice(words)?;
-            }
-        }
+        let current = self.current_words(alloc, clock)?;
+        let durable = self.durable_words(alloc, clock)?;
         picked(alloc, self.layout, current, durable, mask)
+    }
+
+    // The current words, behind this clock.
+    fn current_words(&self, alloc: Global, clock: Epoch) -> Result<Vec<u64>, AllocError> {
+        let mut words = Vec::new(alloc);
+        words.push(clock)?;
+        words.extend_from_slice(&self.slots)?;
+        Ok(words)
+    }
+
+    // The words that are durable at this clock, behind it.
+    fn durable_words(&self, alloc: Global, clock: Epoch) -> Result<Vec<u64>, AllocError> {
+        let mut words = Vec::new(alloc);
+        words.push(clock)?;
+        for of_slot in self.slots.chunks(FIELDS) {
+            push_durable(&mut words, of_slot, clock.saturating_sub(2))?;
+        }
+        Ok(words)
     }
 
     /// The text of what the operations that crashes left lead to, with this clock.
@@ -207,6 +241,15 @@ impl PlainStore {
             }
         }
         Ok(states)
+    }
+}
+
+// A slot's words where they are of an epoch up to the cut, and zeros else.
+fn push_durable(words: &mut Vec<u64>, of_slot: &[u64], cut: Epoch) -> Result<(), AllocError> {
+    if of_slot.first().is_some_and(|epoch| *epoch > cut) {
+        words.extend_from_slice(&[0; FIELDS])
+    } else {
+        words.extend_from_slice(of_slot)
     }
 }
 

@@ -7,11 +7,11 @@ use case_file::Unanswered;
 use mont_base::{Fuel, Steady};
 use mont_image::Image;
 use recover::Recovered;
-use std::alloc::Global;
+use std::alloc::{AllocError, Global};
 use std::thread::Threads;
 
 // The masks, as they are told.
-const MASKS: [(u64, &str); 6] = [
+static MASKS: &[(u64, &str)] = &[
     (0, "0000000000000000"),
     (u64::MAX, "ffffffffffffffff"),
     (1, "0000000000000001"),
@@ -33,19 +33,62 @@ pub fn sweep_table(
 {
     let mut table = String::new(alloc);
     push_sweeps(&mut table, rt, alloc, image, most)?;
-    let before = contents_text(alloc, image.layout, &opened(rt, alloc, image)?)?;
-    for (mask, name) in MASKS {
+    let before = contents_of(rt, alloc, image)?;
+    push_masks(&mut table, rt, alloc, image, most, before.as_slice())?;
+    Ok(table.into_bytes())
+}
+
+// The text of the contents of an image.
+fn contents_of(
+    rt: &(impl Threads + Sync),
+    alloc: Global,
+    image: &Image,
+) -> Result<Vec<u8>, Unanswered>
+    requires { image.now.old ≡ false }
+{
+    let store = opened(rt, alloc, image)?;
+    Ok(contents_text(alloc, image.layout, &store)?)
+}
+
+// The lines of all masks.
+fn push_masks(
+    table: &mut String,
+    rt: &(impl Threads + Sync),
+    alloc: Global,
+    image: &Image,
+    most: u64,
+    before: &[u8],
+) -> Result<(), Unanswered>
+    requires { image.now.old ≡ false }
+{
+    for row in MASKS {
+        let (mask, name) = *row;
         write!(table, "mask {name} leaves")?;
         for steps in 0..most.saturating_add(1) {
-            let Left {
-                cut: _,
-                image: left,
-            } = left_by(rt, alloc, image, steps, mask)?;
-            push_left(&mut table, rt, alloc, &left, before.as_slice())?;
+            push_picked(table, rt, alloc, image, steps, mask, before)?;
         }
         writeln!(table)?;
     }
-    Ok(table.into_bytes())
+    Ok(())
+}
+
+// What is left behind a sweep with so many steps, as a mask picks it.
+fn push_picked(
+    table: &mut String,
+    rt: &(impl Threads + Sync),
+    alloc: Global,
+    image: &Image,
+    steps: u64,
+    mask: u64,
+    before: &[u8],
+) -> Result<(), Unanswered>
+    requires { image.now.old ≡ false }
+{
+    let Left {
+        cut: _,
+        image: left,
+    } = left_by(rt, alloc, image, steps, mask)?;
+    push_left(table, rt, alloc, &left, before)
 }
 
 // How many slots are lost in an image, and whether its contents are others than these.
@@ -81,17 +124,26 @@ fn push_sweeps(
     write!(table, "cut behind steps")?;
     for steps in 0..most.saturating_add(1) {
         let mut store = opened(rt, alloc, image)?;
-        let cut = store.sweep(&mut Fuel::new(steps)).is_err();
-        if cut {
-            write!(table, " {steps}")?;
-        }
-        write!(open, " {}", store.lost())?;
-        if store.is_swept() == cut || !goes_on(&mut store) {
-            write!(open, " (and it isn't swept again)")?;
-        }
+        push_sweep(table, &mut open, &mut store, steps)?;
     }
-    writeln!(table)?;
-    writeln!(table, "{open}")?;
+    Ok(write!(table, "\n{open}\n")?)
+}
+
+// Whether a sweep with so many steps is cut, and how many slots it has still to close.
+fn push_sweep(
+    table: &mut String,
+    open: &mut String,
+    store: &mut Recovered,
+    steps: u64,
+) -> Result<(), AllocError> {
+    let cut = store.sweep(&mut Fuel::new(steps)).is_err();
+    if cut {
+        write!(table, " {steps}")?;
+    }
+    write!(open, " {}", store.lost())?;
+    if store.is_swept() == cut || !goes_on(store) {
+        write!(open, " (and it isn't swept again)")?;
+    }
     Ok(())
 }
 

@@ -49,19 +49,32 @@ pub fn draw_calls<R: Wait, N: HeapName, I: Index>(
         let Some(op) = draws.op(&layout) else {
             return Err(ScriptFault::Operation);
         };
-        let mut pairs = PairList::empty();
-        match call_until_roomy(rt, store, caller, &op, &mut pairs)? {
-            Ok(receipt) if plain.agree(&receipt, &pairs)? => drawn.agree = drawn
-                .agree
-                .saturating_add(1),
-            Ok(_receipt) => drawn.differ = drawn.differ.saturating_add(1),
-            Err(_refusal) => drawn.refused = drawn.refused.saturating_add(1),
-        }
+        draw_call(rt, store, caller, plain, &op, &mut drawn)?;
         if made % TICK_BEHIND == TICK_BEHIND - 1 {
             let _ticked = caller.tick(rt, store);
         }
     }
     Ok(drawn)
+}
+
+// Makes an operation that is drawn, and so do the plain structures.
+fn draw_call<R: Wait, N: HeapName, I: Index>(
+    rt: &R,
+    store: &Store<N, I>,
+    caller: &mut Caller<N>,
+    plain: &mut PlainUnits,
+    op: &Op,
+    drawn: &mut Drawn,
+) -> Result<(), ScriptFault> {
+    let mut pairs = PairList::empty();
+    match call_until_roomy(rt, store, caller, op, &mut pairs)? {
+        Ok(receipt) if plain.agree(&receipt, &pairs)? => drawn.agree = drawn
+            .agree
+            .saturating_add(1),
+        Ok(_receipt) => drawn.differ = drawn.differ.saturating_add(1),
+        Err(_refusal) => drawn.refused = drawn.refused.saturating_add(1),
+    }
+    Ok(())
 }
 
 // Makes an operation, and once more behind a sync where the unit is full.

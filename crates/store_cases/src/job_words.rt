@@ -3,7 +3,7 @@ use crate::script::Setting;
 use crate::script_refusal::ScriptFault;
 use job_text::{Deed, Job, JobRefusal, read_job};
 use mont_base::{MemSource, Op, Text};
-use std::alloc::Global;
+use std::alloc::{AllocError, Global};
 
 // The mask of a job that has none to tell.
 const NO_MASK: &str = "0000000000000000";
@@ -32,13 +32,22 @@ pub fn mask_in(alloc: Global, word: &str) -> Result<u64, ScriptFault> {
 /// What a line asks of a store: an operation, a tick or a sync.
 pub fn deed_in(alloc: Global, setting: &Setting, line: &str) -> Result<Deed, ScriptFault> {
     let mut head = String::new(alloc);
+    push_head(&mut head, setting)?;
+    let line = format!(in alloc; "{line}\n")?;
+    only_deed(alloc, head.as_str(), line.as_str())
+}
+
+fn push_head(head: &mut String, setting: &Setting) -> Result<(), AllocError> {
     for kind in setting.layout.kinds().as_slice() {
         head.push(char::from(kind.letter()))?;
     }
     let (slots, callers) = (setting.layout.slots(), setting.callers);
-    write!(head, " {slots} {callers} 0 {NO_MASK}")?;
-    let line = format!(in alloc; "{line}\n")?;
-    let job = job_in(alloc, head.as_str(), line.as_str(), ScriptFault::Operation)?;
+    write!(head, " {slots} {callers} 0 {NO_MASK}")
+}
+
+// What the one line of a job asks.
+fn only_deed(alloc: Global, head: &str, lines: &str) -> Result<Deed, ScriptFault> {
+    let job = job_in(alloc, head, lines, ScriptFault::Operation)?;
     match job.lines.as_slice() {
         [line] => Ok(line.deed),
         _ => Err(ScriptFault::Operation),

@@ -23,16 +23,27 @@ pub fn tell_judgement(
             return Ok(());
         }
     }
+    match first_without(rt, alloc, stopped)? {
+        Some(mask) => writeln!(told, "the image of mask {mask} holds no cut")?,
+        None => writeln!(told, "legal, and {IMAGES} images hold the cut")?,
+    }
+    Ok(())
+}
+
+// The first mask whose image doesn't hold the cut of the histories.
+fn first_without(
+    rt: &(impl Threads + Sync),
+    alloc: Global,
+    stopped: &Stopped,
+) -> Result<Option<u64>, ScriptFault> {
     let mut mask = 0;
     for at in 0..IMAGES {
         if !holds_cut(rt, alloc, stopped, mask)? {
-            writeln!(told, "the image of mask {mask} holds no cut")?;
-            return Ok(());
+            return Ok(Some(mask));
         }
         mask = next_mask(mask, at);
     }
-    writeln!(told, "legal, and {IMAGES} images hold the cut")?;
-    Ok(())
+    Ok(None)
 }
 
 // None, then all of the words, then others.
@@ -72,8 +83,17 @@ fn holds_cut(
     let image = picked(alloc, &stopped.words, mask)?;
     let found = opened(rt, alloc, &image, 1)?;
     let cut = found.clock().saturating_sub(2);
+    Ok(holds_states(alloc, stopped, found.contents(), cut)?)
+}
+
+fn holds_states(
+    alloc: Global,
+    stopped: &Stopped,
+    contents: &Contents,
+    cut: Epoch,
+) -> Result<bool, AllocError> {
     for unit in 0..stopped.words.layout.units() {
-        if !holds_state(alloc, stopped, found.contents(), unit, cut)? {
+        if !holds_state(alloc, stopped, contents, unit, cut)? {
             return Ok(false);
         }
     }

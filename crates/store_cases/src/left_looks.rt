@@ -5,7 +5,8 @@ use crate::judged_round::tell_judgement;
 use crate::left_words::{opened, picked};
 use crate::script::{Look, LookLine, Setting};
 use crate::script_refusal::ScriptFault;
-use mont_base::Words;
+use mont_base::{Layout, Words};
+use recover::Recovered;
 use std::alloc::{AllocError, Global};
 use std::thread::Threads;
 use store_stop::Stopped;
@@ -42,11 +43,7 @@ pub fn tell_look(
         (Look::Images { masks }, _) => tell_images(told, rt, alloc, left.words(), masks, true),
         (Look::Contents { masks }, _) => tell_images(told, rt, alloc, left.words(), masks, false),
         (Look::Clocks, _) => Ok(tell_clocks(told, left.words())?),
-        (Look::Base, Left::Stopped { stopped }) => {
-            let (layout, clock) = (setting.layout, stopped.base_clock);
-            writeln!(told, "base {clock}")?;
-            Ok(tell_contents(told, alloc, layout, clock, &stopped.base)?)
-        }
+        (Look::Base, Left::Stopped { stopped }) => Ok(tell_base(told, alloc, setting, stopped)?),
         (Look::Histories, Left::Stopped { stopped }) => {
             Ok(tell_histories(told, alloc, setting, stopped)?)
         }
@@ -56,6 +53,18 @@ pub fn tell_look(
         }
         (_, Left::Swept { .. }) => Err(ScriptFault::Place),
     }
+}
+
+// Tells what a store opened with.
+fn tell_base(
+    told: &mut String,
+    alloc: Global,
+    setting: &Setting,
+    stopped: &Stopped,
+) -> Result<(), AllocError> {
+    let (layout, clock) = (setting.layout, stopped.base_clock);
+    writeln!(told, "base {clock}")?;
+    tell_contents(told, alloc, layout, clock, &stopped.base)
 }
 
 // Tells the current clock and the durable one.
@@ -86,7 +95,11 @@ fn tell_images(
         let text = told_image_of(rt, alloc, words, *mask, with_lost)?;
         add_image(alloc, &mut images, *mask, text)?;
     }
-    for image in &images {
+    Ok(tell_all(told, images.as_slice())?)
+}
+
+fn tell_all(told: &mut String, images: &[ToldImages]) -> Result<(), AllocError> {
+    for image in images {
         write!(told, "image of")?;
         for mask in &image.masks {
             write!(told, " {mask:016x}")?;
@@ -124,15 +137,35 @@ fn told_image_of(
     mask: u64,
     with_lost: bool,
 ) -> Result<String, ScriptFault> {
-    let image = picked(alloc, words, mask)?;
-    let found = opened(rt, alloc, &image, 1)?;
-    let clock = found.clock();
+    let found = found_in(rt, alloc, words, mask)?;
     let mut told = String::new(alloc);
+    tell_found(&mut told, alloc, words.layout, &found, with_lost)?;
+    Ok(told)
+}
+
+// What recovery finds in the image that a mask picks.
+fn found_in(
+    rt: &(impl Threads + Sync),
+    alloc: Global,
+    words: &Words,
+    mask: u64,
+) -> Result<Recovered, ScriptFault> {
+    let image = picked(alloc, words, mask)?;
+    opened(rt, alloc, &image, 1)
+}
+
+fn tell_found(
+    told: &mut String,
+    alloc: Global,
+    layout: Layout,
+    found: &Recovered,
+    with_lost: bool,
+) -> Result<(), AllocError> {
+    let clock = found.clock();
     write!(told, "image {clock}")?;
     if with_lost {
         write!(told, ", lost {}", found.lost())?;
     }
     writeln!(told)?;
-    tell_contents(&mut told, alloc, words.layout, clock, found.contents())?;
-    Ok(told)
+    tell_contents(told, alloc, layout, clock, found.contents())
 }

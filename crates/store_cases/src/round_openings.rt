@@ -76,28 +76,29 @@ fn play_on_fresh<R: Wait, N: HeapName>(
     let maps = heap.layout().maps();
     match scene.run.boxes {
         BoxesKind::Sorted => {
-            let boxes = sorted_boxes(alloc, maps)?;
+            let boxes = sorted_boxes(alloc, maps);
             play_fresh_with::<R, N, _>(rt, alloc, heap, seats, gates, boxes, scene, works)
         }
         BoxesKind::Probed => {
-            let boxes = probed_boxes(alloc, maps)?;
+            let boxes = probed_boxes(alloc, maps);
             play_fresh_with::<R, N, _>(rt, alloc, heap, seats, gates, boxes, scene, works)
         }
         BoxesKind::Own { rooms } => {
-            let boxes = own_boxes(alloc, maps, rooms)?;
+            let boxes = own_boxes(alloc, maps, rooms);
             play_fresh_with::<R, N, _>(rt, alloc, heap, seats, gates, boxes, scene, works)
         }
     }
 }
 
-// Works on the heap that N names, of which no step was made, with these boxes.
+// Works on the heap that N names, of which no step was made, with these boxes, if memory was left
+// for them.
 fn play_fresh_with<R: Wait, N: HeapName, I: Index>(
     rt: &R,
     alloc: Global,
     heap: Heap,
     seats: Seats,
     gates: Vec<Fuel>,
-    boxes: Vec<I>,
+    boxes: Result<Vec<I>, AllocError>,
     scene: &mut Scene,
     works: &[WorkLine],
 ) -> Result<Ended, ScriptFault>
@@ -105,6 +106,7 @@ fn play_fresh_with<R: Wait, N: HeapName, I: Index>(
     requires opens { IsNewHeap (vec_len gates) N.heap seats.units.items seats.advancer
         seats.callers.items }
 {
+    let boxes = boxes?;
     let (store, passes) = Store::<N, I>::fresh(alloc, heap, seats, gates, boxes)?;
     work_and_stop(rt, alloc, store, passes, scene, works)
 }
@@ -125,27 +127,28 @@ fn play_on_recovered<R: Wait, N: HeapName>(
 {
     match scene.run.boxes {
         BoxesKind::Sorted => {
-            let boxes = sorted_boxes(alloc, maps)?;
+            let boxes = sorted_boxes(alloc, maps);
             play_recovered_with::<R, N, _>(rt, alloc, recovered, gates, boxes, scene, works)
         }
         BoxesKind::Probed => {
-            let boxes = probed_boxes(alloc, maps)?;
+            let boxes = probed_boxes(alloc, maps);
             play_recovered_with::<R, N, _>(rt, alloc, recovered, gates, boxes, scene, works)
         }
         BoxesKind::Own { rooms } => {
-            let boxes = own_boxes(alloc, maps, rooms)?;
+            let boxes = own_boxes(alloc, maps, rooms);
             play_recovered_with::<R, N, _>(rt, alloc, recovered, gates, boxes, scene, works)
         }
     }
 }
 
-// Works on the heap that N names, which was opened from an image, with these boxes.
+// Works on the heap that N names, which was opened from an image, with these boxes, if memory was
+// left for them.
 fn play_recovered_with<R: Wait, N: HeapName, I: Index>(
     rt: &R,
     alloc: Global,
     recovered: Recovered,
     gates: Vec<Fuel>,
-    boxes: Vec<I>,
+    boxes: Result<Vec<I>, AllocError>,
     scene: &mut Scene,
     works: &[WorkLine],
 ) -> Result<Ended, ScriptFault>
@@ -153,6 +156,7 @@ fn play_recovered_with<R: Wait, N: HeapName, I: Index>(
     requires swept { recovered.swept ≡ true }
     requires gates { vec_len gates ≡ N.heap.opening.callers }
 {
+    let boxes = boxes?;
     let (store, passes) = Store::<N, I>::resume(alloc, recovered, gates, boxes)?;
     work_and_stop(rt, alloc, store, passes, scene, works)
 }

@@ -86,25 +86,50 @@ fn play_from_image<R: Threads + Wait + Sync>(
     run: Run,
     told: &mut String,
 ) -> Result<Played, ScriptFault> {
-    let image = image_of(alloc, setting, &round.opening, before)?;
-    let mut store = opened(rt, alloc, &image, setting.callers)?;
-    tell_opened(told, round, &store)?;
+    let mut store = store_of(rt, alloc, setting, &round.opening, before)?;
+    tell_begin(told, &mut store, round, run)?;
     match &round.opening {
-        Opening::Swept { steps, .. } => {
-            tell_sweep(told, &mut store, steps.number(run.each))?;
-            writeln!(told)?;
-            let words = store.stop(alloc)?;
-            let left = Left::Swept { words };
-            return Ok(Played::Done { left });
-        }
+        Opening::Swept { .. } => stop_swept(alloc, store),
+        _ => play_swept(rt, alloc, setting, round, store, run, told),
+    }
+}
+
+// The store that is opened from an image.
+fn store_of<R: Threads + Sync>(
+    rt: &R,
+    alloc: Global,
+    setting: &Setting,
+    opening: &Opening,
+    before: Option<Left>,
+) -> Result<Recovered, ScriptFault> {
+    let image = image_of(alloc, setting, opening, before)?;
+    opened(rt, alloc, &image, setting.callers)
+}
+
+// Tells a store that is opened from an image, and sweeps it as far as its line says.
+fn tell_begin(
+    told: &mut String,
+    store: &mut Recovered,
+    round: &Round,
+    run: Run,
+) -> Result<(), AllocError> {
+    tell_opened(told, round, store)?;
+    match &round.opening {
+        Opening::Swept { steps, .. } => tell_sweep(told, store, steps.number(run.each))?,
         Opening::Picked {
             sweep: Some(steps),
             ..
-        } => tell_sweep(told, &mut store, steps.number(run.each))?,
+        } => tell_sweep(told, store, steps.number(run.each))?,
         _ => {}
     }
-    writeln!(told)?;
-    play_swept(rt, alloc, setting, round, store, run, told)
+    writeln!(told)
+}
+
+// Stops a store in its sweep.
+fn stop_swept(alloc: Global, store: Recovered) -> Result<Played, ScriptFault> {
+    let words = store.stop(alloc)?;
+    let left = Left::Swept { words };
+    Ok(Played::Done { left })
 }
 
 // Sweeps what is left to sweep of a store, and works on it.
@@ -113,18 +138,29 @@ fn play_swept<R: Wait>(
     alloc: Global,
     setting: &Setting,
     round: &Round,
-    mut store: Recovered,
+    store: Recovered,
     run: Run,
     told: &mut String,
 ) -> Result<Played, ScriptFault> {
     let plain = PlainUnits::of_contents(alloc, store.contents())?;
+    let mut scene = Scene::new(alloc, run, plain);
+    let ended = sweep_and_play(rt, alloc, setting, round, store, &mut scene)?;
+    write!(told, "{}", scene.told)?;
+    Ok(played_of(ended))
+}
+
+fn sweep_and_play<R: Wait>(
+    rt: &R,
+    alloc: Global,
+    setting: &Setting,
+    round: &Round,
+    mut store: Recovered,
+    scene: &mut Scene,
+) -> Result<Ended, ScriptFault> {
     if store.sweep(&mut Steady).is_err() {
         return Err(ScriptFault::Image);
     }
-    let mut scene = Scene::new(alloc, run, plain);
-    let ended = play_recovered(rt, alloc, setting, store, &mut scene, &round.works)?;
-    write!(told, "{}", scene.told)?;
-    Ok(played_of(ended))
+    play_recovered(rt, alloc, setting, store, scene, &round.works)
 }
 
 // The image from which a store is opened.

@@ -65,6 +65,28 @@ impl Draft {
         match words {
             ["each", from, to] => self.set_each(from, to),
             ["room", many] => self.set_rooms(many),
+            ["store" | "told", ..] => self.add_store(alloc, number, line, words),
+            ["slot", slot, words @ ..] => self.add_slot(alloc, slot, words),
+            ["stop"] => self.stop(),
+            ["recover" | "sweep", ..] => self.go_on(alloc, number, line, words),
+            [
+                "clocks" | "base" | "histories" | "judge" | "image" | "contents",
+                ..
+            ] => { self.add_look(alloc, number, line, words) }
+            [caller, rest @ ..] => self.add_work(alloc, number, line, caller, rest),
+            [] => Err(ScriptFault::Unclear),
+        }
+    }
+
+    // The first store, which was never used, or goes on from an image that is told.
+    fn add_store(
+        &mut self,
+        alloc: Global,
+        number: u64,
+        line: &str,
+        words: &[&str],
+    ) -> Result<(), ScriptFault> {
+        match words {
             ["store", kinds, slots, callers] => {
                 let setting = setting_in(alloc, kinds, slots, callers)?;
                 self.open_first(alloc, number, line, setting, Opening::Fresh)
@@ -78,13 +100,6 @@ impl Draft {
                 };
                 self.open_first(alloc, number, line, setting, Opening::Told { image })
             }
-            ["slot", slot, words @ ..] => self.add_slot(alloc, slot, words),
-            ["stop"] => self.stop(),
-            ["recover" | "sweep", ..] => self.go_on(alloc, number, line, words),
-            [
-                "clocks" | "base" | "histories" | "judge" | "image" | "contents",
-                ..
-            ] => { self.add_look(alloc, number, line, words) }
             [caller, rest @ ..] => self.add_work(alloc, number, line, caller, rest),
             [] => Err(ScriptFault::Unclear),
         }
@@ -159,12 +174,7 @@ impl Draft {
         if self.stopped || !round.works.is_empty() {
             return Err(ScriptFault::Place);
         }
-        let mut words = Vec::new(alloc);
-        for word in told {
-            words.push(number_in(word)?)?;
-        }
-        let slot = number_in(slot)?;
-        image.slots.push(SlotWords { slot, words })?;
+        image.slots.push(slot_in(alloc, slot, told)?)?;
         Ok(())
     }
 
@@ -188,21 +198,7 @@ impl Draft {
         if !self.stopped {
             return Err(ScriptFault::Place);
         }
-        let opening = match words {
-            ["recover", mask] => Opening::Picked {
-                mask: mask_in(alloc, mask)?,
-                sweep: None,
-            },
-            ["recover", mask, "sweep", steps] => Opening::Picked {
-                mask: mask_in(alloc, mask)?,
-                sweep: Some(steps_in(self.each, steps)?),
-            },
-            ["sweep", mask, steps] => Opening::Swept {
-                mask: mask_in(alloc, mask)?,
-                steps: steps_in(self.each, steps)?,
-            },
-            _ => return Err(ScriptFault::Unclear),
-        };
+        let opening = opening_in(alloc, self.each, words)?;
         Ok(self.open(alloc, number, line, opening)?)
     }
 
@@ -215,17 +211,28 @@ impl Draft {
         words: &[&str],
     ) -> Result<(), ScriptFault> {
         let look = look_in(alloc, words)?;
-        let Some(round) = self.rounds.last_mut() else {
-            return Err(ScriptFault::Place);
-        };
-        let of_words = matches!(look, Look::Images { .. } | Look::Contents { .. });
-        let swept = matches!(round.opening, Opening::Swept { .. });
-        if !self.stopped || (swept && !of_words) {
+        if !self.may_be_asked(&look) {
             return Err(ScriptFault::Place);
         }
         let text = String::from_str(alloc, line)?;
-        round.looks.push(LookLine { number, text, look })?;
-        Ok(())
+        self.push_look(LookLine { number, text, look })
+    }
+
+    // Whether the last store is stopped, and the question can be put to it.
+    fn may_be_asked(&self, look: &Look) -> bool {
+        let Some(round) = self.rounds.last() else {
+            return false;
+        };
+        let of_words = matches!(look, Look::Images { .. } | Look::Contents { .. });
+        let swept = matches!(round.opening, Opening::Swept { .. });
+        self.stopped && (!swept || of_words)
+    }
+
+    fn push_look(&mut self, look: LookLine) -> Result<(), ScriptFault> {
+        match self.rounds.last_mut() {
+            Some(round) => Ok(round.looks.push(look)?),
+            None => Err(ScriptFault::Place),
+        }
     }
 
     // What a caller does.
@@ -245,19 +252,55 @@ impl Draft {
             return Err(ScriptFault::Caller);
         }
         let work = work_in(alloc, &setting, self.each, line, words)?;
-        let text = String::from_str(alloc, line)?;
-        let Some(round) = self.rounds.last_mut() else {
-            return Err(ScriptFault::Place);
-        };
         if self.stopped {
             return Err(ScriptFault::Place);
         }
-        round.works.push(WorkLine {
+        let text = String::from_str(alloc, line)?;
+        self.push_work(WorkLine {
             number,
             text,
             caller,
             work,
-        })?;
-        Ok(())
+        })
+    }
+
+    fn push_work(&mut self, work: WorkLine) -> Result<(), ScriptFault> {
+        match self.rounds.last_mut() {
+            Some(round) => Ok(round.works.push(work)?),
+            None => Err(ScriptFault::Place),
+        }
+    }
+}
+
+// A slot of an image that is told.
+fn slot_in(alloc: Global, slot: &str, told: &[&str]) -> Result<SlotWords, ScriptFault> {
+    let mut words = Vec::new(alloc);
+    for word in told {
+        words.push(number_in(word)?)?;
+    }
+    let slot = number_in(slot)?;
+    Ok(SlotWords { slot, words })
+}
+
+// How a store goes on from what the one before left.
+fn opening_in(
+    alloc: Global,
+    each: Option<StepRange>,
+    words: &[&str],
+) -> Result<Opening, ScriptFault> {
+    match words {
+        ["recover", mask] => Ok(Opening::Picked {
+            mask: mask_in(alloc, mask)?,
+            sweep: None,
+        }),
+        ["recover", mask, "sweep", steps] => Ok(Opening::Picked {
+            mask: mask_in(alloc, mask)?,
+            sweep: Some(steps_in(each, steps)?),
+        }),
+        ["sweep", mask, steps] => Ok(Opening::Swept {
+            mask: mask_in(alloc, mask)?,
+            steps: steps_in(each, steps)?,
+        }),
+        _ => Err(ScriptFault::Unclear),
     }
 }

@@ -27,44 +27,52 @@ pub fn work_in(
     words: &[&str],
 ) -> Result<Work, ScriptFault> {
     match words {
-        ["fuel", steps] => Ok(Work::Fuel {
-            steps: steps_in(each, steps)?,
-        }),
+        ["fuel", steps] => fuel_in(each, steps),
         ["endless"] => Ok(Work::Endless),
-        ["tells", other] => match number_in(other)? {
-            other if other < setting.callers => Ok(Work::Tells { other }),
-            _ => Err(ScriptFault::Caller),
-        },
-        ["draws", many, seed, names] => Ok(Work::Draws {
-            draws: drawn_in(many, seed, names)?,
-            whole: true,
-        }),
-        ["tries", many, seed, names] => Ok(Work::Draws {
-            draws: drawn_in(many, seed, names)?,
-            whole: false,
-        }),
-        ["shift", from, to, amount] if setting.layout.maps() > 0 => Ok(Work::Shifts {
-            from: text_in(alloc, from)?,
-            to: text_in(alloc, to)?,
-            amount: number_in(amount)?,
-        }),
+        ["tells", other] => telling_in(setting, other),
+        ["draws", many, seed, names] => draws_in(many, seed, names, true),
+        ["tries", many, seed, names] => draws_in(many, seed, names, false),
+        ["shift", from, to, amount] if setting.layout.maps() > 0 => {
+            shift_in(alloc, from, to, amount)
+        }
         _ => Ok(Work::Asks {
             deed: deed_in(alloc, setting, line)?,
         }),
     }
 }
 
-// Operations that are drawn.
-fn drawn_in(many: &str, seed: &str, names: &str) -> Result<DrawnCalls, ScriptFault> {
+// Its gate passes so many steps more.
+fn fuel_in(each: Option<StepRange>, steps: &str) -> Result<Work, ScriptFault> {
+    let steps = steps_in(each, steps)?;
+    Ok(Work::Fuel { steps })
+}
+
+// It tells another caller.
+fn telling_in(setting: &Setting, other: &str) -> Result<Work, ScriptFault> {
+    let other = number_in(other)?;
+    if other < setting.callers {
+        Ok(Work::Tells { other })
+    } else {
+        Err(ScriptFault::Caller)
+    }
+}
+
+// It shifts an amount.
+fn shift_in(alloc: Global, from: &str, to: &str, amount: &str) -> Result<Work, ScriptFault> {
+    let (from, to) = (text_in(alloc, from)?, text_in(alloc, to)?);
+    let amount = number_in(amount)?;
+    Ok(Work::Shifts { from, to, amount })
+}
+
+// It makes operations that are drawn.
+fn draws_in(many: &str, seed: &str, names: &str, whole: bool) -> Result<Work, ScriptFault> {
     let many = number_in(many)?;
     if many > MOST_DRAWN {
         return Err(ScriptFault::Unclear);
     }
-    Ok(DrawnCalls {
-        many,
-        seed: number_in(seed)?,
-        names: number_in(names)?,
-    })
+    let (seed, names) = (number_in(seed)?, number_in(names)?);
+    let draws = DrawnCalls { many, seed, names };
+    Ok(Work::Draws { draws, whole })
 }
 
 /// What is asked of a store that was stopped.

@@ -28,16 +28,30 @@ pub fn tell_script<R: Threads + Wait + Sync>(
     if script.setting.layout.maps() == 0 {
         return Ok(sorted);
     }
-    let probed = tell_runs(rt, alloc, script, BoxesKind::Probed)?;
-    let own = tell_runs(rt, alloc, script, BoxesKind::Own { rooms: u64::MAX })?;
     let mut told = String::from_str(alloc, sorted.as_str())?;
-    if probed.as_str() != sorted.as_str() {
-        write!(told, "but with probed boxes\n{probed}")?;
-    }
-    if own.as_str() != sorted.as_str() {
-        write!(told, "but with boxes of its own\n{own}")?;
-    }
+    tell_others(&mut told, rt, alloc, script, sorted.as_str())?;
     Ok(told)
+}
+
+// What is told of a script with boxes of other kinds, where that is something else.
+fn tell_others<R: Threads + Wait + Sync>(
+    told: &mut String,
+    rt: &R,
+    alloc: Global,
+    script: &Script,
+    sorted: &str,
+) -> Result<(), ScriptRefusal> {
+    let probed = tell_runs(rt, alloc, script, BoxesKind::Probed)?;
+    tell_kind(told, "probed boxes", probed.as_str(), sorted)?;
+    let own = tell_runs(rt, alloc, script, BoxesKind::Own { rooms: u64::MAX })?;
+    Ok(tell_kind(told, "boxes of its own", own.as_str(), sorted)?)
+}
+
+fn tell_kind(told: &mut String, boxes: &str, other: &str, sorted: &str) -> Result<(), AllocError> {
+    if other != sorted {
+        write!(told, "but with {boxes}\n{other}")?;
+    }
+    Ok(())
 }
 
 // What is told of the runs of a script with boxes of a kind.
@@ -52,10 +66,22 @@ fn tell_runs<R: Threads + Wait + Sync>(
     };
     let mut outcomes: Vec<Outcome> = Vec::new(alloc);
     for steps in from..to.saturating_add(1) {
-        let text = run_rounds(rt, alloc, script, Run { boxes, each: steps })?;
-        add_outcome(&mut outcomes, steps, text)?;
+        let run = Run { boxes, each: steps };
+        add_run(&mut outcomes, rt, alloc, script, run)?;
     }
     Ok(outcomes_told(alloc, outcomes.as_slice())?)
+}
+
+// Adds what is told of a run.
+fn add_run<R: Threads + Wait + Sync>(
+    outcomes: &mut Vec<Outcome>,
+    rt: &R,
+    alloc: Global,
+    script: &Script,
+    run: Run,
+) -> Result<(), ScriptRefusal> {
+    let text = run_rounds(rt, alloc, script, run)?;
+    Ok(add_outcome(outcomes, run.each, text)?)
 }
 
 // Adds what is told of a number of steps.
@@ -77,13 +103,17 @@ fn add_outcome(outcomes: &mut Vec<Outcome>, steps: u64, text: String) -> Result<
 fn outcomes_told(alloc: Global, outcomes: &[Outcome]) -> Result<String, AllocError> {
     let mut told = String::new(alloc);
     for outcome in outcomes {
-        let StepRange { from, to } = outcome.range;
-        if from == to {
-            writeln!(told, "with {from} steps")?;
-        } else {
-            writeln!(told, "with {from} to {to} steps")?;
-        }
-        write!(told, "{}", outcome.text)?;
+        tell_outcome(&mut told, outcome)?;
     }
     Ok(told)
+}
+
+fn tell_outcome(told: &mut String, outcome: &Outcome) -> Result<(), AllocError> {
+    let StepRange { from, to } = outcome.range;
+    if from == to {
+        writeln!(told, "with {from} steps")?;
+    } else {
+        writeln!(told, "with {from} to {to} steps")?;
+    }
+    write!(told, "{}", outcome.text)
 }

@@ -4,7 +4,7 @@ use crate::script_refusal::ScriptFault;
 use advance::AdvanceRefusal;
 use caller::SyncRefusal;
 use job_text::Outcome;
-use mont_base::{CallRefusal, Epoch, PairList, Receipt, Reply};
+use mont_base::{CallRefusal, Epoch, PairList, Receipt, Reply, Text};
 use std::alloc::{AllocError, Global};
 
 /// Tells what an operation was answered: `at UNIT PLACE EPOCH = REPLY`, and behind that the pairs
@@ -87,10 +87,21 @@ fn tell_refusal(told: &mut String, refusal: CallRefusal) -> Result<(), AllocErro
 // Tells the pairs of a range, of which other operations have none.
 fn tell_pairs(told: &mut String, alloc: Global, pairs: &PairList) -> Result<(), ScriptFault> {
     for (key, value) in pairs.as_slice() {
-        let (key, value) = (text_word(alloc, *key)?, text_word(alloc, *value)?);
-        write!(told, " {key} {value}")?;
+        tell_text(told, alloc, "", *key)?;
+        tell_text(told, alloc, "", *value)?;
     }
     Ok(())
+}
+
+// Tells a text behind a word.
+fn tell_text(
+    told: &mut String,
+    alloc: Global,
+    before: &str,
+    text: Text,
+) -> Result<(), ScriptFault> {
+    let word = text_word(alloc, text)?;
+    Ok(write!(told, "{before} {word}")?)
 }
 
 // Tells a reply.
@@ -98,10 +109,10 @@ fn tell_reply(told: &mut String, alloc: Global, reply: &Reply) -> Result<(), Scr
     match reply {
         Reply::Nothing => write!(told, "none")?,
         Reply::Was { value } => write!(told, "was {value}")?,
-        Reply::WasText { value } => write!(told, "was {}", text_word(alloc, *value)?)?,
+        Reply::WasText { value } => tell_text(told, alloc, "was", *value)?,
         Reply::Count { number } => write!(told, "count {number}")?,
         Reply::NoEnds => write!(told, "noends")?,
-        Reply::Key { key } => write!(told, "key {}", text_word(alloc, *key)?)?,
+        Reply::Key { key } => tell_text(told, alloc, "key", *key)?,
         Reply::Pairs { number } => write!(told, "pairs {number}")?,
     }
     Ok(())

@@ -15,12 +15,7 @@ const MAGIC: u64 = 0x0a45_4741_544e_4f4d;
 pub fn told_image(alloc: Global, setting: &Setting, told: &ToldImage) -> Result<Image, ScriptFault>
     ensures { IfOk result (λ image. image.old ≡ false) }
 {
-    let words = words_of(alloc, setting, told)?;
-    let mut bytes = Vec::new(alloc);
-    for word in &words {
-        bytes.extend_from_slice(&word.to_le_bytes())?;
-    }
-    let mut source = MemSource::new(bytes, 4096, Vec::new(alloc));
+    let mut source = source_of(alloc, setting, told)?;
     let Ok(image) = read_image(alloc, &mut source) else {
         return Err(ScriptFault::Image);
     };
@@ -36,15 +31,36 @@ pub fn told_image(alloc: Global, setting: &Setting, told: &ToldImage) -> Result<
     }
 }
 
+// A source of the image's text.
+fn source_of(alloc: Global, setting: &Setting, told: &ToldImage) -> Result<MemSource, ScriptFault> {
+    let words = words_of(alloc, setting, told)?;
+    let bytes = bytes_of(alloc, words.as_slice())?;
+    Ok(MemSource::new(bytes, 4096, Vec::new(alloc)))
+}
+
+fn bytes_of(alloc: Global, words: &[u64]) -> Result<Vec<u8>, AllocError> {
+    let mut bytes = Vec::new(alloc);
+    for word in words {
+        bytes.extend_from_slice(&word.to_le_bytes())?;
+    }
+    Ok(bytes)
+}
+
 // The words of the image's text.
 fn words_of(alloc: Global, setting: &Setting, told: &ToldImage) -> Result<Vec<u64>, ScriptFault> {
+    let slots = slots_of(alloc, setting, told)?;
     let mut words = front(alloc, setting, told)?;
+    words.extend_from_slice(slots.as_slice())?;
+    Ok(words)
+}
+
+// The words of all slots.
+fn slots_of(alloc: Global, setting: &Setting, told: &ToldImage) -> Result<Vec<u64>, ScriptFault> {
     let mut slots = closed_slots(alloc, setting, told)?;
     for of_slot in &told.slots {
         set_slot(slots.as_mut_slice(), fields_of(told), of_slot)?;
     }
-    words.extend_from_slice(slots.as_slice())?;
-    Ok(words)
+    Ok(slots)
 }
 
 // How many words a slot has.

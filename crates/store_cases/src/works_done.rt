@@ -9,7 +9,7 @@ use crate::told_calls::{tell_call, tell_sync, tell_tick};
 use heap_pass::HeapName;
 use index_kit::Index;
 use job_text::Deed;
-use mont_base::{Fuel, Op, PairList, Text};
+use mont_base::{Fuel, Op, PairList, Receipt, Text};
 use std::alloc::Global;
 use std::sync::Wait;
 use store::Store;
@@ -70,26 +70,46 @@ fn do_work<R: Wait, N: HeapName, I: Index>(
         return Err(ScriptFault::Caller);
     };
     match line.work {
-        Work::Asks { deed } => {
-            write!(scene.told, "{}: ", line.text)?;
-            ask(rt, store, caller, scene, &deed)?;
-            writeln!(scene.told)?;
-        }
-        Work::Fuel { steps } => caller.set_gate(Fuel::new(steps.number(scene.run.each))),
-        Work::Endless => caller.set_gate(Fuel::endless()),
         Work::Draws { draws, whole } => {
             let drawn = draw_calls(rt, store, caller, &mut scene.plain, &draws)?;
             write!(scene.told, "{}: ", line.text)?;
-            tell_drawn(&mut scene.told, drawn, whole)?;
+            Ok(tell_drawn(&mut scene.told, drawn, whole)?)
         }
-        Work::Tells { .. } => {}
-        Work::Shifts { from, to, amount } => {
+        Work::Fuel { .. } | Work::Endless => {
+            set_gate(caller, scene.run, &line.work);
+            Ok(())
+        }
+        _ => {
             write!(scene.told, "{}: ", line.text)?;
-            shift(rt, store, caller, scene, from, to, amount)?;
-            writeln!(scene.told)?;
+            ask_or_shift(rt, store, caller, scene, &line.work)?;
+            Ok(writeln!(scene.told)?)
         }
     }
-    Ok(())
+}
+
+// Gives a caller another gate.
+fn set_gate<N: HeapName>(caller: &mut Caller<N>, run: Run, work: &Work) {
+    match work {
+        Work::Fuel { steps } => caller.set_gate(Fuel::new(steps.number(run.each))),
+        _ => caller.set_gate(Fuel::endless()),
+    }
+}
+
+// A caller asks what a line of a job may ask, or shifts an amount.
+fn ask_or_shift<R: Wait, N: HeapName, I: Index>(
+    rt: &R,
+    store: &Store<N, I>,
+    caller: &mut Caller<N>,
+    scene: &mut Scene,
+    work: &Work,
+) -> Result<(), ScriptFault> {
+    match work {
+        Work::Asks { deed } => ask(rt, store, caller, scene, deed),
+        Work::Shifts { from, to, amount } => {
+            shift(rt, store, caller, scene, *from, *to, *amount)
+        }
+        _ => Ok(()),
+    }
 }
 
 // A caller asks what a line of a job may ask.
@@ -142,15 +162,18 @@ fn shift<R: Wait, N: HeapName, I: Index>(
         return Err(ScriptFault::Operation);
     };
     tell_shift(&mut scene.told, scene.alloc, &answer)?;
-    if let Ok((out, into)) = &answer {
-        let none = PairList::empty();
-        let (out, into) = (
-            scene.plain.agree(out, &none)?,
-            scene.plain.agree(into, &none)?,
-        );
-        if !out || !into {
-            write!(scene.told, ", and not in plain structures")?;
-        }
+    match &answer {
+        Ok((out, into)) => shift_plainly(scene, out, into),
+        Err(_refusal) => Ok(()),
+    }
+}
+
+// The plain structures make both operations of a shift.
+fn shift_plainly(scene: &mut Scene, out: &Receipt, into: &Receipt) -> Result<(), ScriptFault> {
+    let none = PairList::empty();
+    let agrees = scene.plain.agree(out, &none)?;
+    if !scene.plain.agree(into, &none)? || !agrees {
+        write!(scene.told, ", and not in plain structures")?;
     }
     Ok(())
 }

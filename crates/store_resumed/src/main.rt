@@ -3,11 +3,13 @@
 //! it holds, and it is stopped again.
 #![tactic(auto)]
 
+ghost use Rattle.std.specs.Prelude.{◌≡◌, false, IfOk};
+
 mod queue_turn;
 
 use index_kit::SortedIndex;
 use mont_base::{Kinds, Layout, Steady};
-use mont_image::pick;
+use mont_image::{Image, pick};
 use queue_turn::Turn;
 use recover::recover;
 use std::io;
@@ -41,13 +43,31 @@ fn main(rt: HostRuntime) -> io::Result<()> {
 fn crash_and_resume<R: AllocGlobal + Threads + Wait + Sync>(
     rt: &R,
 ) -> Result<(Stopped, Vec<Turn>), StoreRefusal> {
+    let image = crash(rt)?;
+    resume(rt, &image)
+}
+
+// The image that a crash leaves of a store of one queue behind one turn.
+fn crash<R: AllocGlobal + Threads + Wait + Sync>(rt: &R) -> Result<Image, StoreRefusal>
+    ensures { IfOk result (λ image. image.old ≡ false) }
+{
     let alloc = rt.alloc();
     let layout = Layout::new(Kinds::of_letters(b"q")?, 8)?;
     let gates = vec![in alloc; Steady]?;
     let turns = vec![in alloc; Turn::new(1)]?;
     let (stopped, _turns) = with_fresh(rt, alloc, layout, gates, no_indexes(rt), turns)?;
-    let image = pick(alloc, &stopped.words, MASK)?;
-    let mut store = recover(rt, alloc, &image, 1, 1)?;
+    Ok(pick(alloc, &stopped.words, MASK)?)
+}
+
+// What the store leaves that goes on from an image, behind a second turn.
+fn resume<R: AllocGlobal + Threads + Wait + Sync>(
+    rt: &R,
+    image: &Image,
+) -> Result<(Stopped, Vec<Turn>), StoreRefusal>
+    requires { image.now.old ≡ false }
+{
+    let alloc = rt.alloc();
+    let mut store = recover(rt, alloc, image, 1, 1)?;
     store.sweep(&mut Steady)?;
     let gates = vec![in alloc; Steady]?;
     let turns = vec![in alloc; Turn::new(2)]?;

@@ -1,6 +1,6 @@
 // Chains of rounds: in each round four callers work on threads, some of which are cut; then the
 // store crashes, and the next round goes on from what is recovered.
-ghost use Rattle.std.specs.Prelude.{◌≡◌, vec_len, IfOk};
+ghost use Rattle.std.specs.Prelude.{◌≡◌, true, vec_len, IfOk};
 
 use crate::common_start::Start;
 use crate::crashed_images::picked;
@@ -12,6 +12,7 @@ use index_kit::SortedIndex;
 use mont_base::{Fuel, Kinds, Layout};
 use mont_image::Image;
 use plain::Contents;
+use recover::Recovered;
 use std::alloc::{AllocError, Global};
 use std::sync::Wait;
 use std::test::Fail;
@@ -55,12 +56,25 @@ fn first_round(
     seed: u64,
     draws: &mut Draws,
 ) -> Result<Crashed, Fail> {
-    let layout = Layout::new(Kinds::of_letters(KINDS)?, SLOTS)?;
-    let gates = drawn_gates(alloc, draws)?;
-    let indexes = vec![in alloc; SortedIndex::new(alloc)]?;
-    let works = callers(alloc, seed, 0)?;
-    let (stopped, works) = with_fresh(rt, alloc, layout, gates, indexes, works)?;
+    let (stopped, works) = begun(rt, alloc, seed, draws)?;
     left_behind(alloc, draws, &stopped, works.as_slice())
+}
+
+// What the callers of the first round leave.
+fn begun(
+    rt: &(impl Threads + Wait + Sync),
+    alloc: Global,
+    seed: u64,
+    draws: &mut Draws,
+) -> Result<(Stopped, Vec<RoundCaller>), Fail> {
+    let layout = layout()?;
+    let indexes = vec![in alloc; SortedIndex::new(alloc)]?;
+    let (gates, works) = gates_and_callers(alloc, seed, 0, draws)?;
+    Ok(with_fresh(rt, alloc, layout, gates, indexes, works)?)
+}
+
+fn layout() -> Result<Layout, Fail> {
+    Ok(Layout::new(Kinds::of_letters(KINDS)?, SLOTS)?)
 }
 
 // A round of a store that is recovered.
@@ -72,14 +86,56 @@ fn next_round(
     draws: &mut Draws,
     before: Crashed,
 ) -> Result<Crashed, Fail> {
+    let recovered = recovered_from(rt, alloc, draws, before)?;
+    let (stopped, works) = gone_on(rt, alloc, seed, round, draws, recovered)?;
+    left_behind(alloc, draws, &stopped, works.as_slice())
+}
+
+// The store of what a crash left, behind some sweeps that may be cut. It is swept.
+fn recovered_from(
+    rt: &(impl Threads + Sync),
+    alloc: Global,
+    draws: &mut Draws,
+    before: Crashed,
+) -> Result<Recovered, Fail>
+    ensures swept { IfOk result (λ r. r.swept ≡ true) }
+    ensures callers { IfOk result (λ r. r.heap.opening.callers ≡ 4) }
+{
     let Crashed { image, contents } = before;
     let image = behind_cut_sweeps(rt, alloc, draws, image, &contents)?;
-    let recovered = swept(rt, alloc, &image, &contents, CALLERS)?;
-    let gates = drawn_gates(alloc, draws)?;
+    swept(rt, alloc, &image, &contents, CALLERS)
+}
+
+// What the callers of a later round leave.
+fn gone_on(
+    rt: &(impl Threads + Wait + Sync),
+    alloc: Global,
+    seed: u64,
+    round: u64,
+    draws: &mut Draws,
+    recovered: Recovered,
+) -> Result<(Stopped, Vec<RoundCaller>), Fail>
+    requires swept { recovered.swept ≡ true }
+    requires callers { recovered.heap.opening.callers ≡ 4 }
+{
     let indexes = vec![in alloc; SortedIndex::new(alloc)]?;
+    let (gates, works) = gates_and_callers(alloc, seed, round, draws)?;
+    Ok(with_recovered(rt, alloc, recovered, gates, indexes, works)?)
+}
+
+// The callers of a round, and a gate for each.
+fn gates_and_callers(
+    alloc: Global,
+    seed: u64,
+    round: u64,
+    draws: &mut Draws,
+) -> Result<(Vec<Fuel>, Vec<RoundCaller>), AllocError>
+    ensures gates { IfOk result (λ r. vec_len r.0 ≡ 4) }
+    ensures callers { IfOk result (λ r. vec_len r.1 ≡ 4) }
+{
+    let gates = drawn_gates(alloc, draws)?;
     let works = callers(alloc, seed, round)?;
-    let (stopped, works) = with_recovered(rt, alloc, recovered, gates, indexes, works)?;
-    left_behind(alloc, draws, &stopped, works.as_slice())
+    Ok((gates, works))
 }
 
 fn drawn_gates(alloc: Global, draws: &mut Draws) -> Result<Vec<Fuel>, AllocError>
@@ -96,19 +152,26 @@ fn drawn_gates(alloc: Global, draws: &mut Draws) -> Result<Vec<Fuel>, AllocError
 fn callers(alloc: Global, seed: u64, round: u64) -> Result<Vec<RoundCaller>, AllocError>
     ensures { IfOk result (λ callers. vec_len callers ≡ 4) }
 {
-    let start = Start::new(alloc, CALLERS)?;
+    let (first, second, third, fourth) = starts(alloc)?;
     let row = round.wrapping_mul(CALLERS);
     Ok(vec![in alloc;
-        caller(alloc, &start, seed, row.wrapping_add(1))?,
-        caller(alloc, &start, seed, row.wrapping_add(2))?,
-        caller(alloc, &start, seed, row.wrapping_add(3))?,
-        caller(alloc, &start, seed, row.wrapping_add(4))?,
+        caller(alloc, first, seed, row.wrapping_add(1)),
+        caller(alloc, second, seed, row.wrapping_add(2)),
+        caller(alloc, third, seed, row.wrapping_add(3)),
+        caller(alloc, fourth, seed, row.wrapping_add(4)),
     ]?)
 }
 
-fn caller(alloc: Global, start: &Start, seed: u64, row: u64) -> Result<RoundCaller, AllocError> {
-    let draws = Draws::new(seed, row);
-    Ok(RoundCaller::new(alloc, start.shared()?, draws))
+// The start of all callers, for each of them.
+fn starts(alloc: Global) -> Result<(Start, Start, Start, Start), AllocError> {
+    let first = Start::new(alloc, CALLERS)?;
+    let second = first.shared()?;
+    let (third, fourth) = first.two()?;
+    Ok((first, second, third, fourth))
+}
+
+fn caller(alloc: Global, start: Start, seed: u64, row: u64) -> RoundCaller {
+    RoundCaller::new(alloc, start, Draws::new(seed, row))
 }
 
 // Judges a round, and picks an image of what it left.
@@ -119,12 +182,24 @@ fn left_behind(
     callers: &[RoundCaller],
 ) -> Result<Crashed, Fail> {
     judge(alloc, stopped, callers)?;
-    let image = picked(alloc, &stopped.words, draws.number())?;
-    if !has_durable(&image, callers) {
-        return Err(Fail::new("an image lacks what a caller knew to be durable"));
-    }
+    let image = durable_image(alloc, draws.number(), stopped, callers)?;
     let contents = expected(alloc, stopped, &image)?;
     Ok(Crashed { image, contents })
+}
+
+// The image that the mask picks. It has all that a caller knew to be durable.
+fn durable_image(
+    alloc: Global,
+    mask: u64,
+    stopped: &Stopped,
+    callers: &[RoundCaller],
+) -> Result<Image, Fail> {
+    let image = picked(alloc, &stopped.words, mask)?;
+    if has_durable(&image, callers) {
+        Ok(image)
+    } else {
+        Err(Fail::new("an image lacks what a caller knew to be durable"))
+    }
 }
 
 #[test]

@@ -30,6 +30,13 @@ impl Start {
         })
     }
 
+    // The same start, for two callers.
+    pub(crate) fn two(&self) -> Result<(Start, Start), AllocError> {
+        let first = self.shared()?;
+        let second = self.shared()?;
+        Ok((first, second))
+    }
+
     // Waits until all callers are there.
     pub(crate) fn wait(&self) {
         self.begun.fetch_add(1, Ordering::SeqCst);

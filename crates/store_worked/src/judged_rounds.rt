@@ -1,6 +1,6 @@
 // What a round left is judged by plain structures.
 use crate::round_callers::RoundCaller;
-use mont_base::{Epoch, Layout, Receipt, Sequence};
+use mont_base::{Entry, Epoch, Layout, Receipt, Sequence};
 use mont_image::Image;
 use plain::{Contents, UnitState, View, cut_at, is_callers_order, is_legal, state_after};
 use std::alloc::{AllocError, Global};
@@ -44,18 +44,52 @@ fn are_answers(
     stopped: &Stopped,
     callers: &[RoundCaller],
 ) -> Result<bool, AllocError> {
-    let mut answers = Vec::new(alloc);
-    let mut views = Vec::new(alloc);
-    for caller in callers {
-        if !caller.well {
-            return Ok(false);
-        }
-        let of_caller = Vec::from_slice(alloc, caller.answered.as_slice())?;
-        answers.push(Sequence::from_vec(of_caller))?;
-        views.push(nothing_seen(alloc, layout)?)?;
+    if !are_well(callers) {
+        return Ok(false);
     }
+    let answers = answers_of(alloc, callers)?;
+    let views = views_of(alloc, layout, callers)?;
     let histories = stopped.histories.as_slice();
     Ok(is_callers_order(histories, answers.as_slice(), views.as_slice()))
+}
+
+fn are_well(callers: &[RoundCaller]) -> bool {
+    for caller in callers {
+        if !caller.well {
+            return false;
+        }
+    }
+    true
+}
+
+// What each caller was answered.
+fn answers_of(
+    alloc: Global,
+    callers: &[RoundCaller],
+) -> Result<Vec<Sequence<Receipt>>, AllocError> {
+    let mut answers = Vec::new(alloc);
+    for caller in callers {
+        answers.push(answers_of_one(alloc, caller)?)?;
+    }
+    Ok(answers)
+}
+
+fn answers_of_one(alloc: Global, caller: &RoundCaller) -> Result<Sequence<Receipt>, AllocError> {
+    let answers = Vec::from_slice(alloc, caller.answered.as_slice())?;
+    Ok(Sequence::from_vec(answers))
+}
+
+// What each caller had seen before the round.
+fn views_of(
+    alloc: Global,
+    layout: Layout,
+    callers: &[RoundCaller],
+) -> Result<Vec<View>, AllocError> {
+    let mut views = Vec::new(alloc);
+    for _ in callers {
+        views.push(nothing_seen(alloc, layout)?)?;
+    }
+    Ok(views)
 }
 
 fn nothing_seen(alloc: Global, layout: Layout) -> Result<View, AllocError> {
@@ -77,11 +111,21 @@ pub(crate) fn expected(alloc: Global, stopped: &Stopped, image: &Image) -> Resul
     }
     let mut units = Sequence::new(alloc);
     for unit in 0..bases.len() {
-        let base = bases[unit].clone()?;
-        let kept = cut_at(alloc, cut, histories[unit].as_slice())?;
-        units.push(state_after(base, kept.as_slice())?)?;
+        units.push(kept(alloc, cut, &bases[unit], histories[unit].as_slice())?)?;
     }
     Ok(Contents { units })
+}
+
+// What the entries of a history up to an epoch make of its base.
+fn kept(
+    alloc: Global,
+    cut: Epoch,
+    base: &UnitState,
+    history: &[Entry],
+) -> Result<UnitState, AllocError> {
+    let entries = cut_at(alloc, cut, history)?;
+    let base = base.clone()?;
+    state_after(base, entries.as_slice())
 }
 
 // Whether an image has all that a caller knew to be durable.

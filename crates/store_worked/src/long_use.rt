@@ -1,5 +1,5 @@
 // A store that one caller uses for long: what it keeps doesn't grow with the calls.
-ghost use Rattle.std.specs.Prelude.{◌≡◌, map, IsSome};
+ghost use Rattle.std.specs.Prelude.{◌≡◌, map, vec_len, IsSome};
 ghost use Rattle.mont_base.specs.State.{unit_of_op};
 ghost use Rattle.store.specs.FreshStore.{IsFreshHeap};
 ghost use Rattle.store.specs.Store.{AreAllCallers};
@@ -11,11 +11,12 @@ use heap::{Heap, Seats};
 use heap_pass::{HeapName, Pass};
 use index_kit::SortedIndex;
 use mont_base::{CallRefusal, Kinds, Layout, Op, Receipt, Steady, Text, Words};
-use plain::{MapState, UnitState};
+use plain::{Contents, MapState, UnitState};
 use std::alloc::Global;
 use std::marker::Brand;
 use std::sync::Wait;
 use std::test::Fail;
+use std::thread::Threads;
 use store::{Store, StoreRefusal};
 
 // How many calls are made. A caller forgets its receipts behind each thousand.
@@ -62,14 +63,15 @@ fn used<N: HeapName>(
     alloc: Global,
     heap: Heap,
     seats: Seats,
+    gates: Vec<Steady>,
+    indexes: Vec<SortedIndex>,
     by: &mut Use,
 ) -> Result<Words, StoreRefusal>
     requires named { heap ≡ N.heap }
     requires opens { IsFreshHeap N.heap seats.units.items seats.advancer seats.callers.items }
     requires one { N.heap.opening.callers ≡ 1 }
+    requires gates { vec_len gates ≡ 1 }
 {
-    let gates = vec![in alloc; Steady]?;
-    let indexes = vec![in alloc; SortedIndex::new(alloc)]?;
     let (store, mut passes) = Store::<N, SortedIndex>::fresh(alloc, heap, seats, gates, indexes)?;
     let went = use_first(rt, &store, passes.as_mut_slice(), by);
     let words = store.close(alloc, passes)?;
@@ -125,16 +127,30 @@ fn use_some<N: HeapName>(
     ensures { IsSameCaller pass.old.ticket pass.new.ticket }
 {
     for _ in 0..THOUSAND {
-        let op = by.op();
-        if op.unit(store.heap().layout()).is_none() {
-            by.well = false;
-            return Ok(());
-        }
-        let receipt = call(rt, store, pass, &op)?;
-        let reply = by.map.apply(&op)?;
-        if receipt.entry.reply != reply {
-            by.well = false;
-        }
+        use_once(rt, store, pass, by)?;
+    }
+    Ok(())
+}
+
+// Makes a call, whose reply has to be that of the map.
+fn use_once<N: HeapName>(
+    rt: &impl Wait,
+    store: &Store<N, SortedIndex>,
+    pass: &mut Pass<Steady>,
+    by: &mut Use,
+) -> Result<(), StoreRefusal>
+    requires { pass.old.ticket.table ≡ N.heap.table }
+    ensures { IsSameCaller pass.old.ticket pass.new.ticket }
+{
+    let op = by.op();
+    if op.unit(store.heap().layout()).is_none() {
+        by.well = false;
+        return Ok(());
+    }
+    let receipt = call(rt, store, pass, &op)?;
+    let reply = by.map.apply(&op)?;
+    if receipt.entry.reply != reply {
+        by.well = false;
     }
     Ok(())
 }
@@ -159,6 +175,45 @@ fn call<N: HeapName>(
     }
 }
 
+fn layout() -> Result<Layout, Fail> {
+    Ok(Layout::new(Kinds::of_letters(KINDS)?, SLOTS)?)
+}
+
+// The words that a long use leaves.
+fn words_left(rt: &impl Wait, alloc: Global, by: &mut Use) -> Result<Words, Fail> {
+    let layout = layout()?;
+    let gates = vec![in alloc; Steady]?;
+    let indexes = vec![in alloc; SortedIndex::new(alloc)]?;
+    let (heap, seats) = Heap::fresh(alloc, layout, 1)?;
+    Ok(used::<Brand>(rt, alloc, heap, seats, gates, indexes, by)?)
+}
+
+// The use went well, and the durable words hold its map.
+fn are_as_used(
+    rt: &(impl Threads + Sync),
+    alloc: Global,
+    words: &Words,
+    by: &Use,
+) -> Result<(), Fail> {
+    if !by.well {
+        return Err(Fail::new("another reply, or receipts that grow"));
+    }
+    let image = picked(alloc, words, 0)?;
+    let found = contents_of(rt, alloc, &image)?;
+    is_held(&found, &by.map)
+}
+
+// The first unit is the map.
+fn is_held(found: &Contents, map: &MapState) -> Result<(), Fail> {
+    let Some(UnitState::Map { state }) = found.units.get(0) else {
+        return Err(Fail::new("no map"));
+    };
+    if !state.has_same_pairs(map) {
+        return Err(Fail::new("another map is durable"));
+    }
+    Ok(())
+}
+
 // The words have the room of the layout.
 fn has_no_more_room(layout: Layout, words: Words) -> Result<(), Fail> {
     let size = layout.words() as usize;
@@ -171,24 +226,12 @@ fn has_no_more_room(layout: Layout, words: Words) -> Result<(), Fail> {
 #[test]
 fn a_long_use_takes_no_more_room(rt: HostRuntime) -> Result<(), Fail> {
     let alloc = rt.alloc();
-    let layout = Layout::new(Kinds::of_letters(KINDS)?, SLOTS)?;
-    let (heap, seats) = Heap::fresh(alloc, layout, 1)?;
     let mut by = Use {
         draws: Draws::new(0, 0),
         map: MapState::new(alloc),
         well: true,
     };
-    let words = used::<Brand>(&rt, alloc, heap, seats, &mut by)?;
-    if !by.well {
-        return Err(Fail::new("another reply, or receipts that grow"));
-    }
-    let image = picked(alloc, &words, 0)?;
-    let found = contents_of(&rt, alloc, &image)?;
-    let Some(UnitState::Map { state }) = found.units.get(0) else {
-        return Err(Fail::new("no map"));
-    };
-    if !state.has_same_pairs(&by.map) {
-        return Err(Fail::new("another map is durable"));
-    }
-    has_no_more_room(layout, words)
+    let words = words_left(&rt, alloc, &mut by)?;
+    are_as_used(&rt, alloc, &words, &by)?;
+    has_no_more_room(words.layout, words)
 }

@@ -1,19 +1,18 @@
 // Callers on threads shift amounts between the keys of four maps, beside one that ticks without
 // pause. The numbers of each image that a crash may leave come to what they came to at first.
-ghost use Rattle.std.specs.Prelude.{◌≡◌, vec_len, IfOk};
+ghost use Rattle.std.specs.Prelude.{◌≡◌, true, vec_len, IfOk};
 
-use crate::common_start::Start;
 use crate::crashed_images::{contents_of, picked};
 use crate::drawn_operations::Draws;
-use crate::shifting_parties::{FIRST, KEYS, Part, Party};
+use crate::shifting_parties::{FIRST, KEYS, Meeting, Part, Party};
 use crate::swept_stores::swept;
 use index_kit::SortedIndex;
 use mont_base::{Fuel, Kinds, Layout, Text};
 use mont_image::Image;
-use plain::{Contents, UnitState};
+use plain::{Contents, MapState, UnitState};
+use recover::Recovered;
 use std::alloc::{AllocError, Global};
-use std::sync::atomic::AtomicU64;
-use std::sync::{Arc, Wait};
+use std::sync::Wait;
 use std::test::Fail;
 use std::thread::Threads;
 use store_door::{with_fresh, with_recovered};
@@ -37,11 +36,36 @@ const STEPS: u64 = 120;
 
 // An image of the maps with their first numbers.
 fn first_image(rt: &(impl Threads + Wait + Sync), alloc: Global) -> Result<Image, Fail> {
-    let layout = Layout::new(Kinds::of_letters(KINDS)?, SLOTS)?;
+    let (stopped, works) = with_first_numbers(rt, alloc)?;
+    first_picked(alloc, &stopped, works.as_slice())
+}
+
+// What the caller leaves who puts the first numbers.
+fn with_first_numbers(
+    rt: &(impl Threads + Wait + Sync),
+    alloc: Global,
+) -> Result<(Stopped, Vec<Party>), Fail> {
+    let layout = layout()?;
     let gates = vec![in alloc; Fuel::endless()]?;
-    let done = Arc::new(alloc, AtomicU64::new(0))?;
-    let works = vec![in alloc; Party::new(Start::new(alloc, 1)?, Part::Puts, done)]?;
-    let (stopped, works) = with_fresh(rt, alloc, layout, gates, indexes(alloc)?, works)?;
+    let boxes = indexes(alloc)?;
+    let works = putter(alloc)?;
+    Ok(with_fresh(rt, alloc, layout, gates, boxes, works)?)
+}
+
+// The one who puts the first numbers.
+fn putter(alloc: Global) -> Result<Vec<Party>, AllocError>
+    ensures { IfOk result (λ parties. vec_len parties ≡ 1) }
+{
+    let meeting = Meeting::new(alloc, 1)?;
+    Ok(vec![in alloc; Party::new(meeting, Part::Puts)]?)
+}
+
+fn layout() -> Result<Layout, Fail> {
+    Ok(Layout::new(Kinds::of_letters(KINDS)?, SLOTS)?)
+}
+
+// The image of the durable words, if the first numbers were put.
+fn first_picked(alloc: Global, stopped: &Stopped, works: &[Party]) -> Result<Image, Fail> {
     if !works.iter().all(|party| party.well) {
         return Err(Fail::new("the first numbers aren't put"));
     }
@@ -90,14 +114,37 @@ fn run(
     count: &mut Count,
 ) -> Result<(), Fail> {
     let mut draws = Draws::new(seed, 0);
-    let contents = contents_of(rt, alloc, first)?;
-    let recovered = swept(rt, alloc, first, &contents, CALLERS)?;
-    let gates = drawn_gates(alloc, &mut draws)?;
-    let works = parties(alloc, seed)?;
-    let boxes = indexes(alloc)?;
-    let (stopped, works) = with_recovered(rt, alloc, recovered, gates, boxes, works)?;
+    let (stopped, works) = shifted(rt, alloc, seed, &mut draws, first)?;
     count.add(works.as_slice())?;
     judge(rt, alloc, &mut draws, &stopped)
+}
+
+// What those who shift leave of the first image's store.
+fn shifted(
+    rt: &(impl Threads + Wait + Sync),
+    alloc: Global,
+    seed: u64,
+    draws: &mut Draws,
+    first: &Image,
+) -> Result<(Stopped, Vec<Party>), Fail> {
+    let gates = drawn_gates(alloc, draws)?;
+    let boxes = indexes(alloc)?;
+    let works = parties(alloc, seed)?;
+    let recovered = recovered_from(rt, alloc, first)?;
+    Ok(with_recovered(rt, alloc, recovered, gates, boxes, works)?)
+}
+
+// The store of an image, for all callers. It is swept.
+fn recovered_from(
+    rt: &(impl Threads + Sync),
+    alloc: Global,
+    first: &Image,
+) -> Result<Recovered, Fail>
+    ensures swept { IfOk result (λ r. r.swept ≡ true) }
+    ensures callers { IfOk result (λ r. r.heap.opening.callers ≡ 5) }
+{
+    let contents = contents_of(rt, alloc, first)?;
+    swept(rt, alloc, first, &contents, CALLERS)
 }
 
 fn drawn_gates(alloc: Global, draws: &mut Draws) -> Result<Vec<Fuel>, AllocError>
@@ -116,14 +163,15 @@ fn drawn_gates(alloc: Global, draws: &mut Draws) -> Result<Vec<Fuel>, AllocError
 fn parties(alloc: Global, seed: u64) -> Result<Vec<Party>, AllocError>
     ensures { IfOk result (λ parties. vec_len parties ≡ 5) }
 {
-    let done = Arc::new(alloc, AtomicU64::new(0))?;
-    let start = Start::new(alloc, CALLERS)?;
+    let meeting = Meeting::new(alloc, CALLERS)?;
+    let (first, second) = meeting.two()?;
+    let (third, fourth) = meeting.two()?;
     Ok(vec![in alloc;
-        party(&start, &done, shifts(seed, 1))?,
-        party(&start, &done, shifts(seed, 2))?,
-        party(&start, &done, shifts(seed, 3))?,
-        party(&start, &done, shifts(seed, 4))?,
-        party(&start, &done, Part::Ticks)?,
+        Party::new(first, shifts(seed, 1)),
+        Party::new(second, shifts(seed, 2)),
+        Party::new(third, shifts(seed, 3)),
+        Party::new(fourth, shifts(seed, 4)),
+        Party::new(meeting, Part::Ticks),
     ]?)
 }
 
@@ -131,10 +179,6 @@ fn shifts(seed: u64, row: u64) -> Part {
     Part::Shifts {
         draws: Draws::new(seed, row),
     }
-}
-
-fn party(start: &Start, done: &Arc<AtomicU64, Global>, part: Part) -> Result<Party, AllocError> {
-    Ok(Party::new(start.shared()?, part, Arc::try_clone(done)?))
 }
 
 // Each image that is picked has the total.
@@ -145,12 +189,25 @@ fn judge(
     stopped: &Stopped,
 ) -> Result<(), Fail> {
     for _ in 0..IMAGES {
-        let image = picked(alloc, &stopped.words, draws.number())?;
-        if total_of(&contents_of(rt, alloc, &image)?) != TOTAL {
-            return Err(Fail::new("an image has another total"));
-        }
+        has_total(rt, alloc, draws.number(), stopped)?;
     }
     Ok(())
+}
+
+// The image that the mask picks has the total.
+fn has_total(
+    rt: &(impl Threads + Sync),
+    alloc: Global,
+    mask: u64,
+    stopped: &Stopped,
+) -> Result<(), Fail> {
+    let image = picked(alloc, &stopped.words, mask)?;
+    let contents = contents_of(rt, alloc, &image)?;
+    if total_of(&contents) == TOTAL {
+        Ok(())
+    } else {
+        Err(Fail::new("an image has another total"))
+    }
 }
 
 // What the numbers of all maps come to.
@@ -158,10 +215,16 @@ fn total_of(contents: &Contents) -> u64 {
     let mut total = 0u64;
     for unit in contents.units.as_slice() {
         if let UnitState::Map { state } = unit {
-            for (_key, value) in state.iter() {
-                total = total.wrapping_add(number_of(value));
-            }
+            total = total.wrapping_add(total_of_map(state));
         }
+    }
+    total
+}
+
+fn total_of_map(state: &MapState) -> u64 {
+    let mut total = 0u64;
+    for (_key, value) in state.iter() {
+        total = total.wrapping_add(number_of(value));
     }
     total
 }
@@ -179,9 +242,19 @@ fn number_of(text: &Text) -> u64 {
 // So many runs, from that of a number on.
 fn keep_the_total(rt: &(impl Threads + Wait + Sync), alloc: Global, from: u64) -> Result<(), Fail> {
     let first = first_image(rt, alloc)?;
+    make_runs(rt, alloc, from, &first)
+}
+
+// So many runs from the first image, in some of which a shift is answered, and in some one cut.
+fn make_runs(
+    rt: &(impl Threads + Wait + Sync),
+    alloc: Global,
+    from: u64,
+    first: &Image,
+) -> Result<(), Fail> {
     let mut count = Count { shifted: 0, cut: 0 };
     for number in 0..RUNS {
-        run(rt, alloc, from.saturating_add(number), &first, &mut count)?;
+        run(rt, alloc, from.saturating_add(number), first, &mut count)?;
     }
     if count.shifted == 0 || count.cut == 0 {
         return Err(Fail::new("no shift was answered, or none was cut"));

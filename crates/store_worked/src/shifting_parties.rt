@@ -8,7 +8,7 @@ use crate::drawn_operations::Draws;
 use heap_pass::{HeapName, Pass};
 use index_kit::Index;
 use mont_base::{Fuel, Op, Receipt, Text};
-use std::alloc::Global;
+use std::alloc::{AllocError, Global};
 use std::sync::atomic::{AtomicU64, Ordering};
 use std::sync::{Arc, Wait};
 use store::{ShiftRefusal, Store};
@@ -27,6 +27,37 @@ const SHIFTS: u64 = 8;
 
 // An amount is below this, so that a number is at times less.
 const AMOUNTS: u64 = 40;
+
+// What the callers of a run have together.
+#[derive(Drop)]
+pub(crate) struct Meeting {
+    start: Start,
+    // How many callers have made their shifts, or were cut.
+    done: Arc<AtomicU64, Global>,
+}
+
+impl Meeting {
+    // The meeting of so many callers.
+    pub(crate) fn new(alloc: Global, callers: u64) -> Result<Meeting, AllocError> {
+        let start = Start::new(alloc, callers)?;
+        let done = Arc::new(alloc, AtomicU64::new(0))?;
+        Ok(Meeting { start, done })
+    }
+
+    // The same meeting, for another caller.
+    fn shared(&self) -> Result<Meeting, AllocError> {
+        let start = self.start.shared()?;
+        let done = Arc::try_clone(&self.done)?;
+        Ok(Meeting { start, done })
+    }
+
+    // The same meeting, for two callers.
+    pub(crate) fn two(&self) -> Result<(Meeting, Meeting), AllocError> {
+        let first = self.shared()?;
+        let second = self.shared()?;
+        Ok((first, second))
+    }
+}
 
 // What a caller is there for.
 #[derive(Drop)]
@@ -55,7 +86,8 @@ pub(crate) struct Party {
 }
 
 impl Party {
-    pub(crate) fn new(start: Start, part: Part, done: Arc<AtomicU64, Global>) -> Party {
+    pub(crate) fn new(meeting: Meeting, part: Part) -> Party {
+        let Meeting { start, done } = meeting;
         Party {
             start,
             part,

@@ -2,6 +2,7 @@
 // unit answers, while it is held.
 ghost use Rattle.std.specs.Prelude.{◌≡◌, ℕ, false, true};
 
+use crate::ended::Ended;
 use crate::judged_stores::judge;
 use crate::opened::{indexes, new_heap};
 use crate::playing::{Part, played_in_threads};
@@ -15,6 +16,7 @@ use std::marker::Brand;
 use std::sync::atomic::{AtomicU64, Ordering};
 use std::sync::{Arc, Wait};
 use std::test::Fail;
+use std::thread::Threads;
 use store::Store;
 
 const QUEUE: Unit = 1;
@@ -195,26 +197,39 @@ fn gate(signals: &Arc<Signals, Global>, left: Option<u64>) -> Result<Holding, Al
     })
 }
 
+// The gates of the three callers: that of the first holds.
+fn gates(signals: &Arc<Signals, Global>) -> Result<(Holding, Holding, Holding), AllocError> {
+    let first = gate(signals, Some(STEPS))?;
+    let second = gate(signals, None)?;
+    let third = gate(signals, None)?;
+    Ok((first, second, third))
+}
+
+// What the store leaves whose first caller is held.
+fn held(rt: &(impl Threads + Wait + Sync), alloc: Global, part: &HeldPut) -> Result<Ended, Fail> {
+    let (first, second, third) = gates(&part.signals)?;
+    let gates = vec![in alloc; first, second, third]?;
+    let boxes = indexes(alloc, 1)?;
+    let (heap, seats) = new_heap(alloc, b"mqg", 8, 3)?;
+    played_in_threads::<_, Brand, _, _, _>(rt, alloc, heap, seats, boxes, gates, part)
+}
+
+// All have answered as they are to while the put was held, and what is left is well.
+fn judge_held(alloc: Global, signals: &Signals, ended: &Ended) -> Result<(), Fail> {
+    if signals.late.load(Ordering::SeqCst) != 0 {
+        return Err(Fail::new("the others didn't answer while the put was held"));
+    }
+    if signals.well.load(Ordering::SeqCst) != OTHERS + 1 {
+        return Err(Fail::new("another answer"));
+    }
+    judge(alloc, ended)
+}
+
 #[test]
 fn others_answer_while_a_put_is_held(rt: HostRuntime) -> Result<(), Fail> {
     let alloc = rt.alloc();
-    let (heap, seats) = new_heap(alloc, b"mqg", 8, 3)?;
     let signals = Arc::new(alloc, Signals::new())?;
-    let gates = vec![in alloc;
-        gate(&signals, Some(STEPS))?,
-        gate(&signals, None)?,
-        gate(&signals, None)?,
-    ]?;
-    let boxes = indexes(alloc, 1)?;
     let part = HeldPut { signals };
-    let ended = played_in_threads::<_, Brand, _, _, _>(
-        &rt, alloc, heap, seats, boxes, gates, &part,
-    )?;
-    if part.signals.late.load(Ordering::SeqCst) != 0 {
-        return Err(Fail::new("the others didn't answer while the put was held"));
-    }
-    if part.signals.well.load(Ordering::SeqCst) != OTHERS + 1 {
-        return Err(Fail::new("another answer"));
-    }
-    judge(alloc, &ended)
+    let ended = held(&rt, alloc, &part)?;
+    judge_held(alloc, &part.signals, &ended)
 }

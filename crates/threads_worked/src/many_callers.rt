@@ -1,5 +1,6 @@
 // Threads call a store beside an advancer.
 use crate::draws::Draws;
+use crate::ended::Ended;
 use crate::judged_stores::judge;
 use crate::opened::{indexes, new_heap};
 use crate::playing::{Part, played_in_threads};
@@ -7,10 +8,12 @@ use crate::worked_callers::Caller;
 use heap_pass::HeapName;
 use index_kit::Index;
 use mont_base::{CallRefusal, Op, Steady, Unit};
+use std::alloc::Global;
 use std::marker::Brand;
 use std::sync::Wait;
 use std::sync::atomic::{AtomicU64, Ordering};
 use std::test::Fail;
+use std::thread::Threads;
 use store::Store;
 
 const WORKERS: u64 = 4;
@@ -102,18 +105,26 @@ fn tick_along<R: Wait, N: HeapName, I: Index>(
     unreachable!()
 }
 
-#[test]
-fn threads_leave_a_legal_history(rt: HostRuntime) -> Result<(), Fail> {
-    let alloc = rt.alloc();
-    let (heap, seats) = new_heap(alloc, b"mmmmqg", 256, 5)?;
+// What the store leaves on which the callers work.
+fn worked(rt: &(impl Threads + Wait + Sync), alloc: Global, part: &Working) -> Result<Ended, Fail> {
     let gates = vec![in alloc; Steady, Steady, Steady, Steady, Steady]?;
     let boxes = indexes(alloc, 4)?;
-    let part = Working::new();
-    let ended = played_in_threads::<_, Brand, _, _, _>(
-        &rt, alloc, heap, seats, boxes, gates, &part,
-    )?;
+    let (heap, seats) = new_heap(alloc, b"mmmmqg", 256, 5)?;
+    played_in_threads::<_, Brand, _, _, _>(rt, alloc, heap, seats, boxes, gates, part)
+}
+
+// Each worker has made all its calls, and what is left is well.
+fn judge_worked(alloc: Global, part: &Working, ended: &Ended) -> Result<(), Fail> {
     if part.well.load(Ordering::SeqCst) != WORKERS {
         return Err(Fail::new("a caller didn't make all its calls"));
     }
-    judge(alloc, &ended)
+    judge(alloc, ended)
+}
+
+#[test]
+fn threads_leave_a_legal_history(rt: HostRuntime) -> Result<(), Fail> {
+    let alloc = rt.alloc();
+    let part = Working::new();
+    let ended = worked(&rt, alloc, &part)?;
+    judge_worked(alloc, &part, &ended)
 }

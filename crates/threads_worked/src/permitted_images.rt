@@ -5,7 +5,7 @@ ghost use Rattle.mont_image.specs.Picking.{HasClock};
 use mont_base::{Entry, Epoch, FIRST_CLOCK, LAST, Layout, Sequence, Words};
 use mont_image::pick;
 use plain::{Contents, UnitState, cut_at, is_well_formed, recover, state_after};
-use std::alloc::Global;
+use std::alloc::{AllocError, Global};
 use std::test::Fail;
 
 // The words of the image that the mask picks.
@@ -47,9 +47,20 @@ pub(crate) fn expected(
     }
     let mut units = Sequence::new(alloc);
     for unit in 0..layout.units() {
-        let cut = cut_at(alloc, clock - 2, histories[unit as usize].as_slice())?;
         let empty = UnitState::empty(alloc, layout.kind(unit));
-        units.push(state_after(empty, cut.as_slice())?)?;
+        let history = histories[unit as usize].as_slice();
+        units.push(kept(alloc, clock - 2, empty, history)?)?;
     }
     Ok(Contents { units })
+}
+
+// What the entries of a history up to an epoch make of a structure.
+fn kept(
+    alloc: Global,
+    cut: Epoch,
+    empty: UnitState,
+    history: &[Entry],
+) -> Result<UnitState, AllocError> {
+    let entries = cut_at(alloc, cut, history)?;
+    state_after(empty, entries.as_slice())
 }

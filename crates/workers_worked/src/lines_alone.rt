@@ -302,8 +302,19 @@ fn at(place: u64) -> Outcome {
     Outcome::At { unit: 0, place }
 }
 
-fn expect(found: &[Outcome], wanted: &[Outcome]) -> Result<(), Fail> {
-    if found == wanted {
+// Works on a store of its own, and comes to these outcomes.
+fn works_to<R: Wait>(
+    rt: &R,
+    alloc: Global,
+    pass: &mut Worker,
+    lines: &[Line],
+    wanted: &[Outcome],
+) -> Result<(), Fail>
+    requires clock { (pass.old.clock ≡ FIRST_CLOCK) × (pass.old.newest ≡ 0) }
+    requires unanswered { (pass.old.calls ≡ 0) × (pass.old.receipts.items ≡ []) }
+{
+    let found = outcomes_of(rt, alloc, pass, lines)?;
+    if found.as_slice() == wanted {
         Ok(())
     } else {
         Err(Fail::new("other outcomes"))
@@ -312,9 +323,6 @@ fn expect(found: &[Outcome], wanted: &[Outcome]) -> Result<(), Fail> {
 
 #[test]
 fn ticks_between_calls(rt: HostRuntime) -> Result<(), Fail> {
-    let alloc = rt.alloc();
-    let mut pass = fresh_worker(alloc, Fuel::endless())?;
-    pass.late = 2;
     let lines = [
         enq(7),
         line(Deed::Tick),
@@ -322,7 +330,6 @@ fn ticks_between_calls(rt: HostRuntime) -> Result<(), Fail> {
         deq(),
         line(Deed::Sync),
     ];
-    let found = outcomes_of(&rt, alloc, &mut pass, &lines)?;
     let wanted = [
         at(0),
         Outcome::Ticked { epoch: 3 },
@@ -330,14 +337,23 @@ fn ticks_between_calls(rt: HostRuntime) -> Result<(), Fail> {
         at(1),
         Outcome::Synced { epoch: 6 },
     ];
-    expect(&found, &wanted)
+    let mut pass = fresh_worker(rt.alloc(), Fuel::endless())?;
+    pass.late = 2;
+    works_to(&rt, rt.alloc(), &mut pass, &lines, &wanted)
 }
 
+// An item comes and goes, so that the queue is full of what came before.
 #[test]
 fn syncs_where_full(rt: HostRuntime) -> Result<(), Fail> {
-    let alloc = rt.alloc();
-    let mut pass = fresh_worker(alloc, Fuel::endless())?;
-    let lines = [
+    let lines = items_that_go();
+    let wanted = places();
+    let mut pass = fresh_worker(rt.alloc(), Fuel::endless())?;
+    works_to(&rt, rt.alloc(), &mut pass, &lines, &wanted)?;
+    has_synced(pass.entries.as_slice())
+}
+
+fn items_that_go() -> [Line; 9] {
+    [
         enq(1),
         deq(),
         enq(2),
@@ -347,9 +363,11 @@ fn syncs_where_full(rt: HostRuntime) -> Result<(), Fail> {
         enq(4),
         deq(),
         enq(5),
-    ];
-    let found = outcomes_of(&rt, alloc, &mut pass, &lines)?;
-    let wanted = [
+    ]
+}
+
+fn places() -> [Outcome; 9] {
+    [
         at(0),
         at(1),
         at(2),
@@ -359,9 +377,12 @@ fn syncs_where_full(rt: HostRuntime) -> Result<(), Fail> {
         at(6),
         at(7),
         at(8),
-    ];
-    expect(&found, &wanted)?;
-    match pass.entries.last() {
+    ]
+}
+
+// The last entry is behind a sync.
+fn has_synced(entries: &[Entry]) -> Result<(), Fail> {
+    match entries.last() {
         Some(Entry { epoch: 4, .. }) => Ok(()),
         _ => Err(Fail::new("no sync")),
     }
@@ -369,9 +390,14 @@ fn syncs_where_full(rt: HostRuntime) -> Result<(), Fail> {
 
 #[test]
 fn stays_full(rt: HostRuntime) -> Result<(), Fail> {
-    let alloc = rt.alloc();
-    let mut pass = fresh_worker(alloc, Fuel::endless())?;
-    let lines = [
+    let lines = items_that_stay();
+    let mut pass = fresh_worker(rt.alloc(), Fuel::endless())?;
+    let found = outcomes_of(&rt, rt.alloc(), &mut pass, &lines)?;
+    ends_full(found.as_slice())
+}
+
+fn items_that_stay() -> [Line; 10] {
+    [
         enq(1),
         enq(2),
         enq(3),
@@ -384,14 +410,17 @@ fn stays_full(rt: HostRuntime) -> Result<(), Fail> {
         line(Deed::Call {
             op: Op::Len { unit: 0 },
         }),
-    ];
-    let found = outcomes_of(&rt, alloc, &mut pass, &lines)?;
+    ]
+}
+
+// The last item found no room, and the look-up behind it was answered.
+fn ends_full(found: &[Outcome]) -> Result<(), Fail> {
     let full = Outcome::Full {
         need: 1,
         free: 0,
         clock: 4,
     };
-    match found.as_slice() {
+    match found {
         [.., before, last] if *before == full && *last == at(8) => Ok(()),
         _ => Err(Fail::new("other outcomes")),
     }
@@ -399,35 +428,26 @@ fn stays_full(rt: HostRuntime) -> Result<(), Fail> {
 
 #[test]
 fn stops_at_a_cut(rt: HostRuntime) -> Result<(), Fail> {
-    let alloc = rt.alloc();
-    let mut pass = fresh_worker(alloc, Fuel::new(2))?;
     let lines = [enq(1), line(Deed::Tick), enq(2), line(Deed::Tick)];
-    let found = outcomes_of(&rt, alloc, &mut pass, &lines)?;
-    expect(
-        &found,
-        &[
-            at(0),
-            Outcome::Ticked { epoch: 3 },
-            Outcome::CutIn { unit: 0 },
-        ],
-    )
+    let wanted = [
+        at(0),
+        Outcome::Ticked { epoch: 3 },
+        Outcome::CutIn { unit: 0 },
+    ];
+    let mut pass = fresh_worker(rt.alloc(), Fuel::new(2))?;
+    works_to(&rt, rt.alloc(), &mut pass, &lines, &wanted)
 }
 
 #[test]
 fn is_halted_and_stuck(rt: HostRuntime) -> Result<(), Fail> {
-    let alloc = rt.alloc();
-    let mut pass = fresh_worker(alloc, Fuel::endless())?;
+    let lines = [enq(1), line(Deed::Tick), line(Deed::Sync)];
+    let wanted = [
+        Outcome::Halted { unit: 0, by: 1 },
+        Outcome::Stuck { unit: 0, epoch: 1 },
+        Outcome::Synced { epoch: 2 },
+    ];
+    let mut pass = fresh_worker(rt.alloc(), Fuel::endless())?;
     pass.halted = true;
     pass.late = 1;
-    let lines = [enq(1), line(Deed::Tick), line(Deed::Sync)];
-    let found = outcomes_of(&rt, alloc, &mut pass, &lines)?;
-    let stuck = Outcome::Stuck { unit: 0, epoch: 1 };
-    expect(
-        &found,
-        &[
-            Outcome::Halted { unit: 0, by: 1 },
-            stuck,
-            Outcome::Synced { epoch: 2 },
-        ],
-    )
+    works_to(&rt, rt.alloc(), &mut pass, &lines, &wanted)
 }

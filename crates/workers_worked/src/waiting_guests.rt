@@ -15,6 +15,7 @@ use mont_base::{
     UnitKind,
 };
 use std::alloc::{AllocError, Global};
+use std::process::Abort;
 use std::sync::{Barrier, Wait};
 use std::test::Fail;
 use std::thread::Threads;
@@ -186,20 +187,30 @@ fn all_at_once(rt: HostRuntime) -> Result<(), Fail> {
     let mut guests = vec![in alloc; new_guest(false), new_guest(false), new_guest(false)]?;
     let lines = vec![in alloc; tick(2), tick(0), enq(1), tick(1)]?;
     let mut gate = Fuel::endless();
-    let Some(ran) = visit(&rt, alloc, 4, 1, lines, &mut guests, &mut gate)? else {
+    let ran = visit(&rt, alloc, 4, 1, lines, &mut guests, &mut gate)?;
+    have_met(&rt, &ran)
+}
+
+// The three callers have moved the clock, the second behind a call that was refused.
+fn have_met(rt: &impl Abort, ran: &Option<Ran>) -> Result<(), Fail> {
+    let Some(ran) = ran else {
         return Err(AllocError.into());
     };
-    let ticked = Outcome::Ticked { epoch: 3 };
-    let halted = Outcome::Halted { unit: 0, by: 1 };
     match ran.outcomes.as_slice() {
         [first, second, third] => {
-            assert_eq!(&rt; first.as_slice(), [ticked].as_slice());
-            assert_eq!(&rt; second.as_slice(), [halted, ticked].as_slice());
-            assert_eq!(&rt; third.as_slice(), [ticked].as_slice());
+            are_moves(rt, first.as_slice(), second.as_slice(), third.as_slice());
             Ok(())
         }
         _ => Err(Fail::new("other callers")),
     }
+}
+
+fn are_moves(rt: &impl Abort, first: &[Outcome], second: &[Outcome], third: &[Outcome]) {
+    let ticked = Outcome::Ticked { epoch: 3 };
+    let halted = Outcome::Halted { unit: 0, by: 1 };
+    assert_eq!(rt; first, [ticked].as_slice());
+    assert_eq!(rt; second, [halted, ticked].as_slice());
+    assert_eq!(rt; third, [ticked].as_slice());
 }
 
 // A caller that has no memory stops no other, and all passes are there after it.
@@ -210,10 +221,15 @@ fn passes_outlive_want_of_memory(rt: HostRuntime) -> Result<(), Fail> {
     let lines = vec![in alloc; enq(1), tick(0), tick(0), tick(1)]?;
     let mut gate = Fuel::new(0);
     let ran = visit(&rt, alloc, 1, 3, lines, &mut guests, &mut gate)?;
+    are_left(&ran, guests.as_slice(), &gate)
+}
+
+// The passes are there behind the want of memory, and the gate cut once.
+fn are_left(ran: &Option<Ran>, guests: &[Guest], gate: &Fuel) -> Result<(), Fail> {
     if ran.is_some() {
         return Err(Fail::new("there was memory"));
     }
-    match guests.as_slice() {
+    match guests {
         [first, second] if first.clock == 4 && second.clock == 2 && gate.cuts == 1 => Ok(()),
         _ => Err(Fail::new("other passes")),
     }

@@ -1,4 +1,4 @@
-use Rattle.threads_worked.proofs.held_put.others_answer_while_a_put_is_held.Given as goal
+use Rattle.threads_worked.proofs.held_put.held.Given as goal
 
 abbrev pub ghosts-played_in_threads : goal.ghosts-played_in_threads
 ghosts-played_in_threads g a = record { heap = a.heap }
