@@ -1,8 +1,8 @@
 -- What one caller leaves, by what came of its lines.
 use Rattle.std.proofs.Common.{◌≡◌, ℕ, Bool, List, length, map, refl, sym, ap, ◌∙◌, subst}
-use Rattle.std.specs.Prelude.{◌==◌, slice_get, All, Some, None, Option}
+use Rattle.std.specs.Prelude.{slice_get, All, Some, None, Option}
 use Rattle.std.proofs.lemmas.List.{length-map}
-use Rattle.std.proofs.lemmas.List.Elements.{All-filter, All-get_or}
+use Rattle.std.proofs.lemmas.List.Elements.{All-get_or}
 use Rattle.std.proofs.lemmas.Option.{get_or_from_slice_get, slice_get_within}
 use Rattle.core_steps.proofs.RowFacts.{all_at, same_item, row_of_map, row_in_map}
 use Rattle.heap_rule.specs.declared.rule.Opening.{Opening}
@@ -79,9 +79,3 @@ module _ {P : Type 0} (o : Opening) (has : P → Type 0) (held : P → CallerKno
             (subst (λ (d : Option (List Outcome)). IsWorked o has held cuts endless (lines_of job caller) old at.0.pass d)
             (ap (λ (d : Desk P). d.done) (sym same) ∙ found.2) was);
       }
-
--- what holds of all lines holds of those of a caller
-pub lines_kept : (Q : Line → Type 0) (job : Job) (caller : ℕ) (lines : List Line) → lines ≡ lines_of job caller → All Q job.lines
-    → All Q lines
-lines_kept Q job caller lines e all =
-    subst (λ (v : List Line). All Q v) (sym e) (All-filter (λ (l : Line). l.caller == caller) Q job.lines all)

@@ -1,12 +1,12 @@
 // Where each caller works.
-ghost use Rattle.std.specs.Prelude.{◌≡◌, ◌≤◌, [], length, map, vec_capacity, All, IfOk};
+ghost use Rattle.std.specs.Prelude.{◌≡◌, ◌≤◌, [], length, map, vec_capacity, All};
 ghost use Rattle.job_text.specs.declared.job.Line.{Line as LineModel};
 ghost use Rattle.job_text.specs.Report.{lines_of};
 ghost use Rattle.job_worker.specs.Ending.{MayBeAsked};
 ghost use Rattle.job_run.specs.Desks.{empty_desk};
 ghost use Rattle.job_run.specs.Run.{IsFresh, IsWorked};
 
-use job_text::{Job, Line, Outcome};
+use job_text::{Job, Outcome};
 use job_worker::{Asks, work};
 use mont_base::Sequence;
 use std::alloc::{AllocError, Global};
@@ -83,24 +83,8 @@ fn outcomes_of<R: Wait, P, S: Asks<P>>(
     ensures { IsWorked (S.opening store.now) (S.has store.now) S.known S.cuts S.endless
         (lines_of job.now caller) pass.old pass.new result }
 {
-    let Ok(lines) = lines_asked(alloc, job, caller) else {
-        return None;
-    };
-    match work(rt, alloc, store, pass, lines.as_slice()) {
+    match work(rt, alloc, store, pass, caller, job.lines.as_slice()) {
         Ok(outcomes) => Some(Sequence::from_vec(outcomes)),
         Err(AllocError) => None,
     }
-}
-
-// The lines of the caller, in their order.
-fn lines_asked(alloc: Global, job: &Job, caller: u64) -> Result<Vec<Line>, AllocError>
-    ensures { IfOk result (λ lines. lines.items ≡ lines_of job.now caller) }
-{
-    let mut lines = Vec::new(alloc);
-    for line in job.lines.as_slice() {
-        if line.caller == caller {
-            lines.push(*line)?;
-        }
-    }
-    Ok(lines)
 }

@@ -60,12 +60,31 @@ behind_first a o r =
     ap (λ (ws : Row). spaced (a ∷ (ws ++ codes "=" ∷ reply_words r))) (op_spelled o)
     ∙ ap (λ (ws : Row). a ++ 32 ∷ spaced (ws ++ codes "=" ∷ reply_words r)) (sym (op_spelled o))
 
-pub front_spaced : (place : ℕ) (e : Entry) → spaced (front_words place e)
+front_spaced : (place : ℕ) (e : Entry) → spaced (front_words place e)
     ≡ decimal place ++ 32 ∷ (decimal e.caller ++ 32 ∷ (decimal e.call ++ 32 ∷ (decimal e.epoch
     ++ 32 ∷ (spaced (op_words e.op) ++ 32 ∷ 61 ∷ 32 ∷ spaced (reply_words e.reply)))))
 front_spaced place e =
     ap (λ (t : List ℕ). decimal place ++ 32 ∷ (decimal e.caller ++ 32 ∷ (decimal e.call ++ 32 ∷ t)))
     (behind_first (decimal e.epoch) e.op e.reply ∙ ap (λ (t : List ℕ). decimal e.epoch ++ 32 ∷ t) (asked_answered e.op e.reply))
+
+numbers_joined : (a b d e rest : List ℕ) → (spaced (a ∷ b ∷ d ∷ e ∷ []) ++ 32 ∷ []) ++ rest
+    ≡ a ++ 32 ∷ (b ++ 32 ∷ (d ++ 32 ∷ (e ++ 32 ∷ rest)))
+numbers_joined a b d e rest =
+    append_assoc (spaced (a ∷ b ∷ d ∷ e ∷ [])) (32 ∷ []) rest ∙ append_assoc a (32 ∷ (b ++ 32 ∷ (d ++ 32 ∷ e))) (32 ∷ rest)
+    ∙ ap (λ (t : List ℕ). a ++ 32 ∷ t)
+    (append_assoc b (32 ∷ (d ++ 32 ∷ e)) (32 ∷ rest) ∙ ap (λ (t : List ℕ). b ++ 32 ∷ t) (append_assoc d (32 ∷ e) (32 ∷ rest)))
+
+-- the numbers and the words behind them were written
+pub front_joined : (place : ℕ) (e : Entry) (start numbers head front : List ℕ)
+    → numbers ≡ spaced (decimal place ∷ decimal e.caller ∷ decimal e.call ∷ decimal e.epoch ∷ []) ++ 32 ∷ []
+    → head ≡ start ++ numbers → front ≡ head ++ (spaced (op_words e.op) ++ 32 ∷ 61 ∷ 32 ∷ spaced (reply_words e.reply))
+    → front ≡ start ++ spaced (front_words place e)
+front_joined place e start numbers head front are first second =
+    let rest = spaced (op_words e.op) ++ 32 ∷ 61 ∷ 32 ∷ spaced (reply_words e.reply) in
+    second ∙ ap (λ (t : List ℕ). t ++ rest) first ∙ append_assoc start numbers rest
+    ∙ ap (λ (t : List ℕ). start ++ t)
+    (ap (λ (t : List ℕ). t ++ rest) are
+    ∙ numbers_joined (decimal place) (decimal e.caller) (decimal e.call) (decimal e.epoch) rest ∙ sym (front_spaced place e))
 
 -- the words, those of the run, and the line feed were written
 pub entry_line : (place : ℕ) (e : Entry) (run : Run) (start front words whole : List ℕ) → front ≡ start ++ spaced (front_words place e)

@@ -33,6 +33,7 @@ pub mod Saturated
 pub mod ListParts
 pub mod HistoryParts
 pub mod EntryLines
+pub mod NumberRows
 pub mod MapParts
 pub mod ContentsParts
 pub mod ReportParts

@@ -1,6 +1,8 @@
 -- Lines and their words.
-use Rattle.std.proofs.Common.{◌≡◌, ℕ, ◌<◌, ◌==◌, Option, Some, Result, Ok, Err, List, [], ◌∷◌, ◌++◌, length, All, sym, ap, ◌∙◌, refl, arith}
+use Rattle.std.proofs.Common.{◌≡◌, ℕ, ◌<◌, ◌≤◌, ◌==◌, ◌↔◌, Option, Some, None, Result, Ok, Err, inl, inr, List, [], ◌∷◌, ◌++◌, length, All, sym, ap, ◌∙◌, refl, arith}
+use Rattle.std.specs.Prelude.{IsOk}
 use Rattle.std.specs.Result.{result_ok, OnOk}
+use Rattle.std.proofs.lemmas.Bool.{cases_lt}
 use Rattle.std.proofs.lemmas.List.{append_assoc}
 use Rattle.std.proofs.lemmas.List.Splits.{slice_split_at, slice_split_none, length-slice_split, join_with_byte-slice_split}
 use Rattle.std.proofs.lemmas.List.Elements.{All-head, All-tail}
@@ -38,6 +40,17 @@ one_word_more line rest word after front so_far split =
 pub when_ok : {T E P : Type 0} (r : Result T E) (o : Option T) (x : T) → OnOk r P → o ≡ result_ok r → o ≡ Some x → P
 when_ok (Ok y) o x h is some = h
 when_ok (Err e) o x h is some = absurd (cc)
+
+none_ok : {T E : Type 0} (r : Result T E) (o : Option T) → IsOk r → o ≡ result_ok r → o ≡ None → ⊥
+none_ok (Ok x) o good is none = cc
+none_ok (Err e) o good is none = cc
+
+-- what can't take one more is full
+pub when_full : {T E : Type 0} (r : Result T E) (o : Option T) (long most : ℕ) → IsOk r ↔ (long < most) → o ≡ result_ok r → o ≡ None → most ≤ long
+when_full r o long most tells is none = elim (cases_lt long most) [
+  | inl low ↦ absurd (none_ok r o (tells.1 low) is none)
+  | inr high ↦ high
+]
 
 pub some_word : (rest : List ℕ) → 0 < length (words_of rest)
 some_word rest = omega (arith, length-slice_split (λ b. b == 32) rest)

@@ -20,5 +20,9 @@ pub record Report : Type 0 where
   pub contents : List State
 
 -- the lines of one caller, in their order
+abbrev pub lines_by : ℕ → List Line → List Line
+lines_by caller lines = filter (λ (l : Line). l.caller == caller) lines
+
+-- those of a job
 abbrev pub lines_of : Job → ℕ → List Line
-lines_of j caller = filter (λ (l : Line). l.caller == caller) j.lines
+lines_of j caller = lines_by caller j.lines

@@ -11,7 +11,7 @@ use crate::job::{Deed, Line};
 use crate::number_words::number;
 use crate::operations::read_op;
 use crate::spelling::OpWords;
-use crate::split_words::words;
+use crate::split_words::{JOB_WORDS, words};
 use std::fmt;
 
 /// What words ask, whether or not there is a unit for it.
@@ -39,7 +39,7 @@ pub fn read_line(bytes: &[u8]) -> Option<Line>
         ((l : Line) → IsNumber l.caller → IsAsked l.deed → bytes.now ≢ spaced (line_words l))
         (λ l. IsNumber l.caller × IsAsked l.deed × (bytes.now ≡ spaced (line_words l))) }
 {
-    let words = words(bytes)?;
+    let words = words::<JOB_WORDS>(bytes)?;
     let (caller, asked) = words.as_slice().split_first()?;
     Some(Line {
         caller: number(caller)?,

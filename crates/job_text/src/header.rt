@@ -12,7 +12,7 @@ use crate::limits::{MOST_ATTEMPTS, MOST_CALLERS};
 use crate::masks::{mask, write_mask};
 use crate::number_words::number;
 use crate::spelling::Letters;
-use crate::split_words::words;
+use crate::split_words::{JOB_WORDS, words};
 use mont_base::{Kinds, Layout};
 use std::alloc::AllocError;
 
@@ -30,7 +30,7 @@ pub fn read_head(line: &[u8]) -> Option<Head>
     ensures { MatchOption result ((h : Head) → IsHead h → line.now ≢ spaced (head_words h))
         (λ h. IsHead h × (line.now ≡ spaced (head_words h))) }
 {
-    let words = words(line.strip_prefix(b"montage-job 3 ")?)?;
+    let words = words::<JOB_WORDS>(line.strip_prefix(b"montage-job 3 ")?)?;
     head_in(words.as_slice())
 }
 

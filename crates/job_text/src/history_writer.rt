@@ -1,10 +1,11 @@
 // The lines of a report that tell the histories of its units and the outcomes of its callers.
 ghost use Rattle.std.specs.Prelude.{◌≡◌, ◌++◌, [], map, get_or, OnOk};
 ghost use Rattle.std.specs.String.{string_bytes};
-ghost use Rattle.job_text.specs.Lines.{text_of};
+ghost use Rattle.job_text.specs.Lines.{line_of, text_of};
 ghost use Rattle.job_text.specs.Runs.{spelled, spelled_all};
 ghost use Rattle.job_text.specs.ReportText.{history_lines, histories_lines, outcome_words, caller_lines, outcomes_lines};
 
+use crate::number_row::{ROW, answered_line};
 use crate::outcome::Outcome;
 use crate::report::Run;
 use crate::run_writer::write_entries;
@@ -75,7 +76,21 @@ fn write_each_outcome(text: &mut String, outcomes: &[Outcome]) -> Result<(), All
         ≡ string_bytes text.old ++ text_of (map outcome_words outcomes.now)) }
 {
     for outcome in outcomes {
-        writeln!(text, "{outcome}")?;
+        write_outcome(text, outcome)?;
     }
     Ok(())
+}
+
+// Most outcomes are answered calls, whose line is one piece.
+fn write_outcome(text: &mut String, outcome: &Outcome) -> Result<(), AllocError>
+    ensures { OnOk result (string_bytes text.new
+        ≡ string_bytes text.old ++ line_of (outcome_words outcome.now)) }
+{
+    let Outcome::At { unit, place } = *outcome else {
+        writeln!(text, "{outcome}")?;
+        return Ok(());
+    };
+    let mut held = [0; ROW];
+    let line = answered_line(unit, place, &mut held);
+    text.push_str(line)
 }

@@ -21,6 +21,7 @@ mod job_writer;
 mod limits;
 mod lines;
 mod masks;
+mod number_row;
 mod number_words;
 mod op_name;
 mod operations;

@@ -7,6 +7,7 @@ ghost use Rattle.job_text.specs.Spelling.{run_words};
 ghost use Rattle.job_text.specs.Runs.{spelled, has_run, first_run, runs_behind};
 ghost use Rattle.job_text.specs.ReportText.{entry_words};
 
+use crate::number_row::{ROW, entry_head};
 use crate::report::Run;
 use crate::spelling::{OpWords, ReplyWords};
 use crate::text_word::TextWord;
@@ -48,15 +49,11 @@ fn write_entry(
     ensures { OnOk result (string_bytes text.new
         ≡ string_bytes text.old ++ line_of (entry_words place (entry.now, run.now))) }
 {
-    let Entry {
-        caller,
-        call,
-        op,
-        reply,
-        epoch,
-    } = entry;
-    let (op, reply) = (OpWords(op), ReplyWords(reply));
-    write!(text, "{place} {caller} {call} {epoch} {op} = {reply}")?;
+    let mut held = [0; ROW];
+    let head = entry_head(place as u64, entry, &mut held);
+    text.push_str(head)?;
+    let (op, reply) = (OpWords(&entry.op), ReplyWords(&entry.reply));
+    write!(text, "{op} = {reply}")?;
     write_run(text, run)?;
     text.push_str("\n")?;
     Ok(())

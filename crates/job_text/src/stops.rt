@@ -8,7 +8,7 @@ ghost use Rattle.job_text.specs.JobText.{BeginsStop, stop_words};
 use crate::job::Stop;
 use crate::number_words::numbers;
 use crate::split::split_once;
-use crate::split_words::words;
+use crate::split_words::{JOB_WORDS, words};
 use std::fmt;
 
 /// Whether the first word of a line is `stop`.
@@ -28,7 +28,7 @@ pub fn read_stop(line: &[u8]) -> Option<Stop>
         ((s : Stop) → IsNumber s.who → IsNumber s.steps → line.now ≢ spaced (stop_words s))
         (λ s. IsNumber s.who × IsNumber s.steps × (line.now ≡ spaced (stop_words s))) }
 {
-    let words = words(line.strip_prefix(b"stop ")?)?;
+    let words = words::<JOB_WORDS>(line.strip_prefix(b"stop ")?)?;
     let [who, steps] = numbers::<2>(words.as_slice())?;
     Some(Stop { who, steps })
 }

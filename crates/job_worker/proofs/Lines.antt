@@ -1,15 +1,16 @@
 -- The lines so far, and one more.
-use Rattle.std.proofs.Common.{◌≡◌, ℕ, ◌+◌, ◌<◌, ◌≤◌, true, false, Bool, List, [], ◌∷◌, ◌++◌, length, map, take, drop, slice_get, refl, sym, ap, ◌∙◌, subst, arith, append_assoc, length-append, ◌⊎◌, inl, inr, cond, zero, suc, get_or}
+use Rattle.std.proofs.Common.{◌≡◌, ℕ, ◌+◌, ◌<◌, ◌≤◌, ◌==◌, true, false, Bool, filter, List, [], ◌∷◌, ◌++◌, length, map, take, drop, slice_get, refl, sym, ap, ◌∙◌, subst, arith, append_assoc, length-append, ◌⊎◌, inl, inr, cond, zero, suc, get_or}
 use Rattle.std.specs.Prelude.{All, Any, Option, Some, None, count_by}
 use Rattle.std.specs.List.{list_any, cons_option}
 use Rattle.std.proofs.Math.Seq.{take-append_seam, drop-append-add, get_or-append_seam}
 use Rattle.std.proofs.lemmas.List.{append-nil, take-append-le, drop-append-le}
 use Rattle.std.proofs.lemmas.List.Elements.{All-append, All-cons, All-nil, filter_map-append}
+use Rattle.std.proofs.lemmas.List.Filters.{length-filter_more}
 use Rattle.std.proofs.lemmas.List.Sums.{sum_by-append}
 use Rattle.std.proofs.lemmas.List.Quantifiers.{all_pairs_push}
 use Rattle.std.proofs.lemmas.Bool.{false≢true}
 use Rattle.std.proofs.lemmas.List.Folds.{list_any_none, list_any-from_Any}
-use Rattle.std.proofs.lemmas.Option.{none-some, slice_get_within, slice_get_read}
+use Rattle.std.proofs.lemmas.Option.{none-some, slice_get_within}
 use Rattle.mont_base.specs.declared.operation.Receipt.{Receipt}
 use Rattle.mont_base.specs.Faults.{Rose}
 use Rattle.heap.specs.GateAsked.{IsAskedOften}
@@ -20,7 +21,7 @@ use Rattle.job_text.specs.declared.outcome.Outcome.{Outcome}
 use Rattle.job_text.specs.declared.outcome.Outcome.TheVariants as outcomes
 use Rattle.job_text.specs.AnsweredLines.{Answers}
 use Rattle.job_text.specs.Outcomes.{place_of, is_at, is_cut, InOrder}
-use Rattle.job_text.specs.Report.{Report}
+use Rattle.job_text.specs.Report.{Report, lines_by}
 use Rattle.caller.specs.Continued.{opened_records, GoesOn, IsUnanswered}
 use Rattle.job_worker.specs.Ending.{IsBefore, IsAhead, IsTold, Ends, AreUncut, AreTold, AreEnds, cut_of, places_named, units_cut, place_answered}
 use Rattle.job_worker.specs.Worked.{HasWorked}
@@ -178,11 +179,35 @@ pub uncut_cuts : (o : Opening) (q r : CallerKnown) (lines : List Line) (xs : Lis
 uncut_cuts o q r lines xs w u =
     w.cuts ∙ ap (λ (v : List ℕ). q.part.cuts ++ v) (no_units xs u) ∙ append-nil q.part.cuts
 
--- where a line stands whose outcome is the next
-pub line_there : (lines : List Line) (xs : List Outcome) (i : ℕ) (line : Line) → length xs ≡ i → i < length lines
-    → line ≡ get_or lines i line → slice_get lines (length xs) ≡ Some line
-line_there lines xs i line count below is =
-    subst (λ (n : ℕ). slice_get lines n ≡ Some line) (sym count) (slice_get_read lines (length lines) i line refl below is)
+-- one line more of the caller
+pub own_more : (caller : ℕ) (lines : List Line) (i : ℕ) (line : Line) (n : ℕ) → i < length lines → line ≡ get_or lines i line
+    → n ≡ length (lines_by caller (take i lines)) → (line.caller == caller) ≡ true → n + 1 ≡ length (lines_by caller (take (i + 1) lines))
+own_more caller lines i line n below is count own =
+    let at = ap (λ (l : Line). cond {A = ℕ} (l.caller == caller) 1 0) (sym is) ∙ ap (λ (t : Bool). cond {A = ℕ} t 1 0) own in
+    omega (arith, length-filter_more (λ (l : Line). l.caller == caller) lines i line below, at, count)
+
+-- a line that passes a test stands in the list of those that do behind those of them before it
+one_behind : (p : Line → Bool) (l : Line) (ls before : List Line) (line : Line) (b : Bool)
+    → slice_get (filter p ls) (length (filter p before)) ≡ Some line
+    → slice_get (cond b (l ∷ filter p ls) (filter p ls)) (length (cond b (l ∷ filter p before) (filter p before))) ≡ Some line
+one_behind p l ls before line true there = there
+one_behind p l ls before line false there = there
+
+passing_there : (p : Line → Bool) (lines : List Line) (i : ℕ) (line : Line) → i < length lines → line ≡ get_or lines i line → p line ≡ true
+    → slice_get (filter p lines) (length (filter p (take i lines))) ≡ Some line
+passing_there p [] i line below is passes = absurd (omega arith)
+passing_there p (l ∷ ls) zero line below is passes =
+    let first : p l ≡ true = ap p (sym is) ∙ passes in
+    ap (λ (b : Bool). slice_get (cond b (l ∷ filter p ls) (filter p ls)) 0) first ∙ ap Some (sym is)
+passing_there p (l ∷ ls) (suc i) line below is passes =
+    one_behind p l ls (take i ls) line (p l) (passing_there p ls i line (omega arith) is passes)
+
+-- where a line of the caller stands whose outcome is the next
+pub own_there : (caller : ℕ) (lines : List Line) (xs : List Outcome) (i : ℕ) (line : Line) → length xs ≡ length (lines_by caller (take i lines))
+    → i < length lines → line ≡ get_or lines i line → (line.caller == caller) ≡ true → slice_get (lines_by caller lines) (length xs) ≡ Some line
+own_there caller lines xs i line count below is own =
+    subst (λ (n : ℕ). slice_get (lines_by caller lines) n ≡ Some line) (sym count)
+    (passing_there (λ (l : Line). l.caller == caller) lines i line below is own)
 
 -- What is shown when the caller has stopped. The passes show what their gates counted.
 pub record HasDone {P : Type 0} (cuts : P → ℕ) (endless : P → Bool) (held : P → CallerKnown) (has : P → Type 0)

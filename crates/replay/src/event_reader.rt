@@ -15,7 +15,7 @@ ghost use Rattle.replay.specs.Schedules.{Move, IsMove, move_words};
 use crate::move_ranges::is_event_in;
 use crate::step_name::StepName;
 use core_steps::{Event, Part};
-use job_text::{answer_of, behind, named, number, numbers, words};
+use job_text::{MOST_WORDS, answer_of, behind, named, number, numbers, words};
 use mont_base::{Layout, Op, PairList, Reply};
 
 /// The event that a line spells, and the run beside its reply, where they may stand in a schedule
@@ -25,7 +25,7 @@ pub fn read_event(line: &[u8], layout: Layout, callers: u64) -> Option<(Event, P
         ((m : Move) → IsMove layout callers m → line.now ≢ spaced (move_words m))
         (λ m. IsMove layout callers m × (line.now ≡ spaced (move_words m))) }
 {
-    let words = words(line)?;
+    let words = words::<MOST_WORDS>(line)?;
     let (event, run) = event_in(words.as_slice())?;
     if is_event_in(layout, callers, &event) {
         Some((event, run))

@@ -4,7 +4,7 @@ ghost use Rattle.mont_base.specs.Layout.{Shape};
 ghost use Rattle.job_text.specs.Lines.{spaced};
 ghost use Rattle.replay.specs.Schedules.{title_words, title_tail, IsTitle};
 
-use job_text::{MOST_CALLERS, layout, number_within, words};
+use job_text::{MOST_CALLERS, MOST_WORDS, layout, number_within, words};
 use mont_base::Layout;
 
 /// The layout and the number of callers that a schedule's first line names.
@@ -13,7 +13,7 @@ pub fn read_title(line: &[u8]) -> Option<(Layout, u64)>
         ((s : Shape) (n : ℕ) → IsTitle s n → line.now ≢ spaced (title_words s n))
         (λ p. IsTitle p.0 p.1 × (line.now ≡ spaced (title_words p.0 p.1))) }
 {
-    let words = words(line.strip_prefix(b"montage-schedule 1 ")?)?;
+    let words = words::<MOST_WORDS>(line.strip_prefix(b"montage-schedule 1 ")?)?;
     title_in(words.as_slice())
 }
 

@@ -5,6 +5,7 @@ ghost use Rattle.store_stop.specs.ToldHistories.{TellsHistory, TellAll, Fills, I
 
 use mont_base::{Entry, Receipt, Sequence, Unit};
 use std::alloc::{AllocError, Global};
+use std::slice;
 
 // The histories of so many units.
 pub(crate) fn told_histories(
@@ -53,13 +54,18 @@ fn place_entries(
     Ok(())
 }
 
-// Puts an entry at its place. Where nothing was put yet below it, it stands there for now.
+// Puts an entry at its place. Where nothing was put yet below it, it stands there for now. Most
+// entries come in their order, and stand behind the others.
 fn place_entry(history: &mut Vec<Entry>, receipt: &Receipt) -> Result<(), AllocError>
     ensures { OnOk result (IsPut receipt.now history.old.items history.new.items) }
 {
     let place = receipt.place as usize;
+    let entry = slice::from_ref(&receipt.entry);
+    if history.len() == place {
+        return history.extend_from_slice(entry);
+    }
     while history.len() <= place {
-        history.extend_from_slice(&[receipt.entry])?;
+        history.extend_from_slice(entry)?;
     }
     history[place] = receipt.entry;
     Ok(())

@@ -281,7 +281,7 @@ fn outcomes_of<R: Wait>(
     if !all_may_be_asked(bench.layout, lines) {
         return Err(Fail::new("no unit of a line"));
     }
-    Ok(work(rt, alloc, &bench, pass, lines)?)
+    Ok(work(rt, alloc, &bench, pass, 0, lines)?)
 }
 
 fn line(deed: Deed) -> Line {

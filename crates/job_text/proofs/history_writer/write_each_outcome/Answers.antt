@@ -6,7 +6,7 @@ use Rattle.job_text.proofs.history_writer.write_each_outcome.Goals as goal
 
 pub loop-outcome-preserved : goal.loop-outcome-preserved
 loop-outcome-preserved c = written_more (λ o. line_of (outcome_words o)) c.args.outcomes.now c.loop-outcome.outcome-index _ _ _ _
-    (omega arith) c.loop-outcome.invariant c.in_ok-writeln.ensures.bytes
+    (omega arith) c.loop-outcome.invariant c.in_ok-write_outcome.ensures
 
 pub returns : goal.returns
 returns c = lines_written outcome_words c.args.outcomes.now c.loop-outcome.outcome-index _ _ (omega arith) c.loop-outcome.invariant

@@ -2,11 +2,11 @@ use Rattle.std.proofs.Common.{◌≡◌, ℕ, ◌+◌, ◌-◌, ◌<◌, ◌≤�
 use Rattle.std.specs.Prelude.{slice_get}
 use Rattle.store_stop.proofs.told_histories.place_entry.Given as goal
 
-abbrev pub decreases-loop-history : goal.decreases-loop-history
-decreases-loop-history l = l.place + 1 - length l.history.items
+abbrev pub decreases-loop-entry : goal.decreases-loop-entry
+decreases-loop-entry l = l.place + 1 - length l.history.items
 
-abbrev pub invariant-loop-history : goal.invariant-loop-history
-invariant-loop-history l =
+abbrev pub invariant-loop-entry : goal.invariant-loop-entry
+invariant-loop-entry l =
     (length l.initial.history.items ≤ length l.history.items)
     × (length l.history.items ≤ max (length l.initial.history.items) (l.place + 1))
     × ((place : ℕ) → place < length l.initial.history.items
