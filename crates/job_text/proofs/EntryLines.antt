@@ -1,7 +1,7 @@
 -- The lines of entries, as they are written one behind the other.
 use Rattle.std.proofs.Common.{◌≡◌, ℕ, ◌+◌, ◌<◌, ◌≤◌, List, [], ◌∷◌, ◌++◌, length, map, get_or, drop, codes, decimal, refl, sym, ap, ◌∙◌}
 use Rattle.std.specs.List.{flat_map, enumerate_from}
-use Rattle.std.proofs.lemmas.List.{append_assoc, append-nil, drop_more}
+use Rattle.std.proofs.lemmas.List.{append_assoc, append-nil, drop_all, drop_more}
 use Rattle.mont_base.specs.declared.operation.Entry.{Entry}
 use Rattle.mont_base.specs.declared.operation.Op.{Op}
 use Rattle.mont_base.specs.declared.operation.Reply.{Reply}
@@ -16,8 +16,8 @@ use Rattle.job_text.specs.ReportRows.{line_of_row}
 use Rattle.job_text.specs.TextParts.{Row, rows_from}
 use Rattle.job_text.proofs.OpSpelling.{name_of, args_of, op_spelled}
 use Rattle.job_text.proofs.RunWords.{spaced_behind}
-use Rattle.job_text.proofs.Runs.{none_at}
 use Rattle.job_text.proofs.ListParts.{placed_rows}
+use Rattle.job_text.proofs.NumberRows.{words_joined}
 
 -- the words of an entry but those of its run
 abbrev pub front_words : ℕ → Entry → Row
@@ -67,13 +67,6 @@ front_spaced place e =
     ap (λ (t : List ℕ). decimal place ++ 32 ∷ (decimal e.caller ++ 32 ∷ (decimal e.call ++ 32 ∷ t)))
     (behind_first (decimal e.epoch) e.op e.reply ∙ ap (λ (t : List ℕ). decimal e.epoch ++ 32 ∷ t) (asked_answered e.op e.reply))
 
-numbers_joined : (a b d e rest : List ℕ) → (spaced (a ∷ b ∷ d ∷ e ∷ []) ++ 32 ∷ []) ++ rest
-    ≡ a ++ 32 ∷ (b ++ 32 ∷ (d ++ 32 ∷ (e ++ 32 ∷ rest)))
-numbers_joined a b d e rest =
-    append_assoc (spaced (a ∷ b ∷ d ∷ e ∷ [])) (32 ∷ []) rest ∙ append_assoc a (32 ∷ (b ++ 32 ∷ (d ++ 32 ∷ e))) (32 ∷ rest)
-    ∙ ap (λ (t : List ℕ). a ++ 32 ∷ t)
-    (append_assoc b (32 ∷ (d ++ 32 ∷ e)) (32 ∷ rest) ∙ ap (λ (t : List ℕ). b ++ 32 ∷ t) (append_assoc d (32 ∷ e) (32 ∷ rest)))
-
 -- the numbers and the words behind them were written
 pub front_joined : (place : ℕ) (e : Entry) (start numbers head front : List ℕ)
     → numbers ≡ spaced (decimal place ∷ decimal e.caller ∷ decimal e.call ∷ decimal e.epoch ∷ []) ++ 32 ∷ []
@@ -84,7 +77,7 @@ front_joined place e start numbers head front are first second =
     second ∙ ap (λ (t : List ℕ). t ++ rest) first ∙ append_assoc start numbers rest
     ∙ ap (λ (t : List ℕ). start ++ t)
     (ap (λ (t : List ℕ). t ++ rest) are
-    ∙ numbers_joined (decimal place) (decimal e.caller) (decimal e.call) (decimal e.epoch) rest ∙ sym (front_spaced place e))
+    ∙ words_joined (decimal place) (decimal e.caller) (decimal e.call) (decimal e.epoch) rest ∙ sym (front_spaced place e))
 
 -- the words, those of the run, and the line feed were written
 pub entry_line : (place : ℕ) (e : Entry) (run : Run) (start front words whole : List ℕ) → front ≡ start ++ spaced (front_words place e)
@@ -121,7 +114,7 @@ pub entries_done : (start now : List ℕ) (h : List Entry) (runs left : List Run
     → now ++ text_of (lines_at place (spelled (drop place h) left)) ≡ start ++ text_of (lines_at 0 (spelled h runs))
     → now ≡ start ++ text_of (map (λ (p : ℕ × Spelled). entry_words p.0 p.1) (enumerate_from 0 (spelled h runs)))
 entries_done start now h runs left place past done =
-    sym (append-nil now) ∙ ap (λ (xs : List Entry). now ++ text_of (lines_at place (spelled xs left))) (sym (none_at h place past))
+    sym (append-nil now) ∙ ap (λ (xs : List Entry). now ++ text_of (lines_at place (spelled xs left))) (sym (drop_all place h past))
     ∙ done ∙ ap (λ (rs : List Row). start ++ text_of rs) (placed_rows entry_words 0 (spelled h runs))
 
 -- a history behind its first line

@@ -32,8 +32,8 @@ pub mod KeyRanks
 pub mod Saturated
 pub mod ListParts
 pub mod HistoryParts
-pub mod EntryLines
 pub mod NumberRows
+pub mod EntryLines
 pub mod MapParts
 pub mod ContentsParts
 pub mod ReportParts

@@ -46,7 +46,8 @@ none_ok (Ok x) o good is none = cc
 none_ok (Err e) o good is none = cc
 
 -- what can't take one more is full
-pub when_full : {T E : Type 0} (r : Result T E) (o : Option T) (long most : ℕ) → IsOk r ↔ (long < most) → o ≡ result_ok r → o ≡ None → most ≤ long
+pub when_full : {T E : Type 0} (r : Result T E) (o : Option T) (long most : ℕ) → IsOk r ↔ (long < most) → o ≡ result_ok r → o ≡ None
+    → most ≤ long
 when_full r o long most tells is none = elim (cases_lt long most) [
   | inl low ↦ absurd (none_ok r o (tells.1 low) is none)
   | inr high ↦ high

@@ -1,5 +1,5 @@
 -- Entries with their runs: taken apart, and put together again.
-use Rattle.std.proofs.Common.{◌≡◌, ℕ, suc, zero, ◌+◌, ◌<◌, ◌≤◌, Bool, true, false, cond, List, [], ◌∷◌, ◌++◌, length, map, get_or, drop, refl, sym, ap, arith}
+use Rattle.std.proofs.Common.{◌≡◌, ℕ, suc, zero, ◌+◌, ◌<◌, Bool, true, false, cond, List, [], ◌∷◌, ◌++◌, length, map, get_or, refl, sym, ap, arith}
 use Rattle.std.specs.List.{filter}
 use Rattle.std.proofs.lemmas.List.{length-append}
 use Rattle.std.proofs.lemmas.List.Elements.{filter-append}
@@ -195,10 +195,3 @@ have_push [] [] h rs have has = (has, tt)
 have_push [] (q ∷ rss) h rs have has = absurd have
 have_push (g ∷ hs) [] h rs have has = absurd have
 have_push (g ∷ hs) (q ∷ rss) h rs have has = (have.0, have_push hs rss h rs have.1 has)
-
--- ---- the entries from a place on
-pub none_at : {X : Type 0} (xs : List X) (k : ℕ) → length xs ≤ k → drop k xs ≡ []
-none_at [] zero past = refl
-none_at [] (suc k) past = refl
-none_at (x ∷ xs) zero past = absurd (omega arith)
-none_at (x ∷ xs) (suc k) past = none_at xs k (omega arith)

@@ -203,8 +203,9 @@ passing_there p (l ∷ ls) (suc i) line below is passes =
     one_behind p l ls (take i ls) line (p l) (passing_there p ls i line (omega arith) is passes)
 
 -- where a line of the caller stands whose outcome is the next
-pub own_there : (caller : ℕ) (lines : List Line) (xs : List Outcome) (i : ℕ) (line : Line) → length xs ≡ length (lines_by caller (take i lines))
-    → i < length lines → line ≡ get_or lines i line → (line.caller == caller) ≡ true → slice_get (lines_by caller lines) (length xs) ≡ Some line
+pub own_there : (caller : ℕ) (lines : List Line) (xs : List Outcome) (i : ℕ) (line : Line)
+    → length xs ≡ length (lines_by caller (take i lines)) → i < length lines → line ≡ get_or lines i line
+    → (line.caller == caller) ≡ true → slice_get (lines_by caller lines) (length xs) ≡ Some line
 own_there caller lines xs i line count below is own =
     subst (λ (n : ℕ). slice_get (lines_by caller lines) n ≡ Some line) (sym count)
     (passing_there (λ (l : Line). l.caller == caller) lines i line below is own)

@@ -3,9 +3,9 @@ ghost use Rattle.std.specs.Prelude.{◌≡◌, All, IfOk, OnErr};
 ghost use Rattle.mont_base.specs.Faults.{Rose};
 ghost use Rattle.heap.specs.GateAsked.{IsAskedOften};
 ghost use Rattle.job_text.specs.declared.job.Line.{Line as LineModel};
+ghost use Rattle.job_text.specs.Report.{lines_by};
 ghost use Rattle.caller.specs.Continued.{GoesOn, IsUnanswered};
 ghost use Rattle.job_worker.specs.Ending.{MayBeAsked};
-ghost use Rattle.job_text.specs.Report.{lines_by};
 ghost use Rattle.job_worker.specs.Worked.{HasWorked, was_cut};
 
 use crate::asks::Asks;

@@ -52,16 +52,6 @@ module _ {K V : Type 0} {cmp : K → K → Ordering} (values : Slab V) (es : Lis
   value_kept seen is name = ap (λ (l : List (K × V)). value_of cmp l name) (sym is)
       ∙ lookup_shelved values (is_at (cmp name)) es (are.there name)
 
-  -- a name that has a value has a key
-  pub has_key : (seen : List (K × V)) → shelved values es ≡ seen → (name : K) → IsSome (value_of cmp seen name)
-      → IsSome (value_of cmp es name)
-  has_key seen is name h = by (value_of cmp es name) refl
-    where
-      by : (o : Option ℕ) → value_of cmp es name ≡ o → is_some o ≡ true
-      by None e = let f : value_of cmp seen name ≡ None = value_kept seen is name ∙ ap (kept values) e in
-          let g : is_some (value_of cmp seen name) ≡ true = h in absurd (cc)
-      by (Some key) e = refl
-
   -- a free key is no name's
   pub not_free : (key : ℕ) → get values key ≡ None → (name : K) → value_of cmp es name ≢ Some key
   not_free key free name e = let h : is_some (get values key) ≡ true = are.there name key e in absurd (cc)

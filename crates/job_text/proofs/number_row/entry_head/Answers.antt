@@ -1,5 +1,5 @@
 use Rattle.std.proofs.Common.{◌∙◌, decimal, arith}
-use Rattle.job_text.proofs.Runs.{none_at}
+use Rattle.std.proofs.lemmas.List.{drop_all}
 use Rattle.job_text.proofs.NumberRows.{ascii_end, head_written}
 use Rattle.job_text.proofs.number_row.entry_head.Goals as goal
 
@@ -10,5 +10,5 @@ pub returns : goal.returns
 returns c =
     let e = c.args.entry.now in
     head_written (decimal c.args.place) (decimal e.caller) (decimal e.call) (decimal e.epoch) _ _ _ _ _
-    (none_at c.args.held.now 84 (omega (arith, c.told-held))) c.write_before-at.ensures.written c.write_before-at-2.ensures.written
+    (drop_all 84 c.args.held.now (omega (arith, c.told-held))) c.write_before-at.ensures.written c.write_before-at-2.ensures.written
     c.write_before-at-3.ensures.written (c.text_from.ensures ∙ c.write_before-at-4.ensures.written)

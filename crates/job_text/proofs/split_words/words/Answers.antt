@@ -11,8 +11,8 @@ abbrev all : List (Bor (List ℕ)) → List (List ℕ)
 all ws = map bytes ws
 
 -- more words than there is room for
-more_words : (line : List ℕ) (ws : List (Bor (List ℕ))) (rest : List ℕ) (most : ℕ) → words_of line ≡ all ws ++ words_of rest → most ≤ length ws
-    → most < length (words_of line)
+more_words : (line : List ℕ) (ws : List (Bor (List ℕ))) (rest : List ℕ) (most : ℕ)
+    → words_of line ≡ all ws ++ words_of rest → most ≤ length ws → most < length (words_of line)
 more_words line ws rest most are full =
     omega (arith, ap length are, length-append (all ws) (words_of rest), length-map ws bytes, some_word rest, full)
 

@@ -103,8 +103,8 @@ returns g c =
           (done_cut g.S.Asks.cuts g.S.Asks.endless g.S.Asks.known has o lines start c.loop-line.pass w.carry_out_line.new.pass xs
           w.line-item.result x w.carry_out_line.ensures.pass i.gate w.in_ok-outcome.ensures.gate
           (sym w.is_cut.ensures ∙ w.if-is_cut.true)
-          (own_there c.args.caller c.args.lines.now xs c.loop-line.line-index w.line-item.result i.count w.loop-line-test.true w.line-item.is
-          (eq-eqb w.line-item.result.caller c.args.caller w.if-line-caller.false))
+          (own_there c.args.caller c.args.lines.now xs c.loop-line.line-index w.line-item.result i.count w.loop-line-test.true
+          w.line-item.is (eq-eqb w.line-item.result.caller c.args.caller w.if-line-caller.false))
           i.uncut i.ends w.in_ok-outcome.ensures.ends))
     ] in
     record { pass = d.pass; goes_on = d.goes_on; gate = d.gate; worked = d.worked; uncut = tt }
