@@ -1,11 +1,10 @@
 -- Numbers in decimal digits.
 use Rattle.std.proofs.Common.{◌≡◌, ◌≢◌, ℕ, ◌+◌, ◌%◌, ◌^◌, ◌<◌, ◌≤◌, true, false, ◌==◌, MatchOption, Result, Ok, Err, List, [], length, get_or, sym, ap, ◌∙◌, arith, lit<, inl, inr, decimal}
 use Rattle.std.specs.Result.{result_ok}
-use Rattle.std.specs.Str.{IsUtf8, all_ascii_digits}
+use Rattle.std.specs.Str.{all_ascii_digits}
 use Rattle.std.specs.Str.Parse.{ParsesUnsigned, digits_value}
-use Rattle.std.proofs.lemmas.Str.{IsUtf8-from_ascii}
 use Rattle.std.proofs.lemmas.Str.Parse.{IsNumeralModel, numerals_by_value, tells_all_ascii_digits, parse_plain}
-use Rattle.std.proofs.lemmas.Fmt.{decimal_by_steps, decimal-digits_value, parse-decimal, IsAscii-decimal, length-decimal-le, first_decimal, decimal_digit, decimal_nonempty}
+use Rattle.std.proofs.lemmas.Fmt.{decimal_by_steps, decimal-digits_value, parse-decimal, length-decimal-le, first_decimal, decimal_digit, decimal_nonempty}
 use Rattle.std.proofs.lemmas.List.Elements.{All-push, All-cons, All-nil}
 use Rattle.std.proofs.lemmas.Bool.Decides.{nat_tests, Decides-eqb}
 use Rattle.std.proofs.lemmas.Bool.{cases_eq}
@@ -26,9 +25,6 @@ parsed_plain {E} word (Ok n) plain h =
 parsed_plain {E} word (Err e) plain h = λ n small is.
     let r : ◌≡◌ {A = Result ℕ E} (Err e) (Ok n) = parse-decimal 64 n word (Err e) small small is h in
     cc
-
-pub decimal_utf8 : (n : ℕ) → n < 2 ^ 64 → IsUtf8 (decimal n)
-decimal_utf8 n small = IsUtf8-from_ascii (decimal n) (IsAscii-decimal n small)
 
 -- a byte that is no digit stands in no number
 pub decimal_lacks : (byte n : ℕ) → byte < 48 → n < 2 ^ 64 → Lacks byte (decimal n)

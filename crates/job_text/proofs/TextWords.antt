@@ -1,7 +1,7 @@
 -- How keys and values are spelled: by bytes that can be seen, and each by one word.
 use Rattle.std.proofs.Common.{◌≡◌, ◌≢◌, ℕ, ◌+◌, ◌*◌, ◌-◌, ◌/◌, ◌%◌, ◌^◌, ◌<◌, ◌≤◌, Bool, true, false, cond, ◌==◌, List, ◌⊎◌, [], ◌∷◌, ◌++◌, length, take, get_or, refl, sym, ap, ◌∙◌, inl, inr, arith, subst, slice_set}
-use Rattle.std.specs.List.{All, flat_map}
-use Rattle.std.specs.Prelude.{Result, Ok, Err, MatchResult, MatchOption}
+use Rattle.std.specs.List.{All, flat_map, list_all}
+use Rattle.std.specs.Prelude.{Result, Ok, Err, OkIff, MatchOption}
 use Rattle.std.specs.Result.{result_ok}
 use Rattle.std.specs.Str.{IsUtf8}
 use Rattle.std.specs.Fmt.{digits, padded_integral, format_spec}
@@ -167,6 +167,36 @@ text_word_once [] (c ∷ cs) h i same = absurd (mark_alone c cs same)
 text_word_once (b ∷ bs) [] h i same = absurd (mark_alone b bs (sym same))
 text_word_once (b ∷ bs) (c ∷ cs) h i same = bytes_once (b ∷ bs) (c ∷ cs) h.bytes i.bytes same
 
+-- ---- words all of whose bytes stand for themselves
+all_bare : (word : List ℕ) → list_all is_bare word ≡ true → All IsByte word × (flat_map byte_word word ≡ word)
+all_bare [] bare = (All-nil IsByte, refl)
+all_bare (b ∷ bs) bare =
+    let parts = and_parts _ _ bare in
+    let rest = all_bare bs parts.1 in (
+      All-cons IsByte b bs (omega (arith, bare_range b parts.0)) rest.0,
+      ap (λ (w : List ℕ). w ++ flat_map byte_word bs) (bare_word b parts.0) ∙ ap (λ (xs : List ℕ). b ∷ xs) rest.1,
+    )
+
+-- such a word is its text's own bytes
+pub bare_text : {E : Type 0} (word : List ℕ) (r : Result (List ℕ) E) → 0 < length word → list_all is_bare word ≡ true
+    → OkIff r (length word ≤ TEXT_BYTES) word
+    → MatchOption (result_ok r) ((t : List ℕ) → IsText t → word ≢ text_word t) (λ t. IsText t × (word ≡ text_word t))
+bare_text [] r some bare told = absurd (omega arith)
+bare_text (b ∷ bs) (Ok t) some bare told =
+    let whole = all_bare (b ∷ bs) bare in
+    let long : length t ≤ TEXT_BYTES = omega (arith, told.0, ap length told.1) in (
+      record { short = long; bytes = subst (All IsByte) (sym told.1) whole.0 },
+      sym whole.1 ∙ ap text_word (sym told.1),
+    )
+bare_text (b ∷ bs) (Err e) some bare told = λ t h same. told (fits t h same)
+  where
+    fits : (t : List ℕ) → IsText t → b ∷ bs ≡ text_word t → length (b ∷ bs) ≤ TEXT_BYTES
+    fits [] h same = let mark : b ≡ 37 = cc in absurd ((bare_range b (and_parts _ _ bare).0).2 mark)
+    fits (c ∷ cs) h same =
+        let whole = all_bare (b ∷ bs) bare in
+        let e = bytes_once (b ∷ bs) (c ∷ cs) whole.0 h.bytes (whole.1 ∙ same) in
+        omega (arith, ap length e, h.short)
+
 -- ---- texts written byte by byte
 pub bytes_more : (t : List ℕ) (i : ℕ) → i < length t → flat_map byte_word (take (i + 1) t)
     ≡ flat_map byte_word (take i t) ++ byte_word (get_or t i 0)
@@ -190,14 +220,14 @@ spelling_utf8 t = IsUtf8-from_ascii (flat_map byte_word t) (IsAscii-from_all (fl
     (All-weaker IsSeen (λ (b : ℕ). b < 128) (λ b seen. omega (arith, seen)) (flat_map byte_word t) (bytes_seen t)))
 
 -- bytes that are spelled by themselves are read as the text's word
-pub read_word : {B E : Type 0} (now : B → List ℕ) (Q : E → Type 0) (t held : List ℕ) (at len : ℕ) (r : Result B E) (none : Type 0)
-    → t ≢ [] → length t ≡ len → at ≡ len → flat_map byte_word (take at t) ≡ take at held
-    → MatchResult r (λ s. (now s ≡ take len held) × IsUtf8 (take len held)) (λ e. (¬ IsUtf8 (take len held)) × Q e)
-    → MatchOption (result_ok r) none (λ s. now s ≡ text_word t)
-read_word now Q t held at len (Ok s) none some long ends spelled read =
-    read.0 ∙ ap (λ (n : ℕ). take n held) (sym ends) ∙ sym spelled ∙ text_bytes t at some (omega (arith, long, ends))
-read_word now Q t held at len (Err e) none some long ends spelled read =
-    absurd (read.0 (subst IsUtf8 (spelled ∙ ap (λ (n : ℕ). take n held) ends) (spelling_utf8 (take at t))))
+pub read_word : (t held word : List ℕ) (at len : ℕ) → t ≢ [] → length t ≡ len → at ≡ len
+    → flat_map byte_word (take at t) ≡ take at held → word ≡ take len held → word ≡ text_word t
+read_word t held word at len some long ends spelled is =
+    is ∙ ap (λ (n : ℕ). take n held) (sym ends) ∙ sym spelled ∙ text_bytes t at some (omega (arith, long, ends))
+
+pub word_utf8 : (t held : List ℕ) (at len : ℕ) → at ≡ len → flat_map byte_word (take at t) ≡ take at held → IsUtf8 (take len held)
+word_utf8 t held at len ends spelled =
+    subst IsUtf8 (spelled ∙ ap (λ (n : ℕ). take n held) ends) (spelling_utf8 (take at t))
 
 -- ---- texts read byte by byte
 module _ (word front rest : List ℕ) (is : word ≡ flat_map byte_word front ++ rest) (small : All IsByte front) (no_mark : word ≢ 37 ∷ [])

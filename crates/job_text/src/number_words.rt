@@ -38,8 +38,10 @@ pub fn number(word: &[u8]) -> Option<u64>
     if !is_unpadded(word) {
         return None;
     }
-    match str::from_utf8(word) {
-        Ok(text) => text.parse().ok(),
-        Err(_) => None,
+    if !word.is_ascii() {
+        return None;
     }
+    // no look at each byte again, but by `parse`
+    let text = unsafe { str::from_utf8_unchecked(word) };
+    text.parse().ok()
 }

@@ -51,7 +51,8 @@ fn bare_word<'a>(text: &Text, held: &'a mut [u8; TEXT_BYTES]) -> Option<&'a str>
         }
         held[at] = byte;
     }
-    str::from_utf8(&held[..len]).ok()
+    // no look at each byte again: bytes that stand for themselves are ASCII
+    Some(unsafe { str::from_utf8_unchecked(&held[..len]) })
 }
 
 // A byte of a text, as it is spelled.
@@ -85,6 +86,9 @@ pub fn text(word: &[u8]) -> Option<Text>
     if word.is_empty() {
         return None;
     }
+    if are_bare(word) {
+        return Text::of_bytes(word).ok();
+    }
     let mut held = [0; TEXT_BYTES];
     let mut len = 0;
     let mut rest = word;
@@ -98,6 +102,13 @@ pub fn text(word: &[u8]) -> Option<Text>
         rest = after;
     }
     Text::of_bytes(&held[..len]).ok()
+}
+
+// Whether all bytes stand for themselves.
+fn are_bare(word: &[u8]) -> bool
+    ensures { result ≡ list_all is_bare word.now }
+{
+    word.iter().all(|byte| is_bare(*byte))
 }
 
 // The byte of a text with whose spelling the bytes begin, and what follows it.

@@ -1,6 +1,7 @@
 -- The order of texts by their words.
 use Rattle.std.proofs.Common.{◌≡◌, ℕ, zero, suc, ◌+◌, ◌*◌, ◌/◌, ◌<◌, ◌≤◌, ◌==◌, true, List, [], ◌∷◌, ◌++◌, length, take, drop, refl, sym, ap, ◌∙◌, arith}
 use Rattle.std.specs.Int.{w64, to_le_bytes, from_be_bytes, swap_bytes}
+use Rattle.std.specs.Prelude.{◌≢◌}
 use Rattle.std.specs.declared.cmp.Ordering.{Ordering}
 use Rattle.std.specs.declared.cmp.Ordering.TheVariants.{Less, Equal, Greater}
 use Rattle.std.specs.Cmp.{first_so, second_so, nat_cmp_is}
@@ -21,6 +22,11 @@ then_equal : (a : Ordering) → a ≡ ordering_then a Equal
 then_equal Less = refl
 then_equal Equal = refl
 then_equal Greater = refl
+
+pub first_tells : (a b c d : Ordering) → a ≢ Equal → a ≡ ordering_then (ordering_then (ordering_then a b) c) d
+first_tells Less b c d apart = refl
+first_tells Equal b c d apart = absurd (apart refl)
+first_tells Greater b c d apart = refl
 
 -- ---- the order of two numbers by their digits in base 256, the highest first
 horner : ℕ → List ℕ → ℕ

@@ -1,9 +1,10 @@
 -- Texts and the words that hold them.
 use Rattle.std.proofs.Common.{◌≡◌, ℕ, zero, suc, ◌+◌, ◌-◌, ◌^◌, ◌<◌, ◌≤◌, ◌==◌, true, List, [], ◌∷◌, ◌++◌, length, take, drop, get_or, replicate, refl, sym, ap, subst, ◌∙◌, arith, ⊎_elim, length-take, length-drop, length-append}
-use Rattle.std.specs.Prelude.{Option, Some, nat_eq, slice_index}
+use Rattle.std.specs.Prelude.{◌≢◌, Option, Some, nat_eq, slice_index}
 use Rattle.std.specs.Cmp.{first_so, second_so}
 use Rattle.std.specs.Cmp.Lexicographic.{pointwise, bytes_decides}
 use Rattle.std.specs.Int.{w64, to_le_bytes, from_le_bytes, sum_through, byte_worth}
+use Rattle.std.specs.declared.cmp.Ordering.TheVariants.{Equal}
 use Rattle.std.specs.Ordering.{nat_cmp, ordering_then}
 use Rattle.std.proofs.lemmas.Nat.{le_bytes_8, from_le_bytes-to_le_bytes_8}
 use Rattle.std.proofs.Math.Seq.{drop-append_seam, take-append_seam}
@@ -12,7 +13,7 @@ use Rattle.std.proofs.lemmas.Bool.Decides.{Decides-eqb, same_from_decides}
 use Rattle.std.proofs.lemmas.List.{get_or-drop, get_or-take, get_or_past, get_or_append_left, get_or-append-add, drop-drop, take-append-drop, take_all, length-replicate}
 use Rattle.std.proofs.lemmas.List.Elements.{All-get_or, All-from_get_or, All-from_recursion}
 use borrow.Rule.Slice.PartMut.{put_mid}
-use Rattle.mont_base.proofs.TextOrder.{are_bytes, then_assoc, slice_cmp_append, cmp_fronts}
+use Rattle.mont_base.proofs.TextOrder.{are_bytes, first_tells, then_assoc, slice_cmp_append, cmp_fronts}
 use Rattle.mont_base.specs.declared.constants.TheConstants.{TEXT_BYTES}
 use Rattle.mont_base.specs.declared.text.Text.TheInside.{Inside}
 use Rattle.mont_base.specs.Texts.{IsText, byte_words, bytes_of_words, text_words, text_of_bytes, text_of_words, are_zero, text_cmp}
@@ -252,7 +253,7 @@ three a b c x y z =
     ∙ sym (then_assoc first second third)
 
 -- texts are compared word by word, and then by their lengths
-pub cmp_by_words :
+cmp_by_words :
     (t u : Inside) → IsTextInside t → IsTextInside u → ordering_then (ordering_then (ordering_then
     (text_cmp (to_le_bytes w64 t.first) (to_le_bytes w64 u.first))
     (text_cmp (to_le_bytes w64 t.second) (to_le_bytes w64 u.second))) (text_cmp (to_le_bytes w64 t.third)
@@ -265,6 +266,23 @@ cmp_by_words t u is iu =
     (omega (arith, length-bytes_of_words t.first t.second t.third, is.short))
     (omega (arith, length-bytes_of_words u.first u.second u.third, iu.short))
     (clean_view t is) (clean_view u iu))
+
+-- where the first words are the same, the others tell
+pub cmp_behind :
+    (t u : Inside) → IsTextInside t → IsTextInside u
+    → text_cmp (to_le_bytes w64 t.first) (to_le_bytes w64 u.first) ≡ Equal → ordering_then (ordering_then
+    (text_cmp (to_le_bytes w64 t.second) (to_le_bytes w64 u.second)) (text_cmp (to_le_bytes w64 t.third)
+    (to_le_bytes w64 u.third))) (nat_cmp t.len u.len) ≡ text_cmp (bytes_of_text t) (bytes_of_text u)
+cmp_behind t u is iu same =
+    ap (λ o. ordering_then (ordering_then (ordering_then o (text_cmp (to_le_bytes w64 t.second) (to_le_bytes w64 u.second)))
+    (text_cmp (to_le_bytes w64 t.third) (to_le_bytes w64 u.third))) (nat_cmp t.len u.len)) (sym same)
+    ∙ cmp_by_words t u is iu
+
+-- and where they aren't, they tell alone
+pub cmp_apart :
+    (t u : Inside) → IsTextInside t → IsTextInside u → text_cmp (to_le_bytes w64 t.first) (to_le_bytes w64 u.first) ≢ Equal
+    → text_cmp (to_le_bytes w64 t.first) (to_le_bytes w64 u.first) ≡ text_cmp (bytes_of_text t) (bytes_of_text u)
+cmp_apart t u is iu apart = first_tells _ _ _ _ apart ∙ cmp_by_words t u is iu
 
 -- the first bytes of 24 of which the others are 0, kept in place
 module _

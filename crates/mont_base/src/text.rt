@@ -175,10 +175,13 @@ impl Ord for Text {
     ghost matches_eq = { texts_ties };
 
     fn cmp(&self, other: &Text) -> Ordering {
-        cmp_words(self.first, other.first)
-            .then(cmp_words(self.second, other.second))
-            .then(cmp_words(self.third, other.third))
-            .then(self.len.cmp(&other.len))
+        // most texts differ in their first eight bytes
+        match cmp_words(self.first, other.first) {
+            Ordering::Equal => cmp_words(self.second, other.second)
+                .then(cmp_words(self.third, other.third))
+                .then(self.len.cmp(&other.len)),
+            apart => apart,
+        }
     }
 }
 

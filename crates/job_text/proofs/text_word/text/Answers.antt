@@ -2,8 +2,14 @@ use Rattle.std.proofs.Common.{◌≡◌, ◌≢◌, ◌∷◌, [], true, length,
 use Rattle.std.proofs.lemmas.Slice.Eq.{slice_eq-Decides}
 use Rattle.std.proofs.lemmas.Bool.{eqb-false}
 use Rattle.std.proofs.lemmas.Bool.Decides.{Decides-eqb}
-use Rattle.job_text.proofs.TextWords.{too_long, no_byte, front_more}
+use Rattle.job_text.proofs.TextWords.{bare_text, too_long, no_byte, front_more}
 use Rattle.job_text.proofs.text_word.text.Goals as goal
+
+pub returns-then-are_bare : goal.returns-then-are_bare
+returns-then-are_bare c =
+    let some = eqb-false (length c.args.word.now) 0 (sym c.is_empty.ensures ∙ c.if-is_empty.false) in
+    rw c.ok-then-are_bare.ensures.value (bare_text c.args.word.now c.of_bytes-then-are_bare.result (omega arith)
+    (sym c.are_bare.ensures ∙ c.if-are_bare.true) c.of_bytes-then-are_bare.ensures)
 
 pub returns-then-len-eq-TEXT_BYTES : goal.returns-then-len-eq-TEXT_BYTES
 returns-then-len-eq-TEXT_BYTES c =
