@@ -75,6 +75,6 @@ fn text_from(held: &[u8; ROW], at: usize) -> &str
     requires ascii { IsAscii (drop at held.now) }
     ensures { result.now ≡ drop at held.now }
 {
-    // no look at each byte again: they are ASCII by the contract
+    // SAFETY: the bytes are ASCII by the contract.
     unsafe { str::from_utf8_unchecked(&held[at..]) }
 }

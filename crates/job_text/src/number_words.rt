@@ -41,7 +41,7 @@ pub fn number(word: &[u8]) -> Option<u64>
     if !word.is_ascii() {
         return None;
     }
-    // no look at each byte again, but by `parse`
+    // SAFETY: `is_ascii` holds of the word.
     let text = unsafe { str::from_utf8_unchecked(word) };
     text.parse().ok()
 }

@@ -51,7 +51,7 @@ fn bare_word<'a>(text: &Text, held: &'a mut [u8; TEXT_BYTES]) -> Option<&'a str>
         }
         held[at] = byte;
     }
-    // no look at each byte again: bytes that stand for themselves are ASCII
+    // SAFETY: each byte was found to stand for itself, so it is ASCII.
     Some(unsafe { str::from_utf8_unchecked(&held[..len]) })
 }
 

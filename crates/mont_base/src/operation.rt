@@ -194,10 +194,6 @@ impl Op {
     pub fn unit(&self, layout: Layout) -> Option<Unit>
         ensures { result ≡ unit_of_op layout self.now }
     {
-        // the operations of maps need no copy of their key
-        if let Op::Put { key, .. } | Op::Get { key } | Op::Del { key } = self {
-            return layout.keeper(key);
-        }
         match self.aim() {
             Aim::Key { key } => layout.keeper(&key),
             Aim::Unit { kind, unit } => layout.named(kind, unit),
