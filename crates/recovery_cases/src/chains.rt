@@ -8,14 +8,13 @@ ghost use Rattle.std.specs.Prelude.{◌≡◌, ◌≤◌, false, IfOk, IfSome};
 ghost use Rattle.recovery_cases.specs.Leftovers.{HoldsSame};
 
 use crate::drawn_images::Draws;
-use crate::found_text::contents_text;
+use crate::found_text::{Found, found_by};
 use crate::leftovers::left_by;
 use crate::plain_store::PlainStore;
 use case_file::Unanswered;
 use case_image::number_in;
 use mont_base::{Epoch, FIELDS, FIRST_CLOCK, Kinds, Layout};
 use mont_image::Image;
-use recover::{RecoverRefusal, recover};
 use std::alloc::Global;
 use std::str;
 use std::thread::Threads;
@@ -152,9 +151,9 @@ fn behind_cut(
     }
     let lost = lost_in(image);
     let steps = draws.below(lost.saturating_mul(2).saturating_add(2));
-    let left = left_by(rt, alloc, image, steps, draws.number())?;
-    let fewer = lost_in(&left.image) <= lost;
-    Ok(fewer.then_some(left.image))
+    let (_cut, left) = left_by(rt, alloc, image, steps, draws.number())?;
+    let fewer = lost_in(&left) <= lost;
+    Ok(fewer.then_some(left))
 }
 
 // The image behind a whole sweep, if recovery finds these contents before that and no slot is lost
@@ -172,9 +171,9 @@ fn behind_whole(
     if !holds(rt, alloc, draws, image, contents)? {
         return Ok(None);
     }
-    let left = left_by(rt, alloc, image, u64::MAX, draws.number())?;
-    let whole = !left.cut && lost_in(&left.image) == 0;
-    Ok(whole.then_some(left.image))
+    let (cut, left) = left_by(rt, alloc, image, u64::MAX, draws.number())?;
+    let whole = !cut && lost_in(&left) == 0;
+    Ok(whole.then_some(left))
 }
 
 // Whether recovery finds these contents, and how many slots are lost.
@@ -188,13 +187,12 @@ fn holds(
     requires { image.now.old ≡ false }
 {
     let workers = 1 + draws.number() % 64;
-    match recover(rt, alloc, image, workers, 1) {
-        Ok(store) => {
-            let found = contents_text(alloc, image.layout, &store)?;
-            Ok(store.lost() == lost_in(image) && found.as_slice() == contents)
-        }
-        Err(RecoverRefusal::Memory) => Err(Unanswered::Memory),
-        Err(_) => Ok(false),
+    match found_by(rt, alloc, image, workers)? {
+        Found::Accepted {
+            lost,
+            contents: found,
+        } => Ok(lost == lost_in(image) && found.as_slice() == contents),
+        Found::Faulty { .. } => Ok(false),
     }
 }
 

@@ -25,19 +25,33 @@ pub fn damaged(
     text: &[u8],
 ) -> Result<Vec<u8>, AllocError> {
     let mut bytes = text.to_vec(alloc)?;
-    let count = draws.below(3).saturating_add(1);
-    for _ in 0..count {
-        match draws.below(14) {
-            0 => cut(draws, &mut bytes),
-            1 => lengthen(draws, &mut bytes)?,
-            2 | 3 | 4 => turn_bit(draws, bytes.as_mut_slice()),
-            5 | 6 => set_number(draws, bytes.as_mut_slice()),
-            7 | 8 | 9 => copy(draws, bytes.as_mut_slice(), shape),
-            10 | 11 => exchange(draws, bytes.as_mut_slice(), shape),
-            _ => exchange(draws, bytes.as_mut_slice(), words_alone()),
-        }
+    for _ in 0..draws.below(3).saturating_add(1) {
+        change(draws, &mut bytes, shape)?;
     }
     Ok(bytes)
+}
+
+fn change(draws: &mut Draws, bytes: &mut Vec<u8>, shape: TextShape) -> Result<(), AllocError> {
+    match draws.below(14) {
+        0 => cut(draws, bytes),
+        1 => lengthen(draws, bytes)?,
+        2 | 3 | 4 => turn_bit(draws, bytes.as_mut_slice()),
+        kind => {
+            let (words, _rest) = bytes.as_mut_slice().as_chunks_mut::<WORD>();
+            change_words(draws, words, shape, kind);
+        }
+    }
+    Ok(())
+}
+
+// One of the changes of whole words.
+fn change_words(draws: &mut Draws, words: &mut [[u8; WORD]], shape: TextShape, kind: u64) {
+    match kind {
+        5 | 6 => set_number(draws, words),
+        7 | 8 | 9 => copy(draws, words, shape),
+        10 | 11 => exchange(draws, words, shape),
+        _ => exchange(draws, words, words_alone()),
+    }
 }
 
 // Words, of which none stand before the first.
@@ -84,28 +98,17 @@ fn turn_bit(draws: &mut Draws, bytes: &mut [u8]) {
     }
 }
 
-// The bytes of a word.
-fn word_mut(bytes: &mut [u8], place: usize) -> Option<&mut [u8; WORD]> {
-    let first = place.checked_mul(WORD)?;
-    bytes.get_mut(first..)?.first_chunk_mut::<WORD>()
-}
-
-fn word_at(bytes: &[u8], place: usize) -> Option<[u8; WORD]> {
-    let first = place.checked_mul(WORD)?;
-    bytes.get(first..)?.first_chunk::<WORD>().copied()
-}
-
-fn set_number(draws: &mut Draws, bytes: &mut [u8]) {
-    let place = place_below(draws, bytes.len() / WORD);
+fn set_number(draws: &mut Draws, words: &mut [[u8; WORD]]) {
+    let place = place_below(draws, words.len());
     let number = place_below(draws, NUMBERS.len());
-    if let (Some(word), Some(number)) = (word_mut(bytes, place), NUMBERS.get(number)) {
+    if let (Some(word), Some(number)) = (words.get_mut(place), NUMBERS.get(number)) {
         *word = number.to_le_bytes();
     }
 }
 
 // The first words of two slots that are drawn.
-fn two_slots(draws: &mut Draws, bytes: &[u8], shape: TextShape) -> (usize, usize) {
-    let slots = (bytes.len() / WORD)
+fn two_slots(draws: &mut Draws, words: usize, shape: TextShape) -> (usize, usize) {
+    let slots = words
         .saturating_sub(shape.front)
         .checked_div(shape.fields)
         .unwrap_or(0);
@@ -120,28 +123,23 @@ fn first_word(shape: TextShape, slot: usize) -> usize {
 }
 
 // Copies a slot over another.
-fn copy(draws: &mut Draws, bytes: &mut [u8], shape: TextShape) {
-    let (from, to) = two_slots(draws, bytes, shape);
+fn copy(draws: &mut Draws, words: &mut [[u8; WORD]], shape: TextShape) {
+    let (from, to) = two_slots(draws, words.len(), shape);
     for field in 0..shape.fields {
-        let word = word_at(bytes, from.saturating_add(field));
-        if let (Some(word), Some(other)) = (word, word_mut(bytes, to.saturating_add(field))) {
+        let word = words.get(from.saturating_add(field)).copied();
+        if let (Some(word), Some(other)) = (word, words.get_mut(to.saturating_add(field))) {
             *other = word;
         }
     }
 }
 
 // Exchanges two slots.
-fn exchange(draws: &mut Draws, bytes: &mut [u8], shape: TextShape) {
-    let (one, other) = two_slots(draws, bytes, shape);
+fn exchange(draws: &mut Draws, words: &mut [[u8; WORD]], shape: TextShape) {
+    let (one, other) = two_slots(draws, words.len(), shape);
     for field in 0..shape.fields {
         let (one, other) = (one.saturating_add(field), other.saturating_add(field));
-        if let (Some(first), Some(second)) = (word_at(bytes, one), word_at(bytes, other)) {
-            if let Some(word) = word_mut(bytes, one) {
-                *word = second;
-            }
-            if let Some(word) = word_mut(bytes, other) {
-                *word = first;
-            }
+        if one < words.len() && other < words.len() {
+            words.swap(one, other);
         }
     }
 }

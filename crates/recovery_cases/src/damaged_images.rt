@@ -2,9 +2,10 @@
 // recovery finds. The part `damaged` has how many there are; each is drawn from its number.
 use crate::damage::{TextShape, damaged};
 use crate::drawn_images::Draws;
+use crate::found_text::told_by;
 use crate::now::{ReadImage, image_now};
 use crate::plain_judge::plainly_told;
-use crate::tellings::told_by;
+use crate::tellings::told_fault;
 use case_file::{Case, Unanswered, numbers_in};
 use case_image::image_text;
 use std::alloc::{AllocError, Global};
@@ -134,10 +135,10 @@ fn told_of(
     alloc: Global,
     draws: &mut Draws,
     text: &[u8],
-) -> Result<Vec<u8>, AllocError> {
+) -> Result<Vec<u8>, Unanswered> {
     let workers = 1 + draws.number() % 64;
-    match image_now(alloc, text)? {
-        ReadImage::Faulty { fault } => Ok(format!(in alloc; "{fault}\n")?.into_bytes()),
+    match image_now(alloc, text, 4096)? {
+        ReadImage::Faulty { fault } => told_fault(alloc, fault),
         ReadImage::Now { image } => told_by(rt, alloc, &image, workers),
     }
 }

@@ -11,15 +11,6 @@ use recover::{RecoverRefusal, Recovered, recover};
 use std::alloc::{AllocError, Global};
 use std::thread::Threads;
 
-/// What is left behind a sweep.
-#[derive(Drop)]
-pub struct Left {
-    /// Whether the sweep was cut.
-    pub cut: bool,
-    /// The image that a crash left.
-    pub image: Image,
-}
-
 /// The store of an image that recovery accepts, with one caller.
 pub fn opened(
     rt: &(impl Threads + Sync),
@@ -40,21 +31,22 @@ pub fn opened(
     }
 }
 
-/// What is left of the store of an image behind a sweep with so many steps, as a mask picks it.
+/// The image that a crash leaves of the store of an image behind a sweep with so many steps, as a
+/// mask picks it, and whether the sweep was cut.
 pub fn left_by(
     rt: &(impl Threads + Sync),
     alloc: Global,
     image: &Image,
     steps: u64,
     mask: u64,
-) -> Result<Left, Unanswered>
+) -> Result<(bool, Image), Unanswered>
     requires { image.now.old ≡ false }
-    ensures { IfOk result (λ left. HoldsSame image.now left.image) }
+    ensures { IfOk result (λ left. HoldsSame image.now left.1) }
 {
     let mut store = opened(rt, alloc, image)?;
     let cut = store.sweep(&mut Fuel::new(steps)).is_err();
-    let image = picked(alloc, store, mask)?;
-    Ok(Left { cut, image })
+    let left = picked(alloc, store, mask)?;
+    Ok((cut, left))
 }
 
 // The image that a mask picks of the words of a store.

@@ -17,8 +17,11 @@ mod plain_slots;
 mod plain_store;
 mod recovery_answers;
 mod recovery_trial;
+mod slot_told;
 mod sweep_table;
 mod tellings;
+mod texts_told;
+mod units_told;
 
 use anyhow::Result;
 use recovery_trial::try_all;

@@ -1,5 +1,5 @@
 // The image that a text is of, as images are now.
-ghost use Rattle.std.specs.Prelude.{◌≡◌, ℕ, List, true, IfOk};
+ghost use Rattle.std.specs.Prelude.{◌≡◌, ◌<◌, ℕ, List, true, IfOk};
 ghost use Rattle.mont_image.specs.ImageReader.{parts_of};
 ghost use Rattle.mont_image.specs.ImageText.{IsTextOf};
 ghost use Rattle.recovery_cases.specs.CaseReadings.{IsReadAs};
@@ -10,7 +10,7 @@ use recover::{ImageFault, migrate};
 use std::alloc::{AllocError, Global};
 
 /// What is read of a text.
-#[derive(Debug, Drop)]
+#[derive(Drop)]
 pub enum ReadImage {
     /// The first fault of its bytes, or of what an image of the first version holds.
     Faulty { fault: ImageFault },
@@ -18,11 +18,12 @@ pub enum ReadImage {
     Now { image: Image },
 }
 
-/// Reads the image of a text.
-pub fn image_now(alloc: Global, text: &[u8]) -> Result<ReadImage, AllocError>
+/// Reads the image of a text, of which a call gives at most `piece` bytes.
+pub fn image_now(alloc: Global, text: &[u8], piece: u64) -> Result<ReadImage, AllocError>
+    requires { 0 < piece }
     ensures { IfOk result (IsReadAs text.now) }
 {
-    let mut source = source_of(alloc, text)?;
+    let mut source = source_of(alloc, text, piece)?;
     match read_image(alloc, &mut source) {
         Ok(image) if image.old => migrated(alloc, &image),
         Ok(image) => Ok(ReadImage::Now { image }),
@@ -33,12 +34,13 @@ pub fn image_now(alloc: Global, text: &[u8]) -> Result<ReadImage, AllocError>
     }
 }
 
-// A source of a text.
-fn source_of(alloc: Global, text: &[u8]) -> Result<MemSource, AllocError>
+/// A source of a text, of which a call gives at most `piece` bytes.
+pub fn source_of(alloc: Global, text: &[u8], piece: u64) -> Result<MemSource, AllocError>
+    requires { 0 < piece }
     ensures { IfOk result (λ s. s.left ≡ text.now) }
 {
     let bytes = Vec::from_slice(alloc, text)?;
-    Ok(MemSource::new(bytes, 4096, Vec::new(alloc)))
+    Ok(MemSource::new(bytes, piece, Vec::new(alloc)))
 }
 
 // What is read of an image of the first version.

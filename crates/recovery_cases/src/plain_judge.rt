@@ -5,6 +5,8 @@ ghost use Rattle.mont_base.specs.Layout.{units_of};
 
 use crate::plain_front::{PlainText, plain_text};
 use crate::plain_slots::PlainSlot;
+use crate::tellings::{told_accepted, told_fault};
+use case_file::Unanswered;
 use job_text::write_contents;
 use mont_base::{FIELDS, Held, LAST, Object, ObjectFault, Sequence, Unit};
 use payload::read_words;
@@ -13,7 +15,7 @@ use recover::ImageFault;
 use std::alloc::{AllocError, Global};
 
 /// What is found, as a case tells it.
-pub fn plainly_told(alloc: Global, text: &[u8]) -> Result<Vec<u8>, AllocError> {
+pub fn plainly_told(alloc: Global, text: &[u8]) -> Result<Vec<u8>, Unanswered> {
     match plain_text(alloc, text)? {
         Ok(found) => told_text(alloc, &found),
         Err(fault) => told_fault(alloc, fault),
@@ -21,7 +23,7 @@ pub fn plainly_told(alloc: Global, text: &[u8]) -> Result<Vec<u8>, AllocError> {
 }
 
 // What is found in a text without a fault of its bytes.
-fn told_text(alloc: Global, found: &PlainText) -> Result<Vec<u8>, AllocError> {
+fn told_text(alloc: Global, found: &PlainText) -> Result<Vec<u8>, Unanswered> {
     match records_in(alloc, found)? {
         Ok(records) => told_records(alloc, found, records.as_slice()),
         Err(fault) => told_fault(alloc, fault),
@@ -29,7 +31,7 @@ fn told_text(alloc: Global, found: &PlainText) -> Result<Vec<u8>, AllocError> {
 }
 
 // What is found in a text with these records.
-fn told_records(alloc: Global, found: &PlainText, records: &[Held]) -> Result<Vec<u8>, AllocError> {
+fn told_records(alloc: Global, found: &PlainText, records: &[Held]) -> Result<Vec<u8>, Unanswered> {
     if let Some(fault) = twice_in(records) {
         return told_fault(alloc, fault);
     }
@@ -39,21 +41,15 @@ fn told_records(alloc: Global, found: &PlainText, records: &[Held]) -> Result<Ve
     }
 }
 
-fn told_fault(alloc: Global, fault: ImageFault) -> Result<Vec<u8>, AllocError> {
-    Ok(format!(in alloc; "{fault}\n")?.into_bytes())
-}
-
 // How many slots are lost, and the contents. Of an image of the first version none is lost.
 fn told_contents(
     alloc: Global,
     found: &PlainText,
     contents: &Contents,
-) -> Result<Vec<u8>, AllocError> {
+) -> Result<Vec<u8>, Unanswered> {
     let lost = lost_in(found);
     let text = write_contents(alloc, found.layout, found.clock, contents)?;
-    let mut told = format!(in alloc; "lost {lost}\n")?.into_bytes();
-    told.extend_from_slice(text.as_slice())?;
-    Ok(told)
+    told_accepted(alloc, lost, text.as_slice())
 }
 
 fn lost_in(found: &PlainText) -> u64 {
@@ -87,8 +83,8 @@ fn records_in(
     Ok(Ok(records))
 }
 
-// The record that a slot's words hold.
-fn held_in(unit: Unit, slot: u64, words: &[u64; FIELDS]) -> Result<Option<Held>, ImageFault> {
+/// The record that a slot's words hold.
+pub fn held_in(unit: Unit, slot: u64, words: &[u64; FIELDS]) -> Result<Option<Held>, ImageFault> {
     if words[0] > LAST {
         return Ok(None);
     }

@@ -4,6 +4,7 @@ ghost use Rattle.std.specs.Prelude.{◌≡◌, false, IsTrue, IfOk};
 ghost use Rattle.mont_image.specs.Picking.{HasClock};
 
 use crate::drawn_images::Draws;
+use crate::plain_judge::held_in;
 use crate::plain_records::record_of;
 use case_file::Unanswered;
 use case_image::record_words;
@@ -13,7 +14,6 @@ use mont_base::{
     Words,
 };
 use mont_image::{Image, pick};
-use payload::read_words;
 use plain::{Contents, UnitState};
 use std::alloc::{AllocError, Global};
 
@@ -173,10 +173,11 @@ impl PlainStore {
     // The records of a unit, of whatever epoch.
     fn records(&self, alloc: Global, unit: Unit) -> Result<Vec<Held>, AllocError> {
         let mut records = Vec::new(alloc);
-        for (slot, words) in self.slots.chunks(FIELDS).enumerate() {
+        let (slots, _rest) = self.slots.as_slice().as_chunks::<FIELDS>();
+        for (slot, words) in slots.iter().enumerate() {
             let slot = slot as Slot;
             if self.layout.unit_of_slot(slot) == unit {
-                if let Some(held) = held_in(unit, slot, words) {
+                if let Ok(Some(held)) = held_in(unit, slot, words) {
                     records.push(held)?;
                 }
             }
@@ -253,23 +254,8 @@ fn push_durable(words: &mut Vec<u64>, of_slot: &[u64], cut: Epoch) -> Result<(),
     }
 }
 
-// The record that a slot's words hold.
-fn held_in(unit: Unit, slot: Slot, words: &[u64]) -> Option<Held> {
-    let words = words.first_chunk::<FIELDS>()?;
-    if words[0] > LAST {
-        return None;
-    }
-    match read_words(unit, words) {
-        Ok(Some(read)) => {
-            let (label, body) = read;
-            Some(Held { slot, label, body })
-        }
-        Ok(None) | Err(_) => None,
-    }
-}
-
-// The image that a mask picks of words.
-fn picked(
+/// The image that a mask picks of words.
+pub fn picked(
     alloc: Global,
     layout: Layout,
     current: Vec<u64>,

@@ -1,8 +1,8 @@
 // What sweeps of a store leave that are cut at each of their steps.
 ghost use Rattle.std.specs.Prelude.{◌≡◌, false};
 
-use crate::found_text::contents_text;
-use crate::leftovers::{Left, left_by, opened};
+use crate::found_text::accepted;
+use crate::leftovers::{left_by, opened};
 use case_file::Unanswered;
 use mont_base::{Fuel, Steady};
 use mont_image::Image;
@@ -33,21 +33,8 @@ pub fn sweep_table(
 {
     let mut table = String::new(alloc);
     push_sweeps(&mut table, rt, alloc, image, most)?;
-    let before = contents_of(rt, alloc, image)?;
-    push_masks(&mut table, rt, alloc, image, most, before.as_slice())?;
+    push_masks(&mut table, rt, alloc, image, most)?;
     Ok(table.into_bytes())
-}
-
-// The text of the contents of an image.
-fn contents_of(
-    rt: &(impl Threads + Sync),
-    alloc: Global,
-    image: &Image,
-) -> Result<Vec<u8>, Unanswered>
-    requires { image.now.old ≡ false }
-{
-    let store = opened(rt, alloc, image)?;
-    Ok(contents_text(alloc, image.layout, &store)?)
 }
 
 // The lines of all masks.
@@ -57,23 +44,24 @@ fn push_masks(
     alloc: Global,
     image: &Image,
     most: u64,
-    before: &[u8],
 ) -> Result<(), Unanswered>
     requires { image.now.old ≡ false }
 {
+    let (_lost, before) = accepted(rt, alloc, image)?;
     for row in MASKS {
         let (mask, name) = *row;
         write!(table, "mask {name} leaves")?;
         for steps in 0..most.saturating_add(1) {
-            push_picked(table, rt, alloc, image, steps, mask, before)?;
+            push_left(table, rt, alloc, image, steps, mask, before.as_slice())?;
         }
         writeln!(table)?;
     }
     Ok(())
 }
 
-// What is left behind a sweep with so many steps, as a mask picks it.
-fn push_picked(
+// How many slots are lost behind a sweep with so many steps, as a mask picks the image, and whether
+// its contents are others than these.
+fn push_left(
     table: &mut String,
     rt: &(impl Threads + Sync),
     alloc: Global,
@@ -84,26 +72,9 @@ fn push_picked(
 ) -> Result<(), Unanswered>
     requires { image.now.old ≡ false }
 {
-    let Left {
-        cut: _,
-        image: left,
-    } = left_by(rt, alloc, image, steps, mask)?;
-    push_left(table, rt, alloc, &left, before)
-}
-
-// How many slots are lost in an image, and whether its contents are others than these.
-fn push_left(
-    table: &mut String,
-    rt: &(impl Threads + Sync),
-    alloc: Global,
-    image: &Image,
-    before: &[u8],
-) -> Result<(), Unanswered>
-    requires { image.now.old ≡ false }
-{
-    let found = opened(rt, alloc, image)?;
-    write!(table, " {}", found.lost())?;
-    let behind = contents_text(alloc, image.layout, &found)?;
+    let (_cut, left) = left_by(rt, alloc, image, steps, mask)?;
+    let (lost, behind) = accepted(rt, alloc, &left)?;
+    write!(table, " {lost}")?;
     if behind.as_slice() != before {
         write!(table, " (and other contents)")?;
     }
@@ -123,31 +94,58 @@ fn push_sweeps(
     let mut open = String::from_str(alloc, "still to close")?;
     write!(table, "cut behind steps")?;
     for steps in 0..most.saturating_add(1) {
-        let mut store = opened(rt, alloc, image)?;
-        push_sweep(table, &mut open, &mut store, steps)?;
+        let swept = swept_by(rt, alloc, image, steps)?;
+        push_sweep(table, &mut open, steps, swept)?;
     }
     Ok(write!(table, "\n{open}\n")?)
 }
 
-// Whether a sweep with so many steps is cut, and how many slots it has still to close.
-fn push_sweep(
-    table: &mut String,
-    open: &mut String,
-    store: &mut Recovered,
+// What a sweep came to.
+#[derive(Clone, Copy)]
+struct Swept {
+    cut: bool,
+    still_open: u64,
+    // Whether the store knows that, and a second sweep leaves no slot that is to be closed.
+    again: bool,
+}
+
+// What a sweep with so many steps comes to.
+fn swept_by(
+    rt: &(impl Threads + Sync),
+    alloc: Global,
+    image: &Image,
     steps: u64,
-) -> Result<(), AllocError> {
+) -> Result<Swept, Unanswered>
+    requires { image.now.old ≡ false }
+{
+    let mut store = opened(rt, alloc, image)?;
     let cut = store.sweep(&mut Fuel::new(steps)).is_err();
-    if cut {
-        write!(table, " {steps}")?;
-    }
-    write!(open, " {}", store.lost())?;
-    if store.is_swept() == cut || !goes_on(store) {
-        write!(open, " (and it isn't swept again)")?;
-    }
-    Ok(())
+    let still_open = store.lost();
+    let again = store.is_swept() != cut && goes_on(&mut store);
+    Ok(Swept {
+        cut,
+        still_open,
+        again,
+    })
 }
 
 // Whether a second sweep leaves no slot that is to be closed.
 fn goes_on(store: &mut Recovered) -> bool {
     store.sweep(&mut Steady).is_ok() && store.is_swept() && store.lost() == 0
+}
+
+fn push_sweep(
+    table: &mut String,
+    open: &mut String,
+    steps: u64,
+    swept: Swept,
+) -> Result<(), AllocError> {
+    if swept.cut {
+        write!(table, " {steps}")?;
+    }
+    write!(open, " {}", swept.still_open)?;
+    if !swept.again {
+        write!(open, " (and it isn't swept again)")?;
+    }
+    Ok(())
 }
