@@ -7,6 +7,7 @@ mod chains;
 mod damage;
 mod damaged_images;
 mod drawn_images;
+mod failing_devices;
 mod found_text;
 mod leftovers;
 mod now;

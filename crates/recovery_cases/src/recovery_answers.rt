@@ -4,6 +4,7 @@ ghost use Rattle.std.specs.Prelude.{◌≡◌, ◌<◌, ◌≤◌, false};
 use crate::asked_image::Asked;
 use crate::chains::follow_chains;
 use crate::damaged_images::{DAMAGED, damaged_images};
+use crate::failing_devices::{FAILING, failing_told};
 use crate::found_text::told_by;
 use crate::now::{ReadImage, image_now};
 use crate::slot_told::{SLOT, slot_told};
@@ -55,6 +56,9 @@ fn by_all_ways(
     case: &Case,
 ) -> Result<Vec<u8>, Unanswered> {
     let text = image_text(alloc, case)?;
+    if let Some(piece) = case.part(FAILING) {
+        return failing_told(alloc, piece, text.as_slice());
+    }
     let mut told = Vec::new(alloc);
     push_ways(&mut told, rt, alloc, case, text.as_slice())?;
     Ok(told)

@@ -27,8 +27,8 @@ pub fn told_as_read(alloc: Global, text: &[u8], piece: u64) -> Result<Vec<u8>, U
     }
 }
 
-/// Whether an image of the third version is written otherwise than as its text, to a sink that takes
-/// such pieces.
+/// Whether an image of the third version is written otherwise than as its text to a sink that
+/// takes such pieces.
 pub fn is_other_text(
     alloc: Global,
     image: &Image,
