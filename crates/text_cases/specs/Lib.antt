@@ -1,1 +1,2 @@
 pub mod CaseOutcomes
+pub mod Judged

@@ -6,9 +6,10 @@ use case_file::{Case, Unanswered, numbers_in};
 use job_text::READ_BYTES;
 use std::alloc::Global;
 
-/// A line on what comes of the text, whose source gives it in pieces of several sizes or of those
-/// of the part `pieces`, and fails in the calls of the part `failing calls`.
-pub fn answer_job(alloc: Global, case: &Case, text: &[u8]) -> Result<Vec<u8>, Unanswered> {
+/// A line on what comes of the text of the part `job`, whose source gives it in pieces of several
+/// sizes or of those of the part `pieces`, and fails in the calls of the part `failing calls`.
+pub fn answer_job(alloc: Global, case: &Case) -> Result<Vec<u8>, Unanswered> {
+    let text = case.needed("job")?;
     let pieces = match case.part("pieces") {
         Some(words) => numbers_in(alloc, "pieces", words)?,
         None => vec![in alloc; 1, 7, READ_BYTES as u64]?,

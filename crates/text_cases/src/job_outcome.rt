@@ -12,7 +12,7 @@ use std::fmt;
 
 /// What comes of a text: the job that it spells, the first line that has a fault, or a fault of
 /// reading.
-#[derive(Clone, Copy, Debug, PartialEq, Eq)]
+#[derive(Clone, Copy, PartialEq, Eq)]
 pub enum JobOutcome {
     /// How many stops and lines the job has, and whether its text is this one.
     Read { stops: u64, lines: u64, same: bool },
@@ -41,8 +41,8 @@ pub fn outcome_of(
     }
 }
 
-// A source of a text.
-fn source_of(
+/// A source of a text that gives so many bytes a call and fails in these calls.
+pub fn source_of(
     alloc: Global,
     text: &[u8],
     piece: u64,

@@ -1,18 +1,24 @@
 //! Tries worked cases of the texts of jobs and of reports: which are refused, at which line and
-//! why, and which are read back byte for byte.
+//! why, which are read back byte for byte, which reports are faithful to a job or agree with an
+//! image, and how one is drawn.
 #![tactic(auto)]
 
+mod agreement;
+mod changed_reports;
 mod job_answer;
 mod job_outcome;
+mod judged;
+mod records;
 mod report_answer;
 mod report_outcome;
 mod text_answers;
+mod text_trial;
+mod verdict_answer;
 
 use anyhow::Result;
-use case_file::try_cases;
 use std::process::ExitCode;
-use text_answers::TextCases;
+use text_trial::try_texts;
 
 fn main(rt: HostRuntime) -> Result<ExitCode> {
-    try_cases(&rt, &TextCases { alloc: rt.alloc() })
+    try_texts(&rt)
 }

@@ -10,7 +10,7 @@ use job_text::{Report, ReportRefusal, read_report, write_report};
 use std::alloc::{AllocError, Global};
 
 /// What comes of a text: the report that it spells, or the first line that is refused.
-#[derive(Debug, Drop)]
+#[derive(Drop)]
 pub enum ReportOutcome {
     /// The report, and whether its text is this one.
     Read { report: Report, same: bool },

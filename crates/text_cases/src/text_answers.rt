@@ -1,28 +1,44 @@
 // What comes of a case on the text of a job or of a report.
 use crate::job_answer::answer_job;
+use crate::judged::answer_judged;
 use crate::report_answer::answer_report;
-use case_file::{Case, Subject, Unanswered, with_other_lines};
-use std::alloc::Global;
+use crate::verdict_answer::answer_verdict;
+use case_file::{Case, Unanswered, with_other_lines};
+use std::thread::Threads;
 
 /// Answers cases with a part `job` or a part `report`. The lines of a part `other lines` stand in
 /// the place of some of the report.
-#[derive(Drop)]
-pub struct TextCases {
-    pub alloc: Global,
+pub fn answer_to(
+    rt: &(impl AllocGlobal + Threads + Sync),
+    case: &Case,
+) -> Result<Vec<u8>, Unanswered> {
+    let alloc = rt.alloc();
+    let Some(right) = case.part("report") else {
+        return answer_job(alloc, case);
+    };
+    match case.part("other lines") {
+        Some(others) => {
+            let other = with_other_lines(alloc, right, others)?;
+            answer_to_report(rt, case, right, other.as_slice())
+        }
+        None => answer_to_report(rt, case, right, right),
+    }
 }
 
-impl Subject for TextCases {
-    fn answer(&self, case: &Case) -> Result<Vec<u8>, Unanswered> {
-        if let Some(text) = case.part("job") {
-            return answer_job(self.alloc, case, text);
-        }
-        let text = case.needed("report")?;
-        match case.part("other lines") {
-            Some(others) => {
-                let other = with_other_lines(self.alloc, text, others)?;
-                answer_report(self.alloc, case, other.as_slice())
-            }
-            None => answer_report(self.alloc, case, text),
-        }
+// What is told of a report: the verdict on it where the case has an image, whether it is faithful
+// where the case has a job, and else what comes of its text.
+fn answer_to_report(
+    rt: &(impl AllocGlobal + Threads + Sync),
+    case: &Case,
+    right: &[u8],
+    text: &[u8],
+) -> Result<Vec<u8>, Unanswered> {
+    let alloc = rt.alloc();
+    if case.part("image").is_some() {
+        answer_verdict(rt, case, text)
+    } else if let Some(job) = case.part("job") {
+        answer_judged(alloc, case, job, right, text)
+    } else {
+        answer_report(alloc, case, text)
     }
 }

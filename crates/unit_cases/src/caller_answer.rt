@@ -3,7 +3,7 @@ use crate::case_rows::{number_of, rows_in};
 use case_file::{Case, Unanswered, numbers_in};
 use mont_base::{Entry, Op, Receipt, Reply, Sequence};
 use plain::{View, continues_view, fits_histories, is_callers_order};
-use std::alloc::Global;
+use std::alloc::{AllocError, Global};
 
 /// Whether what each view tells is there, and whether the callers' order is good. Each entry is
 /// `enq UNIT 5 = none`.
@@ -13,32 +13,49 @@ use std::alloc::Global;
 /// and epoch of the entry; one of the part `views` a newest epoch and the fronts. With a part
 /// `answer`, a row as of `receipts`, the first view is the one before it, and the others are those
 /// that may come of it.
-pub fn answer_callers(alloc: Global, case: &Case) -> Result<Vec<u8>, Unanswered> {
+pub fn tell_callers(answer: &mut String, alloc: Global, case: &Case) -> Result<(), Unanswered> {
     let views = views_in(alloc, case)?;
-    let mut answer = String::new(alloc);
-    if let Some(row) = case.part("answer") {
-        tell_following(&mut answer, &views, &numbers_in(alloc, "answer", row)?)?;
-        return Ok(answer.into_bytes());
+    match case.part("answer") {
+        Some(row) => tell_following(answer, &views, &numbers_in(alloc, "answer", row)?),
+        None => tell_views(answer, alloc, case, &views),
     }
+}
+
+// Whether what each view tells is there, and whether the callers' order is good.
+fn tell_views(
+    answer: &mut String,
+    alloc: Global,
+    case: &Case,
+    views: &[View],
+) -> Result<(), Unanswered> {
     let histories = lists_in::<Entry>(alloc, case, "units", "histories")?;
-    for view in &views {
-        let fits = if fits_histories(&histories, view) {
-            "there"
-        } else {
-            "not there"
-        };
-        writeln!(answer, "{fits}")?;
-    }
+    tell_fitting(answer, &histories, views)?;
     if case.part("receipts").is_some() {
         let receipts = lists_in::<Receipt>(alloc, case, "callers", "receipts")?;
-        let good = if is_callers_order(&histories, &receipts, &views) {
+        let good = if is_callers_order(&histories, &receipts, views) {
             "good order"
         } else {
             "bad order"
         };
         writeln!(answer, "{good}")?;
     }
-    Ok(answer.into_bytes())
+    Ok(())
+}
+
+fn tell_fitting(
+    answer: &mut String,
+    histories: &[Sequence<Entry>],
+    views: &[View],
+) -> Result<(), AllocError> {
+    for view in views {
+        let fits = if fits_histories(histories, view) {
+            "there"
+        } else {
+            "not there"
+        };
+        writeln!(answer, "{fits}")?;
+    }
+    Ok(())
 }
 
 // Whether each view but the first continues it by the answer of a row.

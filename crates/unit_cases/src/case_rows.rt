@@ -27,6 +27,18 @@ pub fn numbers_of(alloc: Global, case: &Case, head: &'static str) -> Result<Vec<
     }
 }
 
+/// The rows of a part, which are none where it isn't there.
+pub fn rows_of(
+    alloc: Global,
+    case: &Case,
+    head: &'static str,
+) -> Result<Vec<Vec<u64>>, Unanswered> {
+    match case.part(head) {
+        Some(text) => rows_in(alloc, head, text),
+        None => Ok(Vec::new(alloc)),
+    }
+}
+
 /// The one number of a part.
 pub fn number_of(alloc: Global, case: &Case, head: &'static str) -> Result<u64, Unanswered> {
     match numbers_in(alloc, head, case.needed(head)?)?.as_slice() {

@@ -10,17 +10,30 @@ use std::alloc::Global;
 /// Of the history of each unit whether it is legal, how many slots are in use at each clock of the
 /// part `clocks`, and whether the contents that the report tells are those of its cut. A part
 /// `show` asks for a line on each entry.
-pub fn answer_report(alloc: Global, case: &Case, text: &[u8]) -> Result<Vec<u8>, Unanswered> {
+pub fn tell_text(
+    answer: &mut String,
+    alloc: Global,
+    case: &Case,
+    text: &[u8],
+) -> Result<(), Unanswered> {
     let report = report_in(alloc, text)?;
+    tell_histories(answer, alloc, case, &report)
+}
+
+fn tell_histories(
+    answer: &mut String,
+    alloc: Global,
+    case: &Case,
+    report: &Report,
+) -> Result<(), Unanswered> {
     let clocks = numbers_of(alloc, case, "clocks")?;
-    let mut answer = String::new(alloc);
     for unit in 0..report.layout.units() {
-        tell_unit(&mut answer, alloc, &report, unit, &clocks)?;
+        tell_unit(answer, alloc, report, unit, &clocks)?;
         if is_shown(case, "entries") {
-            show_entries(&mut answer, alloc, &report, unit)?;
+            show_entries(answer, alloc, report, unit)?;
         }
     }
-    Ok(answer.into_bytes())
+    Ok(())
 }
 
 fn tell_unit(
@@ -55,23 +68,9 @@ fn show_entries(
     report: &Report,
     unit: Unit,
 ) -> Result<(), Unanswered> {
-    let unclear = Unanswered::Unclear { head: "report" };
-    let (Some(state), Some(history), Some(runs)) = (
-        report.base.units.get(unit),
-        report.histories.get(unit),
-        report.runs.get(unit),
-    ) else {
-        return Err(unclear);
+    let Some(state) = report.base.units.get(unit) else {
+        return Err(Unanswered::Unclear { head: "report" });
     };
-    let (layout, state) = (report.layout, copied(state)?);
-    tell_entries(
-        answer,
-        alloc,
-        layout,
-        unit,
-        state,
-        history.as_slice(),
-        runs.as_slice(),
-    )?;
-    Ok(())
+    let mut state = copied(state)?;
+    Ok(tell_entries(answer, alloc, report, unit, &mut state)?)
 }

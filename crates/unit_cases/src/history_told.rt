@@ -58,7 +58,7 @@ pub fn used_at(alloc: Global, report: &Report, unit: Unit, clock: Epoch) -> Resu
 }
 
 /// What is told of the cut of a unit's history, two epochs below the clock of the image.
-#[derive(Clone, Copy, Debug, PartialEq, Eq)]
+#[derive(Clone, Copy)]
 pub struct CutTold {
     /// How many entries it has.
     pub entries: u64,

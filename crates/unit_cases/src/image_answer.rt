@@ -6,9 +6,8 @@ ghost use Rattle.mont_base.specs.Image.{clock_of};
 
 use crate::case_rows::{is_shown, layout_of, number_of, numbers_of, rows_in};
 use crate::image_findings::{UnitRecords, recovered, unit_records};
-use crate::layout_answer::push_lines;
+use crate::layout_answer::push_contents;
 use case_file::{Case, Unanswered};
-use job_text::write_contents;
 use mont_base::{Epoch, FIELDS, Held, LAST, Layout, Unit};
 use plain::{newest_of, record_at};
 use std::alloc::{AllocError, Global};
@@ -19,49 +18,26 @@ const HEAD: &str = "filled";
 /// closed but for the rows of the part `filled`, each a slot and its words, and it has the words of
 /// its layout, or as many as the part `words` says. A part `show` asks for the records of each
 /// unit, with the newest of the identities of the part `newest`, or for the first faults.
-pub fn answer_image(alloc: Global, case: &Case) -> Result<Vec<u8>, Unanswered> {
+pub fn tell_image(answer: &mut String, alloc: Global, case: &Case) -> Result<(), Unanswered> {
     let layout = match layout_of(alloc, case) {
         Ok(layout) => layout,
         Err(why) => return Err(why),
     };
     let clock = number_of(alloc, case, "clock")?;
-    let words = match case.part("words") {
-        Some(_) => number_of(alloc, case, "words")?,
-        None => layout.words(),
-    };
-    let image = image_of(alloc, case, words, clock)?;
-    let mut answer = String::new(alloc);
-    match recovered(alloc, layout, &image)? {
-        Some(contents) => {
-            let text = write_contents(alloc, layout, clock, &contents)?;
-            push_lines(&mut answer, &text)?;
-        }
-        None => writeln!(answer, "refused")?,
+    let image = image_of(alloc, case, layout.words(), clock)?;
+    tell_contents(answer, alloc, layout, clock, &image)?;
+    if is_shown(case, "records") || is_shown(case, "faults") {
+        tell_units(answer, alloc, case, layout, &image)?;
     }
-    let (records, faults) = (is_shown(case, "records"), is_shown(case, "faults"));
-    if records || faults {
-        if image.len() as u64 != layout.words() || image[0] > LAST {
-            return Err(Unanswered::Unclear { head: "show" });
-        }
-        let identities = numbers_of(alloc, case, "newest")?;
-        for unit in 0..layout.units() {
-            let found = unit_records(alloc, layout, &image, unit)?;
-            if records {
-                tell_records(&mut answer, unit, &found, &identities)?;
-            }
-            if faults {
-                tell_fault(&mut answer, unit, &found)?;
-            }
-        }
-        if records {
-            tell_slots(&mut answer, &layout, &image)?;
-        }
-    }
-    Ok(answer.into_bytes())
+    Ok(())
 }
 
-// So many words, with this clock and these slots.
+// So many words, or as many as the part `words` says, with this clock and these slots.
 fn image_of(alloc: Global, case: &Case, words: u64, clock: Epoch) -> Result<Vec<u64>, Unanswered> {
+    let words = match case.part("words") {
+        Some(_) => number_of(alloc, case, "words")?,
+        None => words,
+    };
     let mut image = vec![in alloc; 0; words as usize]?;
     if let Some(first) = image.first_mut() {
         *first = clock;
@@ -72,6 +48,47 @@ fn image_of(alloc: Global, case: &Case, words: u64, clock: Epoch) -> Result<Vec<
         }
     }
     Ok(image)
+}
+
+// The contents that recovery rebuilds.
+fn tell_contents(
+    answer: &mut String,
+    alloc: Global,
+    layout: Layout,
+    clock: Epoch,
+    image: &[u64],
+) -> Result<(), AllocError> {
+    match recovered(alloc, layout, image)? {
+        Some(contents) => push_contents(answer, alloc, layout, clock, &contents),
+        None => writeln!(answer, "refused"),
+    }
+}
+
+// What is found in each unit, where the image has the words of the layout and a clock.
+fn tell_units(
+    answer: &mut String,
+    alloc: Global,
+    case: &Case,
+    layout: Layout,
+    image: &[u64],
+) -> Result<(), Unanswered> {
+    if image.len() as u64 != layout.words() || image[0] > LAST {
+        return Err(Unanswered::Unclear { head: "show" });
+    }
+    let identities = numbers_of(alloc, case, "newest")?;
+    for unit in 0..layout.units() {
+        let found = unit_records(alloc, layout, image, unit)?;
+        if is_shown(case, "records") {
+            tell_records(answer, unit, &found, &identities)?;
+        }
+        if is_shown(case, "faults") {
+            tell_fault(answer, unit, &found)?;
+        }
+    }
+    if is_shown(case, "records") {
+        tell_slots(answer, &layout, image)?;
+    }
+    Ok(())
 }
 
 // Writes the words of a slot.

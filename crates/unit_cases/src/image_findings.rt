@@ -27,7 +27,7 @@ pub fn recovered(
 }
 
 /// The records of a unit, its live objects, and the first of these with a fault.
-#[derive(Debug, Drop)]
+#[derive(Drop)]
 pub struct UnitRecords {
     pub held: Vec<Held>,
     pub live: Vec<Object>,

@@ -1,27 +1,26 @@
 // What is told of kinds and layouts.
 use crate::case_rows::{is_shown, line_of, numbers_of};
+use crate::operation_answer::tell_operations;
 use case_file::{Case, Unanswered};
 use job_text::write_contents;
-use mont_base::{FIRST_CLOCK, Kinds, Layout, Signs, UnitKind};
+use mont_base::{Epoch, FIRST_CLOCK, Kinds, Layout, Signs, UnitKind};
 use plain::Contents;
 use std::alloc::{AllocError, Global};
 
 /// The units that the letters of the part `kinds` spell, the layouts with the slots of the part
-/// `slots`, the units of the slots in the part `units of`, the kinds of the part `codes`, and with
-/// a part `show` the contents of a store that was never used.
-pub fn answer_layout(alloc: Global, case: &Case) -> Result<Vec<u8>, Unanswered> {
-    let mut answer = String::new(alloc);
+/// `slots`, and the kinds of the part `codes`.
+pub fn tell_kinds(answer: &mut String, alloc: Global, case: &Case) -> Result<(), Unanswered> {
     match Kinds::of_letters(line_of(case.needed("kinds")?)) {
-        Ok(kinds) => tell_kinds(&mut answer, alloc, case, kinds)?,
+        Ok(kinds) => tell_units(answer, alloc, case, kinds)?,
         Err(_) => writeln!(answer, "bad kinds")?,
     }
     for code in &numbers_of(alloc, case, "codes")? {
-        tell_code(&mut answer, *code)?;
+        tell_code(answer, *code)?;
     }
-    Ok(answer.into_bytes())
+    Ok(())
 }
 
-fn tell_kinds(
+fn tell_units(
     answer: &mut String,
     alloc: Global,
     case: &Case,
@@ -35,9 +34,11 @@ fn tell_kinds(
             writeln!(answer, "the old kinds of {maps} maps")?;
         }
     }
-    let slots = numbers_of(alloc, case, "slots")?;
-    for slots in &slots {
-        tell_layout(answer, alloc, case, kinds, *slots)?;
+    for slots in &numbers_of(alloc, case, "slots")? {
+        match Layout::new(kinds, *slots) {
+            Ok(layout) => tell_layout(answer, alloc, case, layout)?,
+            Err(_) => writeln!(answer, "{slots} slots in a unit: bad")?,
+        }
     }
     Ok(())
 }
@@ -64,17 +65,14 @@ fn tell_code(answer: &mut String, code: u64) -> Result<(), AllocError> {
     }
 }
 
+// What a layout has, the units of the slots in the part `units of`, with a part `show` the contents
+// of a store that was never used, and what is told of operations.
 fn tell_layout(
     answer: &mut String,
     alloc: Global,
     case: &Case,
-    kinds: Kinds,
-    slots: u64,
+    layout: Layout,
 ) -> Result<(), Unanswered> {
-    let Ok(layout) = Layout::new(kinds, slots) else {
-        writeln!(answer, "{slots} slots in a unit: bad")?;
-        return Ok(());
-    };
     let (slots, units) = (layout.slots(), layout.units());
     let (total, words) = (layout.total(), layout.words());
     write!(answer, "{slots} slots in a unit: {units} units, ")?;
@@ -90,10 +88,21 @@ fn tell_layout(
     }
     if is_shown(case, "contents") {
         let contents = Contents::empty(alloc, layout)?;
-        let text = write_contents(alloc, layout, FIRST_CLOCK, &contents)?;
-        push_lines(answer, &text)?;
+        push_contents(answer, alloc, layout, FIRST_CLOCK, &contents)?;
     }
-    Ok(())
+    tell_operations(answer, alloc, case, layout)
+}
+
+/// Adds the text of contents.
+pub fn push_contents(
+    answer: &mut String,
+    alloc: Global,
+    layout: Layout,
+    clock: Epoch,
+    contents: &Contents,
+) -> Result<(), AllocError> {
+    let text = write_contents(alloc, layout, clock, contents)?;
+    push_lines(answer, &text)
 }
 
 /// Adds a text whose bytes are ASCII characters.

@@ -6,12 +6,14 @@ mod answers;
 mod caller_answer;
 mod case_rows;
 mod crash_answer;
+mod device_answer;
 mod entry_shown;
 mod history_answer;
 mod history_told;
 mod image_answer;
 mod image_findings;
 mod layout_answer;
+mod operation_answer;
 mod step_told;
 mod text_answer;
 

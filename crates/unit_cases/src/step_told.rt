@@ -9,7 +9,7 @@ use plain::UnitState;
 use std::alloc::{AllocError, Global};
 
 /// What an operation did.
-#[derive(Debug, Drop)]
+#[derive(Drop)]
 pub struct StepTold {
     /// The unit that it belongs to.
     pub unit: Option<Unit>,

@@ -1,17 +1,18 @@
 // Whether a report agrees with an image that holds what another one tells, by plain structures and
 // by looking at each entry and each outcome by itself.
 use job_text::{Outcome, Report, Run};
-use mont_base::{Entry, LAST, Op, Sequence, Unit};
-use plain::{UnitState, same_state};
-use std::alloc::{AllocError, Global};
+use mont_base::{Entry, Epoch, LAST, Op, Sequence, Text, Unit};
+use plain::{OrderedState, UnitState, same_state};
+use std::alloc::AllocError;
+use std::slice;
 
 /// Whether a report agrees with the image with which the other one agrees.
-pub fn agrees(alloc: Global, report: &Report, other: &Report) -> Result<bool, AllocError> {
+pub fn agrees(report: &Report, other: &Report) -> Result<bool, AllocError> {
     if report.layout != other.layout || report.image_clock != other.image_clock {
         return Ok(false);
     }
     for unit in 0..report.layout.units() {
-        if !holds(alloc, report, other, unit)? {
+        if !holds(report, other, unit)? {
             return Ok(false);
         }
     }
@@ -19,48 +20,96 @@ pub fn agrees(alloc: Global, report: &Report, other: &Report) -> Result<bool, Al
 }
 
 // Whether the history of a unit is legal, with the runs of its ranges, and leads to the contents.
-fn holds(alloc: Global, report: &Report, other: &Report, unit: Unit) -> Result<bool, AllocError> {
-    let (Some(base), Some(history), Some(runs)) = (
-        report.base.units.get(unit),
-        report.histories.get(unit),
-        report.runs.get(unit),
-    ) else {
+fn holds(report: &Report, other: &Report, unit: Unit) -> Result<bool, AllocError> {
+    let Some(base) = report.base.units.get(unit) else {
         return Ok(false);
     };
-    let (mut state, mut cut) = (base.clone()?, base.clone()?);
-    let (mut clock, mut ranges) = (report.base_clock, 0_u64);
+    Ok(is_legal_from(base, report, unit)? && leads_from(base, report, other, unit)?)
+}
+
+// Whether the history of a unit is legal from a state.
+fn is_legal_from(base: &UnitState, report: &Report, unit: Unit) -> Result<bool, AllocError> {
+    let mut state = base.clone()?;
+    steps_are_legal(&mut state, report, unit)
+}
+
+fn steps_are_legal(state: &mut UnitState, report: &Report, unit: Unit) -> Result<bool, AllocError> {
+    let (Some(history), Some(runs)) = (report.histories.get(unit), report.runs.get(unit)) else {
+        return Ok(false);
+    };
+    let mut clock = report.base_clock;
+    let mut left = runs.as_slice().iter();
     for entry in history.as_slice() {
-        if entry.op.unit(report.layout) != Some(unit) || entry.caller >= report.callers {
-            return Ok(false);
-        }
-        if entry.epoch < clock || entry.epoch > LAST {
+        if !is_within(report, unit, entry, clock) || !has_run(state, &entry.op, &mut left) {
             return Ok(false);
         }
         clock = entry.epoch;
-        if let Some(run) = run_of(alloc, &state, &entry.op)? {
-            if !is_run_at(runs.as_slice(), ranges, &run) {
-                return Ok(false);
-            }
-            ranges = ranges.saturating_add(1);
-        }
         if state.apply(&entry.op)? != entry.reply {
             return Ok(false);
         }
-        if entry.epoch.saturating_add(2) <= report.image_clock {
-            cut.apply(&entry.op)?;
+    }
+    Ok(true)
+}
+
+// Whether an entry is one of the unit, by a caller of the report, and in an epoch from this one on.
+fn is_within(report: &Report, unit: Unit, entry: &Entry, clock: Epoch) -> bool {
+    entry.op.unit(report.layout) == Some(unit)
+        && entry.caller < report.callers
+        && clock <= entry.epoch
+        && entry.epoch <= LAST
+}
+
+// Whether the next run is that of the operation, where it is a range.
+fn has_run(state: &UnitState, op: &Op, left: &mut slice::Iter<'_, Run>) -> bool {
+    match (state, op) {
+        (UnitState::Ordered { state }, Op::ORange { from, to, most, .. }) => match left.next() {
+            Some(run) => is_run(state, from, to, *most, run.as_slice()),
+            None => false,
+        },
+        _ => true,
+    }
+}
+
+// Whether these are the first pairs of a state with a key within the bounds, so many at most.
+fn is_run(state: &OrderedState, from: &Text, to: &Text, most: u64, run: &[(Text, Text)]) -> bool {
+    let (mut told, mut left) = (run.iter(), most);
+    for (key, value) in state.iter() {
+        if from <= key && key <= to && left > 0 {
+            left -= 1;
+            match told.next() {
+                Some((other, of_other)) if other == key && of_other == value => {}
+                _ => return false,
+            }
         }
     }
+    told.next().is_none()
+}
+
+// Whether the cut of the history leads from a state to what both reports tell of the image.
+fn leads_from(
+    base: &UnitState,
+    report: &Report,
+    other: &Report,
+    unit: Unit,
+) -> Result<bool, AllocError> {
+    let mut state = base.clone()?;
+    apply_cut(&mut state, report, unit)?;
     Ok(
-        has_state(&report.contents.units, unit, &cut)
-            && has_state(&other.contents.units, unit, &cut),
+        has_state(&report.contents.units, unit, &state)
+            && has_state(&other.contents.units, unit, &state),
     )
 }
 
-fn is_run_at(runs: &[Run], place: u64, run: &Run) -> bool {
-    match runs.get(place as usize) {
-        Some(told) => told.as_slice() == run.as_slice(),
-        None => false,
+fn apply_cut(state: &mut UnitState, report: &Report, unit: Unit) -> Result<(), AllocError> {
+    let Some(history) = report.histories.get(unit) else {
+        return Ok(());
+    };
+    for entry in history.as_slice() {
+        if entry.epoch.saturating_add(2) <= report.image_clock {
+            state.apply(&entry.op)?;
+        }
     }
+    Ok(())
 }
 
 fn has_state(units: &Sequence<UnitState>, unit: Unit, state: &UnitState) -> bool {
@@ -68,20 +117,6 @@ fn has_state(units: &Sequence<UnitState>, unit: Unit, state: &UnitState) -> bool
         Some(found) => same_state(found, state),
         None => false,
     }
-}
-
-// The pairs of a range on a state.
-fn run_of(alloc: Global, state: &UnitState, op: &Op) -> Result<Option<Run>, AllocError> {
-    let (UnitState::Ordered { state }, Op::ORange { from, to, most, .. }) = (state, op) else {
-        return Ok(None);
-    };
-    let mut run = Sequence::new(alloc);
-    for (key, value) in state.iter() {
-        if key >= from && key <= to && run.len() < *most {
-            run.push((*key, *value))?;
-        }
-    }
-    Ok(Some(run))
 }
 
 fn entry_at(report: &Report, unit: Unit, place: u64) -> Option<&Entry> {

@@ -20,7 +20,7 @@ const BYTES: &[u8] = b"0123456789 \n=%abcdefghiklmnopqrstuvyz-\x00\xff";
 /// first one is. Where the text is no report's then, the first refused line is to be the changed
 /// one or one behind it; else its report is to be spelled by it, and the verdict is to be yes
 /// exactly where the report agrees with what the unchanged one tells of the image.
-pub fn changed_answer(
+pub fn answer_changed(
     rt: &(impl AllocGlobal + Threads + Sync),
     text: &[u8],
     report: &Report,
@@ -30,22 +30,25 @@ pub fn changed_answer(
     requires { image.now.old ≡ false }
 {
     let alloc = rt.alloc();
-    let numbers = numbers_in(alloc, CHANGED, changed)?;
-    let [seed, many] = numbers.as_slice() else {
-        return Err(Unanswered::Unclear { head: CHANGED });
-    };
-    let mut draws = Pcg64::new(u128::from(*seed), 0);
-    for time in 0..*many {
+    let (seed, many) = draw_in(alloc, changed)?;
+    let mut draws = Pcg64::new(u128::from(seed), 0);
+    for time in 0..many {
         let at = below(&mut draws, text.len());
-        let byte = BYTES
-            .get(below(&mut draws, BYTES.len()))
-            .copied()
-            .unwrap_or(0);
+        let drawn = BYTES.get(below(&mut draws, BYTES.len()));
+        let byte = drawn.copied().unwrap_or(0);
         if !is_as_wanted(rt, text, report, image, at, byte)? {
             return Ok(format!(in alloc; "{time}: byte {byte} at {at}\n")?.into_bytes());
         }
     }
     Ok(format!(in alloc; "{many} as wanted\n")?.into_bytes())
+}
+
+// The seed, and how many bytes are changed.
+fn draw_in(alloc: Global, changed: &[u8]) -> Result<(u64, u64), Unanswered> {
+    match numbers_in(alloc, CHANGED, changed)?.as_slice() {
+        [seed, many] => Ok((*seed, *many)),
+        _ => Err(Unanswered::Unclear { head: CHANGED }),
+    }
 }
 
 fn below(draws: &mut Pcg64, many: usize) -> usize {
@@ -67,14 +70,27 @@ fn is_as_wanted(
     if let Some(place) = bytes.get_mut(at) {
         *place = byte;
     }
-    let told = match read_report(alloc, bytes.as_slice()) {
-        Ok(told) => told,
-        Err(ReportRefusal::Text { line }) => return Ok(line >= line_of(text, at)),
-        Err(ReportRefusal::Memory) => return Err(Unanswered::Memory),
-    };
-    let wanted = agrees(alloc, &told, report)?;
-    let is_yes = matches!(check(rt, alloc, &told, image, 2)?, Verdict::Yes);
-    Ok(is_yes == wanted && write_report(alloc, &told)?.as_slice() == bytes.as_slice())
+    match read_report(alloc, bytes.as_slice()) {
+        Ok(told) => is_told_rightly(rt, bytes.as_slice(), &told, report, image),
+        Err(ReportRefusal::Text { line }) => Ok(line >= line_of(text, at)),
+        Err(ReportRefusal::Memory) => Err(Unanswered::Memory),
+    }
+}
+
+// Whether the changed text spells the report that it tells, and the verdict is the wanted one.
+fn is_told_rightly(
+    rt: &(impl AllocGlobal + Threads + Sync),
+    text: &[u8],
+    told: &Report,
+    report: &Report,
+    image: &Image,
+) -> Result<bool, Unanswered>
+    requires { image.now.old ≡ false }
+{
+    let alloc = rt.alloc();
+    let wanted = agrees(told, report)?;
+    let is_yes = matches!(check(rt, alloc, told, image, 2)?, Verdict::Yes);
+    Ok(is_yes == wanted && write_report(alloc, told)?.as_slice() == text)
 }
 
 // The line in which a byte stands, counted from 1.

@@ -12,20 +12,24 @@ pub fn records_in(alloc: Global, case: &Case) -> Result<Vec<Sequence<Held>>, Una
     for _ in 0..MOST_UNITS {
         units.push(Sequence::new(alloc))?;
     }
-    let Some(text) = case.part(HEAD) else {
-        return Ok(units);
-    };
-    let numbers = numbers_in(alloc, HEAD, text)?;
-    for row in numbers.as_slice().chunks(1 + FIELDS) {
-        let Some(record) = record_of(row) else {
-            return Err(Unanswered::Unclear { head: HEAD });
-        };
-        let Some(unit) = units.get_mut(record.label.unit as usize) else {
-            return Err(Unanswered::Unclear { head: HEAD });
-        };
-        unit.push(record)?;
+    if let Some(text) = case.part(HEAD) {
+        let numbers = numbers_in(alloc, HEAD, text)?;
+        for row in numbers.as_slice().chunks(1 + FIELDS) {
+            add_record(units.as_mut_slice(), row)?;
+        }
     }
     Ok(units)
+}
+
+fn add_record(units: &mut [Sequence<Held>], row: &[u64]) -> Result<(), Unanswered> {
+    let Some(record) = record_of(row) else {
+        return Err(Unanswered::Unclear { head: HEAD });
+    };
+    let Some(unit) = units.get_mut(record.label.unit as usize) else {
+        return Err(Unanswered::Unclear { head: HEAD });
+    };
+    unit.push(record)?;
+    Ok(())
 }
 
 // The record that the number of a slot and its words tell.

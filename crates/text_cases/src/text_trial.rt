@@ -1,6 +1,6 @@
-// The trial of all cases of some files. What answers a case holds an image, by threads, which a
-// `Subject` of other cases isn't given.
-use crate::verdict_answers::answer_to;
+// The trial of all cases of some files. A verdict holds an image, by threads, which a `Subject` of
+// other cases isn't given.
+use crate::text_answers::answer_to;
 use anyhow::Result;
 use case_file::{Tally, cases_of};
 use std::env;
@@ -10,7 +10,7 @@ use std::thread::Threads;
 
 /// Tries the cases of the files that the words of the command line name. For each it prints a line,
 /// and at last how many there were. The exit status is 0 where of each came what is wanted.
-pub fn try_reports<R: Print + AllocGlobal + Files + Env + Threads + Sync>(
+pub fn try_texts<R: Print + AllocGlobal + Files + Env + Threads + Sync>(
     rt: &R,
 ) -> Result<ExitCode> {
     let mut tally = Tally::new();
