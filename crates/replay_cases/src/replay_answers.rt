@@ -13,27 +13,36 @@ pub struct ReplayCases {
 
 impl Subject for ReplayCases {
     fn answer(&self, case: &Case) -> Result<Vec<u8>, Unanswered> {
-        if let Some(drawn) = case.part("drawn") {
-            return drawn_answer(self.alloc, case, drawn);
+        match case.part("drawn") {
+            Some(drawn) => drawn_answer(self.alloc, case, drawn),
+            None => replayed(self.alloc, case),
         }
-        let text = case.needed("schedule")?;
-        let pieces = match case.part("pieces") {
-            Some(words) => numbers_in(self.alloc, "pieces", words)?,
-            None => vec![in self.alloc; 7]?,
-        };
-        let failing = match case.part("failing calls") {
-            Some(words) => numbers_in(self.alloc, "failing calls", words)?,
-            None => Vec::new(self.alloc),
-        };
-        let mut told = Vec::new(self.alloc);
-        for piece in &pieces {
-            let piece = *piece;
-            if piece == 0 {
-                return Err(Unanswered::Unclear { head: "pieces" });
-            }
-            let outcome = ReplayOutcome::of(self.alloc, text, piece, failing.as_slice())?;
-            told.extend_from_slice(outcome.told(self.alloc)?.as_slice())?;
-        }
-        Ok(told)
     }
+}
+
+fn replayed(alloc: Global, case: &Case) -> Result<Vec<u8>, Unanswered> {
+    let text = case.needed("schedule")?;
+    let pieces = numbers_in(alloc, "pieces", case.part("pieces").unwrap_or(b"7"))?;
+    let failing = case.part("failing calls").unwrap_or(b"");
+    let failing = numbers_in(alloc, "failing calls", failing)?;
+    told_pieces(alloc, text, &pieces, &failing)
+}
+
+// What comes of a text for each size of pieces.
+fn told_pieces(
+    alloc: Global,
+    text: &[u8],
+    pieces: &[u64],
+    failing: &[u64],
+) -> Result<Vec<u8>, Unanswered> {
+    let mut told = Vec::new(alloc);
+    for piece in pieces {
+        let piece = *piece;
+        if piece == 0 {
+            return Err(Unanswered::Unclear { head: "pieces" });
+        }
+        let outcome = ReplayOutcome::of(alloc, text, piece, failing)?;
+        told.extend_from_slice(outcome.told(alloc)?.as_slice())?;
+    }
+    Ok(told)
 }

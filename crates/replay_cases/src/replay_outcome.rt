@@ -8,7 +8,7 @@ use std::alloc::{AllocError, Global};
 
 /// What comes of a text: the text of its replay, the line that is no schedule's, the line whose
 /// event isn't allowed, or a fault of reading.
-#[derive(Debug, Drop)]
+#[derive(Drop)]
 pub enum ReplayOutcome {
     Replayed { text: Vec<u8> },
     /// The first line that is refused, counted from 1.

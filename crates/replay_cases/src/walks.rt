@@ -1,24 +1,32 @@
 // Walks of the machine: events that are drawn, and made one after another by `step` of core_run.
 use crate::event_draws::EventDraws;
-use crate::written_stores::stores_of;
+use crate::written_stores::push_stores;
 use core_answer::core_words::clock;
 use core_run::{StepRefusal, allowed, step};
 use core_steps::{AdvPart, Core, Event, Part, UnitStage};
-use job_text::Run;
-use mont_base::{Epoch, Layout, Op, Reply, Sequence, Unit};
+use mont_base::{Effect, Epoch, Layout, Op, Reply, Sequence, Unit};
 use plain::{Contents, UnitState};
+use replay::Schedule;
 use std::alloc::{AllocError, Global};
 
-/// A core, and the events that led to it.
+/// A core, and the schedule that led to it.
 #[derive(Drop)]
 pub struct Walk {
     pub core: Core,
-    pub events: Sequence<Event>,
-    pub runs: Sequence<Run>,
+    pub schedule: Schedule,
     states: Sequence<UnitState>,
     // What each unit does next, the last first.
     plans: Sequence<Vec<Event>>,
     draws: EventDraws,
+}
+
+// An operation that is drawn, with its reply and its effects.
+#[derive(Drop)]
+struct Call {
+    caller: u64,
+    op: Op,
+    reply: Reply,
+    effects: Vec<Effect>,
 }
 
 impl Walk {
@@ -34,8 +42,12 @@ impl Walk {
         }
         Ok(Walk {
             core: Core::fresh(alloc, layout, callers)?,
-            events: Sequence::new(alloc),
-            runs: Sequence::new(alloc),
+            schedule: Schedule {
+                layout,
+                callers,
+                events: Sequence::new(alloc),
+                runs: Sequence::new(alloc),
+            },
             states: Contents::empty(alloc, layout)?.units,
             plans,
             draws: EventDraws::of_seed(seed),
@@ -48,28 +60,32 @@ impl Walk {
         let Some(event) = self.draw(alloc)? else {
             return Ok(true);
         };
-        let run = self.run_of(alloc, &event)?;
-        let goes_on = match step(alloc, &mut self.core, &event) {
-            Ok(()) => true,
-            Err(StepRefusal::NotAllowed) if self.draws.below(250) == 0 => false,
-            Err(StepRefusal::NotAllowed) => return Ok(true),
+        let made = self.make(alloc, &event)?;
+        let refused = !made && self.draws.below(250) == 0;
+        if made || refused {
+            self.keep_run(alloc, &event)?;
+            self.schedule.events.push(event)?;
+        }
+        Ok(!refused)
+    }
+
+    // Makes an event, if it is allowed.
+    fn make(&mut self, alloc: Global, event: &Event) -> Result<bool, AllocError> {
+        match step(alloc, &mut self.core, event) {
+            Ok(()) => {}
+            Err(StepRefusal::NotAllowed) => return Ok(false),
             Err(StepRefusal::Memory) => return Err(AllocError),
-        };
-        if let Event::Leave { unit, op, .. } = &event
-            && goes_on
+        }
+        if let Event::Leave { unit, op, .. } = event
             && *unit < self.states.len()
         {
             self.states.item_mut(*unit).apply(op)?;
         }
-        if let Some(run) = run {
-            self.runs.push(run)?;
-        }
-        self.events.push(event)?;
-        Ok(goes_on)
+        Ok(true)
     }
 
-    // The pairs of a range on the state of the unit that answers it.
-    fn run_of(&self, alloc: Global, event: &Event) -> Result<Option<Run>, AllocError> {
+    // Keeps the pairs of a range on the state of the unit that answers it.
+    fn keep_run(&mut self, alloc: Global, event: &Event) -> Result<(), AllocError> {
         let Event::Read {
             unit,
             op: Op::ORange { from, to, most, .. },
@@ -77,7 +93,7 @@ impl Walk {
             ..
         } = event
         else {
-            return Ok(None);
+            return Ok(());
         };
         let mut run = Sequence::new(alloc);
         if let Some(UnitState::Ordered { state }) = self.states.get(*unit) {
@@ -87,14 +103,14 @@ impl Walk {
                 }
             }
         }
-        Ok(Some(run))
+        self.schedule.runs.push(run)
     }
 
     fn draw(&mut self, alloc: Global) -> Result<Option<Event>, AllocError> {
         let unit = self.draws.below(self.core.layout.units());
         match self.draws.below(20) {
             0 => Ok(Some(self.stray(unit))),
-            1..=7 => self.advance(alloc),
+            1..=7 => Ok(Some(self.advance(alloc)?)),
             _ => self.unit_event(alloc, unit),
         }
     }
@@ -127,31 +143,29 @@ impl Walk {
         }
     }
 
-    fn advance(&self, alloc: Global) -> Result<Option<Event>, AllocError> {
-        let event = match self.core.advancer {
-            AdvPart::Rest | AdvPart::Checking { .. } => Event::Check,
-            AdvPart::Holding { .. } => Event::PersistWord,
-            AdvPart::Clocked => Event::PersistClock,
-            AdvPart::Flushing { .. } if allowed(alloc, &self.core, &Event::SetClock)? => {
-                Event::SetClock
+    fn advance(&self, alloc: Global) -> Result<Event, AllocError> {
+        match self.core.advancer {
+            AdvPart::Rest | AdvPart::Checking { .. } => Ok(Event::Check),
+            AdvPart::Holding { .. } => Ok(Event::PersistWord),
+            AdvPart::Clocked => Ok(Event::PersistClock),
+            AdvPart::Flushing { .. } => {
+                if allowed(alloc, &self.core, &Event::SetClock)? {
+                    Ok(Event::SetClock)
+                } else {
+                    Ok(Event::LoadWord)
+                }
             }
-            AdvPart::Flushing { .. } => Event::LoadWord,
-        };
-        Ok(Some(event))
+        }
     }
 
     // What a unit does next by its stage.
     fn unit_event(&mut self, alloc: Global, unit: Unit) -> Result<Option<Event>, AllocError> {
-        if unit < self.plans.len()
-            && let Some(event) = self.plans.item_mut(unit).pop()
-        {
-            return Ok(Some(event));
+        let planned = self.next_planned(unit);
+        if planned.is_some() {
+            return Ok(planned);
         }
-        let Some(stage) = self.stage_of(unit) else {
-            return Ok(None);
-        };
         let epoch = clock(&self.core);
-        match stage {
+        match self.stage_of(unit) {
             UnitStage::Idle => self.idle_event(alloc, unit, epoch),
             UnitStage::Told { .. } => Ok(Some(match self.draws.below(10) {
                 0 => Event::Withdraw { unit },
@@ -163,8 +177,19 @@ impl Walk {
         }
     }
 
-    fn stage_of(&self, unit: Unit) -> Option<UnitStage> {
-        self.core.units.get(unit).map(|part| part.stage)
+    fn next_planned(&mut self, unit: Unit) -> Option<Event> {
+        if unit < self.plans.len() {
+            self.plans.item_mut(unit).pop()
+        } else {
+            None
+        }
+    }
+
+    fn stage_of(&self, unit: Unit) -> UnitStage {
+        match self.core.units.get(unit) {
+            Some(part) => part.stage,
+            None => UnitStage::Idle,
+        }
     }
 
     fn idle_event(
@@ -173,11 +198,8 @@ impl Walk {
         unit: Unit,
         epoch: Epoch,
     ) -> Result<Option<Event>, AllocError> {
-        let retired = self
-            .core
-            .units
-            .get(unit)
-            .and_then(|part| part.retired.get(0));
+        let part = self.core.units.get(unit);
+        let retired = part.and_then(|part| part.retired.get(0));
         let first = retired.map(|waiting| waiting.slot);
         match (self.draws.below(8), first) {
             (0, _) => Ok(Some(Event::Look { unit })),
@@ -190,31 +212,40 @@ impl Walk {
         }
     }
 
-    // A read, where the operation that is drawn is of the unit and changes nothing. Now and then
-    // its reply is another.
-    fn read(&mut self, alloc: Global, unit: Unit) -> Result<Option<Event>, AllocError> {
+    // An operation of a unit, if the one that is drawn has its keys.
+    fn call(&mut self, alloc: Global, unit: Unit) -> Result<Option<Call>, AllocError> {
+        let layout = self.core.layout;
         let caller = self.draws.below(self.core.callers.len());
-        let Some(op) = self.draws.op(&self.core.layout, unit) else {
+        let op = self.draws.op(&layout, unit);
+        let (Some(op), Some(state)) = (op, self.states.get(unit)) else {
             return Ok(None);
         };
-        let (layout, odd) = (self.core.layout, self.draws.below(40) == 0);
-        let Some(state) = self.states.get(unit) else {
-            return Ok(None);
-        };
-        if op.unit(layout) != Some(unit) || !state.effects(alloc, &op)?.is_empty() {
+        if op.unit(layout) != Some(unit) {
             return Ok(None);
         }
-        let reply = if odd {
-            Reply::NoEnds
-        } else {
-            state.clone()?.apply(&op)?
-        };
-        Ok(Some(Event::Read {
-            unit,
+        let reply = state.clone()?.apply(&op)?;
+        let effects = state.effects(alloc, &op)?;
+        Ok(Some(Call {
             caller,
             op,
             reply,
+            effects,
         }))
+    }
+
+    // A read, where the operation that is drawn changes nothing. Now and then its reply is another.
+    fn read(&mut self, alloc: Global, unit: Unit) -> Result<Option<Event>, AllocError> {
+        let call = self.call(alloc, unit)?;
+        let odd = self.draws.below(40) == 0;
+        match call {
+            Some(call) if call.effects.is_empty() => Ok(Some(Event::Read {
+                unit,
+                caller: call.caller,
+                op: call.op,
+                reply: if odd { Reply::NoEnds } else { call.reply },
+            })),
+            _ => Ok(None),
+        }
     }
 
     // Plans the stores of an operation that is drawn, and the leave behind them; the first of them.
@@ -224,33 +255,40 @@ impl Walk {
         unit: Unit,
         epoch: Epoch,
     ) -> Result<Option<Event>, AllocError> {
-        let caller = self.draws.below(self.core.callers.len());
-        let Some(op) = self.draws.op(&self.core.layout, unit) else {
-            return Ok(None);
-        };
-        let layout = self.core.layout;
-        let Some(state) = self.states.get(unit) else {
-            return Ok(None);
-        };
-        let effects = state.effects(alloc, &op)?;
-        if op.unit(layout) != Some(unit) || effects.is_empty() {
-            return Ok(None);
+        match self.call(alloc, unit)? {
+            Some(call) if !call.effects.is_empty() => {
+                if self.plan(alloc, unit, epoch, &call)? {
+                    Ok(self.next_planned(unit))
+                } else {
+                    Ok(Some(Event::Withdraw { unit }))
+                }
+            }
+            _ => Ok(None),
         }
-        let reply = state.clone()?.apply(&op)?;
-        let Some(mut plan) = stores_of(alloc, &self.core, unit, epoch, &effects)? else {
-            return Ok(Some(Event::Withdraw { unit }));
-        };
+    }
+
+    // Plans them, and tells whether there is room.
+    fn plan(
+        &mut self,
+        alloc: Global,
+        unit: Unit,
+        epoch: Epoch,
+        call: &Call,
+    ) -> Result<bool, AllocError> {
+        let mut plan = Vec::new(alloc);
+        if !push_stores(alloc, &mut plan, &self.core, unit, epoch, &call.effects)? {
+            return Ok(false);
+        }
         plan.push(Event::Leave {
             unit,
-            caller,
-            op,
-            reply,
+            caller: call.caller,
+            op: call.op,
+            reply: call.reply,
         })?;
         plan.reverse();
-        let first = plan.pop();
         if unit < self.plans.len() {
             self.plans.set(unit, plan);
         }
-        Ok(first)
+        Ok(true)
     }
 }

@@ -1,91 +1,109 @@
 // The stores by which a unit writes the records of an operation's effects, into free slots.
 use core_steps::{Core, Event, UnitPart};
-use mont_base::{BODY, Effect, Epoch, FIELDS, Held, Kind, LABEL, Slot, Thing, Unit};
+use mont_base::{BODY, Effect, Epoch, FIELDS, Held, LABEL, Object, Slot, Thing, Unit};
 use payload::{
     edge_body, edge_in, item_body, item_in, no_body, pair_body, pair_in, vertex_body, vertex_in,
 };
+use plain::live_objects;
 use std::alloc::{AllocError, Global};
 
-/// The stores, one behind the other; none where a record or a slot for one is missing.
-pub fn stores_of(
+/// Adds the stores to a plan, one behind the other. It answers whether each effect has a record and
+/// a slot for it.
+pub fn push_stores(
     alloc: Global,
+    plan: &mut Vec<Event>,
     core: &Core,
     unit: Unit,
     epoch: Epoch,
     effects: &[Effect],
-) -> Result<Option<Vec<Event>>, AllocError> {
-    let mut stores = Vec::new(alloc);
+) -> Result<bool, AllocError> {
     let Some(part) = core.units.get(unit) else {
-        return Ok(None);
+        return Ok(false);
     };
-    let slots = free_slots(alloc, core, part, unit)?;
-    for (at, effect) in effects.iter().enumerate() {
-        let (Some(slot), Some(words)) = (slots.get(at), record_of(part, unit, epoch, effect)) else {
-            return Ok(None);
+    let live = live_objects(alloc, part.records.as_slice())?;
+    let mut next = 0;
+    for effect in effects {
+        let slot = free_slot(core, part, unit, next);
+        let told = told_of(part.records.as_slice(), &live, effect);
+        let (Some(slot), Some(told)) = (slot, told) else {
+            return Ok(false);
         };
-        for place in 1..=FIELDS {
-            let field = place % FIELDS;
-            stores.push(Event::Store {
-                unit,
-                slot: *slot,
-                field: field as u64,
-                value: words[field],
-            })?;
-        }
+        push_record(plan, unit, epoch, slot, &told)?;
+        next = slot.saturating_add(1);
     }
-    Ok(Some(stores))
+    Ok(true)
 }
 
-// The slots of a unit that are closed in both memories and in no record.
-fn free_slots(
-    alloc: Global,
-    core: &Core,
-    part: &UnitPart,
+// The first slot of a unit from this one on that is closed in both memories and in no record.
+fn free_slot(core: &Core, part: &UnitPart, unit: Unit, first: Slot) -> Option<Slot> {
+    for slot in first..core.layout.total() {
+        let label = slot.saturating_mul(FIELDS as u64).saturating_add(1);
+        if core.layout.unit_of_slot(slot) == unit
+            && core.cur.get(label) == Some(&0)
+            && core.dur.get(label) == Some(&0)
+            && part.records.as_slice().iter().all(|held| held.slot != slot)
+        {
+            return Some(slot);
+        }
+    }
+    None
+}
+
+// Stores the words of a record, the epoch last.
+fn push_record(
+    plan: &mut Vec<Event>,
     unit: Unit,
-) -> Result<Vec<Slot>, AllocError> {
-    let mut free = Vec::new(alloc);
-    for slot in 0..core.layout.total() {
-        if core.layout.unit_of_slot(slot) == unit && is_free(core, part, slot) {
-            free.push(slot)?;
-        }
-    }
-    Ok(free)
-}
-
-fn is_free(core: &Core, part: &UnitPart, slot: Slot) -> bool {
-    let label = slot.saturating_mul(FIELDS as u64).saturating_add(1);
-    let closed = core.cur.get(label) == Some(&0) && core.dur.get(label) == Some(&0);
-    closed && !has_slot(part.records.as_slice(), slot)
-}
-
-fn has_slot(records: &[Held], slot: Slot) -> bool {
-    for held in records {
-        if held.slot == slot {
-            return true;
-        }
-    }
-    false
-}
-
-// The words of the record that an effect writes.
-fn record_of(part: &UnitPart, unit: Unit, epoch: Epoch, effect: &Effect) -> Option<[u64; FIELDS]> {
-    let records = part.records.as_slice();
-    let (kind, (identity, version), body): (u64, _, _) = match effect {
-        Effect::Inserts { thing } => (1, (next_identity(records), 1), thing_body(records, thing)),
-        Effect::Replaces { thing } => (
-            2,
-            next_version(records, thing)?,
-            thing_body(records, thing),
-        ),
-        Effect::Removes { thing } => (3, next_version(records, thing)?, no_body()),
-    };
+    epoch: Epoch,
+    slot: Slot,
+    told: &Told,
+) -> Result<(), AllocError> {
     let mut words = [0; FIELDS];
     words[0] = epoch;
-    words[1] = unit.saturating_add(kind.saturating_mul(256));
-    words[2] = identity;
-    words[3] = version;
-    words[LABEL..].copy_from_slice(&body);
-    Some(words)
+    words[1] = unit.saturating_add(told.kind);
+    words[2] = told.identity;
+    words[3] = told.version;
+    words[LABEL..].copy_from_slice(&told.body);
+    for place in 1..=FIELDS {
+        let field = place % FIELDS;
+        plan.push(Event::Store {
+            unit,
+            slot,
+            field: field as u64,
+            value: words[field],
+        })?;
+    }
+    Ok(())
+}
+
+// What a record says, whichever its unit, epoch and slot are.
+#[derive(Clone, Copy)]
+struct Told {
+    // 256 times the number of its kind.
+    kind: u64,
+    identity: u64,
+    version: u64,
+    body: [u64; BODY],
+}
+
+// What the record says that an effect writes.
+fn told_of(records: &[Held], live: &[Object], effect: &Effect) -> Option<Told> {
+    let (kind, identity, version, body) = match effect {
+        Effect::Inserts { thing } => (256, next_identity(records), 1, thing_body(records, thing)),
+        Effect::Replaces { thing } => {
+            let (identity, version) = next_version(live, thing)?;
+            (512, identity, version, thing_body(records, thing))
+        }
+        Effect::Removes { thing } => {
+            let (identity, version) = next_version(live, thing)?;
+            (768, identity, version, no_body())
+        }
+    };
+    Some(Told {
+        kind,
+        identity,
+        version,
+        body,
+    })
 }
 
 // One more than the greatest identity.
@@ -106,27 +124,18 @@ fn next_serial(records: &[Held]) -> u64 {
     greatest.saturating_add(1)
 }
 
-// The identity of the live record that has the name of a thing, and its next version.
-fn next_version(records: &[Held], thing: &Thing) -> Option<(u64, u64)> {
-    let mut found: Option<&Held> = None;
-    for held in records {
-        let first = found.is_none_or(|other| held.body[0] < other.body[0]);
-        if first && is_live(records, held) && has_name(thing, &held.body) {
-            found = Some(held);
+// The identity of the live object that has the name of a thing, and its next version. Of several
+// items it is the first.
+fn next_version(live: &[Object], thing: &Thing) -> Option<(u64, u64)> {
+    let mut found: Option<&Object> = None;
+    for object in live {
+        let first = found.is_none_or(|other| object.body[0] < other.body[0]);
+        if first && has_name(thing, &object.body) {
+            found = Some(object);
         }
     }
-    let label = found?.label;
-    Some((label.identity, label.version.saturating_add(1)))
-}
-
-fn is_live(records: &[Held], held: &Held) -> bool {
-    let label = held.label;
-    for other in records {
-        if other.label.identity == label.identity && other.label.version > label.version {
-            return false;
-        }
-    }
-    label.kind != Kind::Delete
+    let found = found?;
+    Some((found.identity, found.version.saturating_add(1)))
 }
 
 // Whether a body has the name of a thing; each item has that of the first.
