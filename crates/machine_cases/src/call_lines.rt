@@ -12,13 +12,13 @@
 ghost use Rattle.std.specs.Prelude.{◌≡◌, true, IfOk};
 ghost use Rattle.machine_cases.specs.Working.{IsIdle, CanBeStopped};
 
-use crate::answer_words::{op_of, reply_of};
 use crate::engine::Engine;
+use crate::event_lines::answer_in;
 use crate::line_fault::LineFault;
+use crate::line_numbers::{first_word, numbers_of};
 use crate::operating::{Call, answer_read, give_up, operate, reclaim, see_durable, tick};
-use crate::word_row::WordRow;
 use mont_base::{BODY, Change, Op};
-use payload::{edge_body, item_body, pair_body, vertex_body};
+use payload::{edge_body, item_body, no_body, pair_body, vertex_body};
 use std::alloc::Global;
 use std::sync::Wait;
 
@@ -52,11 +52,11 @@ fn follow<R: Wait>(
     ensures made { IfOk result (λ made. made ≡ true → IsIdle engine.new) }
     ensures home { IfOk result (λ _. CanBeStopped engine.new) }
 {
-    let mut words = WordRow::of(line);
-    match words.word() {
+    let (kind, words) = first_word(line);
+    match kind {
         "advance" => tick(engine),
         "durable" => Ok(see_durable(engine)),
-        "abandon" => give_up(rt, engine, words.number()?),
+        "abandon" => give_up(rt, engine, numbers_of(words)?[0]),
         _ => {
             let call = call_of(alloc, line)?;
             if call.changes.is_empty() {
@@ -84,54 +84,50 @@ pub fn is_made<R: Wait>(
     }
 }
 
-// The operation of a line.
+// The operation of a line, and what it does to records.
 fn call_of(alloc: Global, line: &str) -> Result<Call, LineFault> {
     let (asked, done) = line.split_once(": ").unwrap_or((line, ""));
-    let mut words = WordRow::of(asked);
-    let op = op_of(&mut words)?;
-    let reply = reply_of(&op, &mut words)?;
-    words.end()?;
-    let changes = changes_of(alloc, &op, done)?;
+    let (op, reply) = answer_in(asked)?;
+    let mut changes = Vec::new(alloc);
+    if !done.is_empty() {
+        push_changes(&mut changes, &op, done)?;
+    }
     Ok(Call { op, reply, changes })
 }
 
-// What an operation does to records.
-fn changes_of(alloc: Global, op: &Op, done: &str) -> Result<Vec<Change>, LineFault> {
-    let mut changes = Vec::new(alloc);
-    if !done.is_empty() {
-        for told in done.split(", ") {
-            changes.push(change_of(op, told)?)?;
-        }
+fn push_changes(changes: &mut Vec<Change>, op: &Op, done: &str) -> Result<(), LineFault> {
+    for told in done.split(", ") {
+        changes.push(change_of(op, told)?)?;
     }
-    Ok(changes)
+    Ok(())
 }
 
 fn change_of(op: &Op, told: &str) -> Result<Change, LineFault> {
-    let mut words = WordRow::of(told);
-    match words.word() {
-        "insert" => Ok(Change::Insert {
-            body: body_of(op, &mut words)?,
-        }),
+    let (kind, words) = first_word(told);
+    let [first, second, ..] = numbers_of(words)?;
+    let body = body_of(op, first);
+    match kind {
+        "insert" => Ok(Change::Insert { body }),
         "replace" => Ok(Change::Replace {
-            slot: words.number()?,
-            identity: words.number()?,
-            body: body_of(op, &mut words)?,
+            slot: first,
+            identity: second,
+            body,
         }),
         "remove" => Ok(Change::Remove {
-            slot: words.number()?,
-            identity: words.number()?,
+            slot: first,
+            identity: second,
         }),
         _ => Err(LineFault::Unclear),
     }
 }
 
-// The body that an operation writes.
-fn body_of(op: &Op, words: &mut WordRow<'_>) -> Result<[u64; BODY], LineFault> {
+// The body that an operation writes, of an item with this serial.
+fn body_of(op: &Op, serial: u64) -> [u64; BODY] {
     match op {
-        Op::Put { key, value } => Ok(pair_body(key, value)),
-        Op::Enq { item, .. } => Ok(item_body(words.number()?, *item)),
-        Op::AddV { vertex, attr, .. } => Ok(vertex_body(*vertex, *attr)),
-        Op::AddE { from, to, attr, .. } => Ok(edge_body((*from, *to), *attr)),
-        _ => Err(LineFault::Unclear),
+        Op::Put { key, value } => pair_body(key, value),
+        Op::Enq { item, .. } => item_body(serial, *item),
+        Op::AddV { vertex, attr, .. } => vertex_body(*vertex, *attr),
+        Op::AddE { from, to, attr, .. } => edge_body((*from, *to), *attr),
+        _ => no_body(),
     }
 }

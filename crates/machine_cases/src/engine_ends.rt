@@ -7,7 +7,7 @@ use crate::line_fault::LineFault;
 use advance::Advancer;
 use heap::{Heap, Seats};
 use heap_pass::Pass;
-use mont_base::{FIRST_CLOCK, Fuel, Layout, Words};
+use mont_base::{FIRST_CLOCK, Fuel, Layout, Receipt, Words};
 use slots::Region;
 use std::alloc::Global;
 
@@ -38,8 +38,8 @@ pub fn begin_with(alloc: Global, layout: Layout, gate: Fuel) -> Result<Engine, L
     })
 }
 
-/// The words with which its heap stops.
-pub fn stop(alloc: Global, engine: Engine) -> Result<Words, LineFault>
+/// The words with which its heap stops, and the receipts of its caller.
+pub fn stop(alloc: Global, engine: Engine) -> Result<(Words, Vec<Receipt>), LineFault>
     requires { CanBeStopped engine }
 {
     let Engine {
@@ -52,7 +52,7 @@ pub fn stop(alloc: Global, engine: Engine) -> Result<Words, LineFault>
     let Pass {
         ticket,
         gate: _,
-        receipts: _,
+        receipts,
         apart: _,
     } = pass;
     units.insert(0, region.into_seat())?;
@@ -63,5 +63,5 @@ pub fn stop(alloc: Global, engine: Engine) -> Result<Words, LineFault>
         advancer: advancer.into_seat(),
         callers,
     };
-    Ok(heap.stop(alloc, seats)?)
+    Ok((heap.stop(alloc, seats)?, receipts))
 }

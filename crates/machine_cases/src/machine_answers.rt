@@ -12,9 +12,10 @@
 //     image       a clock, and the words of all slots: whether a heap of these words has them when
 //                 it is stopped
 use crate::call_lines::play;
-use crate::drawn_puts::{Drawn, holds_cut, put_many};
-use crate::engine_ends::begin_with;
+use crate::drawn_puts::{Drawn, put_many};
+use crate::engine_ends::{begin_with, stop};
 use crate::following::follow_all;
+use crate::held_cuts::tell_cut;
 use crate::line_fault::LineFault;
 use crate::machine_run::{Run, begin, steps_made};
 use crate::moving_clock::least_moved;
@@ -22,7 +23,7 @@ use crate::reopened::reopened;
 use crate::stopped_calls::{first_apart, steps_of};
 use crate::store_line::{StoreLine, store_of};
 use case_file::{Case, Unanswered, numbers_in};
-use mont_base::{Epoch, Fuel, Layout, Words};
+use mont_base::{Fuel, Layout};
 use std::alloc::Global;
 use std::str;
 use std::sync::Wait;
@@ -30,232 +31,170 @@ use std::sync::Wait;
 /// What comes of a case.
 pub fn answer<R: AllocGlobal + Wait>(rt: &R, case: &Case) -> Result<Vec<u8>, Unanswered> {
     let alloc = rt.alloc();
-    let store = match store_of(case.needed("store")?) {
+    let store = match store_of(case) {
         Ok(store) => store,
         Err(why) => return Err(why),
     };
-    if case.part("steps").is_some() {
-        answer_run(rt, alloc, store, case)
-    } else if case.part("calls").is_some() {
-        answer_calls(rt, alloc, store.layout, case)
-    } else if case.part("moves").is_some() {
-        answer_moves(rt, alloc, store.layout, case)
-    } else if case.part("puts").is_some() {
-        answer_puts(rt, alloc, store.layout, case)
-    } else {
-        answer_image(alloc, store.layout, case)
+    let mut told = String::new(alloc);
+    match tell(rt, alloc, &mut told, store, case) {
+        Ok(()) => {}
+        Err(LineFault::Memory) => return Err(Unanswered::Memory),
+        Err(fault) => writeln!(told, "{fault}")?,
     }
+    Ok(told.into_bytes())
 }
 
-// The text of a part.
-fn text_of<'a>(case: &'a Case, head: &'static str) -> Result<&'a str, Unanswered> {
-    match str::from_utf8(case.needed(head)?) {
-        Ok(text) => Ok(text),
-        Err(_) => Err(Unanswered::Unclear { head }),
-    }
-}
-
-// What is told of a fault of the part as a whole.
-fn told_fault(alloc: Global, fault: LineFault) -> Result<Vec<u8>, Unanswered> {
-    match fault {
-        LineFault::Memory => Err(Unanswered::Memory),
-        _ => Ok(format!(in alloc; "{fault}\n")?.into_bytes()),
-    }
-}
-
-fn answer_run<R: Wait>(
+fn tell<R: Wait>(
     rt: &R,
     alloc: Global,
+    told: &mut String,
     store: StoreLine,
     case: &Case,
-) -> Result<Vec<u8>, Unanswered> {
-    let mut run = begin(alloc, store.layout, store.callers)?;
-    follow_case(alloc, &mut run, case)?;
-    match tell_apart(rt, alloc, store.layout, case, &mut run)? {
-        None => Ok(run.told.into_bytes()),
-        Some(fault) => told_fault(alloc, fault),
-    }
-}
-
-// Follows the steps of a case.
-fn follow_case(alloc: Global, run: &mut Run, case: &Case) -> Result<(), Unanswered> {
-    let with_effects = case.part("ask") == Some(b"effects\n");
-    let steps = text_of(case, "steps")?;
-    Ok(follow_all(alloc, run, steps, with_effects)?)
-}
-
-// Tells of the calls of a case, if it has some, whether a heap has other words than the run. It
-// answers the fault of the calls, if they have one.
-fn tell_apart<R: Wait>(
-    rt: &R,
-    alloc: Global,
-    layout: Layout,
-    case: &Case,
-    run: &mut Run,
-) -> Result<Option<LineFault>, Unanswered> {
-    if case.part("calls").is_none() {
-        return Ok(None);
-    }
-    let calls = text_of(case, "calls")?;
-    let steps = steps_made(run);
-    match first_apart(rt, alloc, layout, calls, &run.memories) {
-        Ok(None) => writeln!(run.told, "the same words behind each of {steps} steps")?,
-        Ok(Some(steps)) => writeln!(run.told, "other words behind {steps} steps")?,
-        Err(fault) => return Ok(Some(fault)),
-    }
-    Ok(None)
-}
-
-fn answer_calls<R: Wait>(
-    rt: &R,
-    alloc: Global,
-    layout: Layout,
-    case: &Case,
-) -> Result<Vec<u8>, Unanswered> {
-    let calls = text_of(case, "calls")?;
-    if case.part("counted").is_some() {
-        let counted = text_of(case, "counted")?.trim_end();
-        return match steps_of(rt, alloc, layout, calls, counted) {
-            Ok(steps) => Ok(format!(in alloc; "{steps} steps\n")?.into_bytes()),
-            Err(fault) => told_fault(alloc, fault),
-        };
-    }
-    match made_all(rt, alloc, layout, calls) {
-        Ok(()) => Ok(b"made\n".to_vec(alloc)?),
-        Err(fault) => told_fault(alloc, fault),
-    }
-}
-
-// Makes all calls with a gate that cuts none.
-fn made_all<R: Wait>(rt: &R, alloc: Global, layout: Layout, calls: &str) -> Result<(), LineFault> {
-    let mut engine = begin_with(alloc, layout, Fuel::endless())?;
-    if play(rt, alloc, &mut engine, calls)? {
-        Ok(())
+) -> Result<(), LineFault> {
+    let layout = store.layout;
+    if let Some(steps) = case.part("steps") {
+        tell_run(rt, alloc, told, store, text_of(steps)?, case)
+    } else if let Some(calls) = case.part("calls") {
+        tell_calls(rt, alloc, told, layout, text_of(calls)?, case)
+    } else if let Some(moves) = case.part("moves") {
+        tell_moves(rt, alloc, told, layout, moves)
+    } else if let Some(puts) = case.part("puts") {
+        tell_puts(rt, alloc, told, layout, puts)
+    } else if let Some(image) = case.part("image") {
+        tell_image(alloc, told, layout, image)
     } else {
-        Err(LineFault::Cut)
+        Err(LineFault::Unclear)
     }
 }
 
-fn answer_moves<R: Wait>(
+fn text_of(part: &[u8]) -> Result<&str, LineFault> {
+    match str::from_utf8(part) {
+        Ok(text) => Ok(text),
+        Err(_) => Err(LineFault::Unclear),
+    }
+}
+
+fn numbers_of(alloc: Global, part: &[u8]) -> Result<Vec<u64>, LineFault> {
+    match numbers_in(alloc, "", part) {
+        Ok(numbers) => Ok(numbers),
+        Err(Unanswered::Memory) => Err(LineFault::Memory),
+        Err(_) => Err(LineFault::Unclear),
+    }
+}
+
+fn tell_run<R: Wait>(
     rt: &R,
     alloc: Global,
-    layout: Layout,
+    told: &mut String,
+    store: StoreLine,
+    steps: &str,
     case: &Case,
-) -> Result<Vec<u8>, Unanswered> {
-    let numbers = numbers_in(alloc, "moves", case.needed("moves")?)?;
-    let mut told = String::new(alloc);
-    match tell_moves(&mut told, rt, alloc, layout, numbers.as_slice()) {
-        Ok(()) => Ok(told.into_bytes()),
-        Err(fault) => told_fault(alloc, fault),
+) -> Result<(), LineFault> {
+    let mut run = begin(alloc, store.layout, store.callers)?;
+    follow_case(rt, alloc, &mut run, store.layout, steps, case)?;
+    Ok(told.push_str(run.told.as_str())?)
+}
+
+// Follows the steps of a case, and tells of its calls, if it has some, whether a heap has other
+// words.
+fn follow_case<R: Wait>(
+    rt: &R,
+    alloc: Global,
+    run: &mut Run,
+    layout: Layout,
+    steps: &str,
+    case: &Case,
+) -> Result<(), LineFault> {
+    let with_effects = case.part("ask") == Some(b"effects\n");
+    follow_all(alloc, run, steps, with_effects)?;
+    let Some(calls) = case.part("calls") else {
+        return Ok(());
+    };
+    let steps = steps_made(run);
+    match first_apart(rt, alloc, layout, text_of(calls)?, &run.memories)? {
+        None => writeln!(run.told, "the same words behind each of {steps} steps")?,
+        Some(steps) => writeln!(run.told, "other words behind {steps} steps")?,
     }
+    Ok(())
+}
+
+fn tell_calls<R: Wait>(
+    rt: &R,
+    alloc: Global,
+    told: &mut String,
+    layout: Layout,
+    calls: &str,
+    case: &Case,
+) -> Result<(), LineFault> {
+    match case.part("counted") {
+        Some(counted) => {
+            let steps = steps_of(rt, alloc, layout, calls, text_of(counted)?.trim_end())?;
+            writeln!(told, "{steps} steps")?;
+        }
+        None => {
+            let mut engine = begin_with(alloc, layout, Fuel::endless())?;
+            if !play(rt, alloc, &mut engine, calls)? {
+                return Err(LineFault::Cut);
+            }
+            told.push_str("made\n")?;
+        }
+    }
+    Ok(())
 }
 
 fn tell_moves<R: Wait>(
-    told: &mut String,
     rt: &R,
     alloc: Global,
+    told: &mut String,
     layout: Layout,
-    numbers: &[u64],
+    moves: &[u8],
 ) -> Result<(), LineFault> {
-    for moves in numbers {
+    for moves in &numbers_of(alloc, moves)? {
         let steps = least_moved(rt, alloc, layout, *moves)?;
         writeln!(told, "{moves} moves: {steps} steps")?;
     }
     Ok(())
 }
 
-fn answer_puts<R: Wait>(
+fn tell_puts<R: Wait>(
     rt: &R,
     alloc: Global,
+    told: &mut String,
     layout: Layout,
-    case: &Case,
-) -> Result<Vec<u8>, Unanswered> {
-    let drawn = drawn_in(alloc, case)?;
-    match told_puts(rt, alloc, layout, drawn) {
-        Ok(told) => Ok(told.into_bytes()),
-        Err(fault) => told_fault(alloc, fault),
-    }
+    puts: &[u8],
+) -> Result<(), LineFault> {
+    let drawn = drawn_in(numbers_of(alloc, puts)?.as_slice())?;
+    let mut engine = begin_with(alloc, layout, Fuel::endless())?;
+    put_many(rt, alloc, &mut engine, drawn)?;
+    let (words, receipts) = stop(alloc, engine)?;
+    tell_cut(told, alloc, layout, words.cur.as_slice(), &receipts)?;
+    tell_cut(told, alloc, layout, words.dur.as_slice(), &receipts)
 }
 
-// The puts that a case tells.
-fn drawn_in(alloc: Global, case: &Case) -> Result<Drawn, Unanswered> {
-    let numbers = numbers_in(alloc, "puts", case.needed("puts")?)?;
-    match numbers.as_slice() {
+fn drawn_in(numbers: &[u64]) -> Result<Drawn, LineFault> {
+    match numbers {
         [puts, keys, each] => Ok(Drawn {
             puts: *puts,
             keys: *keys,
             each: *each,
         }),
-        _ => Err(Unanswered::Unclear { head: "puts" }),
+        _ => Err(LineFault::Unclear),
     }
 }
 
-fn told_puts<R: Wait>(
-    rt: &R,
+fn tell_image(
     alloc: Global,
-    layout: Layout,
-    drawn: Drawn,
-) -> Result<String, LineFault> {
-    let (words, epochs) = put_many(rt, alloc, layout, drawn)?;
-    let mut told = String::new(alloc);
-    tell_puts(
-        &mut told,
-        alloc,
-        layout,
-        words.cur.as_slice(),
-        drawn,
-        &epochs,
-    )?;
-    tell_puts(
-        &mut told,
-        alloc,
-        layout,
-        words.dur.as_slice(),
-        drawn,
-        &epochs,
-    )?;
-    Ok(told)
-}
-
-// Tells how many puts are within the cut of an image, and whether it holds it.
-fn tell_puts(
     told: &mut String,
-    alloc: Global,
     layout: Layout,
-    image: &[u64],
-    drawn: Drawn,
-    epochs: &[Epoch],
+    image: &[u8],
 ) -> Result<(), LineFault> {
-    let clock = image.first().copied().unwrap_or(0);
-    let last = clock.saturating_sub(2);
-    let within = epochs.iter().filter(|epoch| **epoch <= last).count();
-    write!(told, "clock {clock}, {within} of {} puts", epochs.len())?;
-    if holds_cut(alloc, layout, image, drawn, epochs)? {
-        writeln!(told, " are held")?;
-    } else {
-        writeln!(told, " aren't held")?;
-    }
-    Ok(())
+    let image = numbers_of(alloc, image)?;
+    let words = reopened(alloc, layout, &image)?;
+    tell_words(told, "current", words.cur.as_slice() == image.as_slice())?;
+    tell_words(told, "durable", words.dur.as_slice() == image.as_slice())
 }
 
-fn answer_image(alloc: Global, layout: Layout, case: &Case) -> Result<Vec<u8>, Unanswered> {
-    let image = numbers_in(alloc, "image", case.needed("image")?)?;
-    match reopened(alloc, layout, &image) {
-        Ok(words) => told_words(alloc, &words, image.as_slice()),
-        Err(fault) => told_fault(alloc, fault),
-    }
-}
-
-// Whether the words of a heap are those of an image.
-fn told_words(alloc: Global, words: &Words, image: &[u64]) -> Result<Vec<u8>, Unanswered> {
-    let (current, durable) = (words.cur.as_slice(), words.dur.as_slice());
-    let mut told = String::new(alloc);
-    tell_words(&mut told, "current", current == image)?;
-    tell_words(&mut told, "durable", durable == image)?;
-    Ok(told.into_bytes())
-}
-
-fn tell_words(told: &mut String, memory: &str, same: bool) -> Result<(), Unanswered> {
+fn tell_words(told: &mut String, memory: &str, same: bool) -> Result<(), LineFault> {
     if same {
         writeln!(told, "the {memory} words are the image")?;
     } else {

@@ -24,22 +24,21 @@ pub struct Run {
 
 /// A run of an empty store with so many callers.
 pub fn begin(alloc: Global, layout: Layout, callers: u64) -> Result<Run, AllocError> {
-    let core = Core::fresh(alloc, layout, callers)?;
-    let mut memories = Vec::new(alloc);
-    memories.push(memories_of(alloc, &core)?)?;
-    Ok(Run {
-        core,
+    let mut run = Run {
+        core: Core::fresh(alloc, layout, callers)?,
         note: None,
-        memories,
+        memories: Vec::new(alloc),
         told: String::new(alloc),
-    })
+    };
+    keep_memories(alloc, &mut run)?;
+    Ok(run)
 }
 
-fn memories_of(alloc: Global, core: &Core) -> Result<Memories, AllocError> {
-    Ok(Memories {
-        current: core.cur.as_slice().to_vec(alloc)?,
-        durable: core.dur.as_slice().to_vec(alloc)?,
-    })
+fn keep_memories(alloc: Global, run: &mut Run) -> Result<(), AllocError> {
+    let current = run.core.cur.as_slice().to_vec(alloc)?;
+    let durable = run.core.dur.as_slice().to_vec(alloc)?;
+    run.memories.push(Memories { current, durable })?;
+    Ok(())
 }
 
 /// How many steps were made.
@@ -50,10 +49,7 @@ pub fn steps_made(run: &Run) -> u64 {
 /// Makes a step, if it is allowed.
 pub fn make(alloc: Global, run: &mut Run, event: &Event) -> Result<(), LineFault> {
     match step(alloc, &mut run.core, event) {
-        Ok(()) => {
-            run.memories.push(memories_of(alloc, &run.core)?)?;
-            Ok(())
-        }
+        Ok(()) => Ok(keep_memories(alloc, run)?),
         Err(StepRefusal::NotAllowed) => Err(LineFault::NotAllowed),
         Err(StepRefusal::Memory) => Err(LineFault::Memory),
     }

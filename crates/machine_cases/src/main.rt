@@ -2,15 +2,17 @@
 //! crashes leave; and the same steps made by calls on a heap, which is stopped before each.
 #![tactic(auto)]
 
-mod answer_words;
 mod call_lines;
 mod crash_images;
 mod drawn_puts;
 mod engine;
 mod engine_ends;
+mod event_lines;
 mod following;
 mod found_records;
+mod held_cuts;
 mod line_fault;
+mod line_numbers;
 mod machine_answers;
 mod machine_run;
 mod many_steps;
@@ -22,10 +24,8 @@ mod reopened;
 mod run_trial;
 mod shown_parts;
 mod step_effects;
-mod step_lines;
 mod stopped_calls;
 mod store_line;
-mod word_row;
 
 use anyhow::Result;
 use run_trial::try_runs;

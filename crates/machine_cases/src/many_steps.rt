@@ -1,7 +1,7 @@
 // Lines that stand for many steps: a record that is written whole, and an advance of the clock.
 use crate::line_fault::LineFault;
+use crate::line_numbers::{first_word, numbers_of};
 use crate::machine_run::{Run, make};
-use crate::word_row::WordRow;
 use core_steps::{AdvPart, Core, Event, UnitStage};
 use mont_base::FIELDS;
 use std::alloc::Global;
@@ -10,12 +10,13 @@ use std::alloc::Global;
 const MOST_STEPS: u64 = 100_000;
 
 /// The twelve stores of a record, of the epoch in which the unit is registered:
-/// `UNIT SLOT KIND IDENTITY VERSION` and the words of its body.
-pub fn write(alloc: Global, run: &mut Run, words: &mut WordRow<'_>) -> Result<(), LineFault> {
-    let unit = words.number()?;
-    let slot = words.number()?;
+/// `KIND UNIT SLOT IDENTITY VERSION` and the words of its body.
+pub fn write(alloc: Global, run: &mut Run, line: &str) -> Result<(), LineFault> {
+    let (kind, words) = first_word(line);
+    let numbers = numbers_of(words)?;
+    let (unit, slot) = (numbers[0], numbers[1]);
     let epoch = epoch_of(&run.core, unit);
-    let record = record_words(epoch, unit, words)?;
+    let record = record_words(epoch, kind, unit, &numbers[2..]);
     for field in 1..=FIELDS {
         let field = field % FIELDS;
         let store = Event::Store {
@@ -30,38 +31,27 @@ pub fn write(alloc: Global, run: &mut Run, words: &mut WordRow<'_>) -> Result<()
 }
 
 fn epoch_of(core: &Core, unit: u64) -> u64 {
-    match core.units.get(unit) {
-        Some(part) => match part.stage {
-            UnitStage::Within { epoch } => epoch,
-            _ => 0,
-        },
-        None => 0,
+    match core.units.get(unit).map(|part| part.stage) {
+        Some(UnitStage::Within { epoch }) => epoch,
+        _ => 0,
     }
 }
 
-/// The words of a record: kind, identity, version and body are told, and zeros behind them aren't.
-pub fn record_words(
-    epoch: u64,
-    unit: u64,
-    words: &mut WordRow<'_>,
-) -> Result<[u64; FIELDS], LineFault> {
+/// The words of a record: kind, and identity, version and body. A kind that there is not is 0.
+pub fn record_words(epoch: u64, kind: &str, unit: u64, told: &[u64]) -> [u64; FIELDS] {
+    let kind: u64 = match kind {
+        "new" => 256,
+        "copy" => 512,
+        "delete" => 768,
+        _ => 0,
+    };
     let mut record = [0; FIELDS];
     record[0] = epoch;
-    record[1] = kind_word(words.word())?.saturating_add(unit);
-    for word in record[2..].iter_mut() {
-        *word = words.number_or_zero()?;
+    record[1] = kind.saturating_add(unit);
+    for (word, value) in record[2..].iter_mut().zip(told) {
+        *word = *value;
     }
-    Ok(record)
-}
-
-// The kind's part of a label's second word.
-fn kind_word(name: &str) -> Result<u64, LineFault> {
-    match name {
-        "new" => Ok(256),
-        "copy" => Ok(512),
-        "delete" => Ok(768),
-        _ => Err(LineFault::Unclear),
-    }
+    record
 }
 
 /// All that the advancer writes back at this clock.

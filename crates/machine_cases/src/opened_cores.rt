@@ -1,58 +1,52 @@
 // Cores that a crash left, filled by hand: words that stand in both memories, and slots that wait
 // to be closed.
 use crate::line_fault::LineFault;
+use crate::line_numbers::{first_word, numbers_of};
 use crate::many_steps::record_words;
-use crate::word_row::WordRow;
 use core_steps::{Core, Retired};
-use mont_base::{Epoch, FIELDS, Held, LAST, Sequence, Slot, Unit};
+use mont_base::{FIELDS, Held, LAST, Slot};
 use plain::record_at;
 
-/// The clock in both memories.
-pub fn open(core: &mut Core, clock: Epoch) -> Result<(), LineFault> {
-    put_word(&mut core.cur, 0, clock)?;
-    put_word(&mut core.dur, 0, clock)
+/// `CLOCK`: the clock in both memories.
+pub fn open(core: &mut Core, line: &str) -> Result<(), LineFault> {
+    let [clock, ..] = numbers_of(line)?;
+    put_word(core, 0, clock);
+    Ok(())
 }
 
-fn put_word(words: &mut Sequence<u64>, place: u64, value: u64) -> Result<(), LineFault> {
-    if place < words.len() {
-        words.set(place, value);
-        Ok(())
-    } else {
-        Err(LineFault::Unclear)
+// A word in both memories, where there is such a one.
+fn put_word(core: &mut Core, place: u64, value: u64) {
+    if place < core.cur.len() && place < core.dur.len() {
+        core.cur.set(place, value);
+        core.dur.set(place, value);
     }
 }
 
-/// A slot with its words in both memories. Within the cut it is a record, and beyond it lost.
-pub fn hold(core: &mut Core, words: &mut WordRow<'_>) -> Result<(), LineFault> {
-    let unit = words.number()?;
-    let slot = words.number()?;
-    let epoch = words.number()?;
-    let record = record_words(epoch, unit, words)?;
+/// `KIND UNIT SLOT EPOCH IDENTITY VERSION` and the words of its body: a slot with these words in
+/// both memories. Within the cut it is a record, and beyond it lost.
+pub fn hold(core: &mut Core, line: &str) -> Result<(), LineFault> {
+    let (kind, words) = first_word(line);
+    let numbers = numbers_of(words)?;
+    let (unit, slot) = (numbers[0], numbers[1]);
+    let record = record_words(numbers[2], kind, unit, &numbers[3..]);
     for (field, value) in record.iter().enumerate() {
-        let place = place_of(slot, field as u64);
-        put_word(&mut core.cur, place, *value)?;
-        put_word(&mut core.dur, place, *value)?;
+        put_word(core, place_of(slot, field as u64), *value);
     }
-    take_in(core, unit, slot)
-}
-
-/// Which word a field of a slot is.
-pub fn place_of(slot: Slot, field: u64) -> u64 {
-    let label = slot.saturating_mul(FIELDS as u64).saturating_add(1);
-    label.saturating_add(field)
-}
-
-fn take_in(core: &mut Core, unit: Unit, slot: Slot) -> Result<(), LineFault> {
     let found = found_at(core, slot);
     if unit >= core.units.len() {
         return Err(LineFault::Unclear);
     }
     let part = core.units.item_mut(unit);
     match found {
-        Some(held) => part.records.push(held)?,
-        None => part.lost.push(slot)?,
+        Some(held) => Ok(part.records.push(held)?),
+        None => Ok(part.lost.push(slot)?),
     }
-    Ok(())
+}
+
+/// Which word a field of a slot is.
+pub fn place_of(slot: Slot, field: u64) -> u64 {
+    let label = slot.saturating_mul(FIELDS as u64).saturating_add(1);
+    label.saturating_add(field)
 }
 
 // The record of a slot within the cut.
@@ -65,11 +59,9 @@ fn found_at(core: &Core, slot: Slot) -> Option<Held> {
     record_at(&layout, image, slot)
 }
 
-/// A slot that waits with an epoch to be closed.
-pub fn wait_for(core: &mut Core, words: &mut WordRow<'_>) -> Result<(), LineFault> {
-    let unit = words.number()?;
-    let slot = words.number()?;
-    let epoch = words.number()?;
+/// `UNIT SLOT EPOCH`: a slot that waits with an epoch to be closed.
+pub fn wait_for(core: &mut Core, line: &str) -> Result<(), LineFault> {
+    let [unit, slot, epoch, ..] = numbers_of(line)?;
     if unit >= core.units.len() {
         return Err(LineFault::Unclear);
     }

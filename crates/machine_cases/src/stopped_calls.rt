@@ -41,7 +41,8 @@ fn words_after<R: Wait>(
 ) -> Result<(Words, bool), LineFault> {
     let mut engine = begin_with(alloc, layout, Fuel::new(steps))?;
     let ended = play(rt, alloc, &mut engine, calls)?;
-    Ok((stop(alloc, engine)?, ended))
+    let (words, _) = stop(alloc, engine)?;
+    Ok((words, ended))
 }
 
 /// How many steps a call takes behind others: a gate that passes so many doesn't cut it, and one

@@ -1,8 +1,8 @@
 // The part `store` of a case: the kinds of the units, the slots of each, and how many callers there
 // are.
-use case_file::Unanswered;
-use mont_base::{Kinds, Layout};
-use std::str;
+use case_file::{Case, Unanswered};
+use job_text::{layout, number_within, words};
+use mont_base::Layout;
 
 /// An empty store.
 #[derive(Clone, Copy)]
@@ -11,23 +11,22 @@ pub struct StoreLine {
     pub callers: u64,
 }
 
-/// The store of a part.
-pub fn store_of(part: &[u8]) -> Result<StoreLine, Unanswered> {
-    match str::from_utf8(part) {
-        Ok(line) => store_in(line).ok_or(Unanswered::Unclear { head: "store" }),
-        Err(_) => Err(Unanswered::Unclear { head: "store" }),
+/// The store of a case.
+pub fn store_of(case: &Case) -> Result<StoreLine, Unanswered> {
+    let part = case.needed("store")?;
+    match store_in(part.strip_suffix(b"\n").unwrap_or(part)) {
+        Some(store) => Ok(store),
+        None => Err(Unanswered::Unclear { head: "store" }),
     }
 }
 
-fn store_in(line: &str) -> Option<StoreLine> {
-    let (letters, rest) = line.trim_end().split_once(' ')?;
-    let (slots, callers) = rest.split_once(' ')?;
-    let kinds = Kinds::of_letters(letters.as_bytes()).ok()?;
-    let layout = Layout::new(kinds, slots.parse().ok()?).ok()?;
-    let callers = callers.parse().ok()?;
-    if (1..=8).contains(&callers) {
-        Some(StoreLine { layout, callers })
-    } else {
-        None
-    }
+fn store_in(line: &[u8]) -> Option<StoreLine> {
+    let words = words::<3>(line)?;
+    let [kinds, slots, callers] = words.as_slice() else {
+        return None;
+    };
+    Some(StoreLine {
+        layout: layout(kinds, slots)?,
+        callers: number_within(callers, 1, 8)?,
+    })
 }
