@@ -7,8 +7,6 @@ mod map_body;
 mod queue_body;
 mod read;
 mod spare;
-#[cfg(test)]
-mod tests;
 mod write;
 
 pub use graph_body::{edge_body, edge_in, is_edge_body, is_vertex_body, vertex_body, vertex_in};
