@@ -2,18 +2,30 @@
 ghost use Rattle.std.specs.Prelude.{◌≡◌, ◌≤◌, false, IsTrue, IfOk};
 ghost use Rattle.mont_image.specs.Picking.{HasClock};
 
-use crate::script_refusal::ScriptFault;
+use crate::script_fault::ScriptFault;
 use mont_base::{FIRST_CLOCK, LAST, Sequence, Words};
 use mont_image::{Image, pick};
-use recover::{RecoverRefusal, Recovered, recover};
+use recover::{Recovered, recover};
 use std::alloc::Global;
 use std::thread::Threads;
 
 // How many threads read an image.
 const WORKERS: u64 = 4;
 
-/// The image that a mask picks.
-pub fn picked(alloc: Global, words: &Words, mask: u64) -> Result<Image, ScriptFault>
+/// The store of the image that a mask picks, with so many callers.
+pub fn store_in(
+    rt: &(impl Threads + Sync),
+    alloc: Global,
+    words: &Words,
+    mask: u64,
+    callers: u64,
+) -> Result<Recovered, ScriptFault> {
+    let image = picked(alloc, words, mask)?;
+    opened(rt, alloc, &image, callers)
+}
+
+// The image that a mask picks.
+fn picked(alloc: Global, words: &Words, mask: u64) -> Result<Image, ScriptFault>
     ensures { IfOk result (λ image. image.old ≡ false) }
 {
     let size = words.layout.words();
@@ -48,7 +60,6 @@ pub fn opened(
     }
     match recover(rt, alloc, image, WORKERS, callers) {
         Ok(store) => Ok(store),
-        Err(RecoverRefusal::Memory) => Err(ScriptFault::Memory),
         Err(_refusal) => Err(ScriptFault::Image),
     }
 }

@@ -1,11 +1,11 @@
 //! Tries worked cases of a store: scripts of calls by several callers, and what each is answered.
 #![tactic(auto)]
 
-mod contents_lines;
 mod drawn_calls;
 mod drawn_work;
+mod empty_box;
+mod entry_words;
 mod history_lines;
-mod job_words;
 mod judged_round;
 mod left_looks;
 mod left_words;
@@ -14,15 +14,12 @@ mod refusing_index;
 mod round_ends;
 mod round_openings;
 mod round_play;
-mod script;
-mod script_draft;
-mod script_lines;
-mod script_reader;
-mod script_refusal;
-mod script_rounds;
+mod scene;
+mod script_fault;
+mod script_runs;
+mod script_words;
 mod scripted_caller;
 mod shift_words;
-mod step_table;
 mod store_trial;
 mod told_calls;
 mod told_images;

@@ -1,47 +1,57 @@
 // A store that is worked on and stopped, whichever way it was opened.
-ghost use Rattle.std.specs.Prelude.{◌≡◌, ◌≤◌, [], map, vec_len, vec_capacity, IfOk};
+ghost use Rattle.std.specs.Prelude.{◌≡◌, ◌≤◌, [], map, vec_len, vec_capacity, All, IfOk};
 ghost use Rattle.heap.specs.Stops.{AreCallersOf, IsSeatOfCaller};
+ghost use Rattle.heap_pass.specs.Kept.{IsWhole};
 ghost use Rattle.store.specs.Store.{AreAllCallers};
 
-use crate::script::WorkLine;
-use crate::script_refusal::{ScriptFault, ScriptRefusal};
+use crate::scene::Scene;
+use crate::script_fault::ScriptFault;
 use crate::scripted_caller::Caller;
-use crate::works_done::{Scene, do_works};
+use crate::works_done::do_works;
 use heap_pass::{HeapName, Pass};
 use index_kit::Index;
 use mont_base::Fuel;
 use std::alloc::Global;
 use std::sync::Wait;
 use store::Store;
-use store_stop::{Stopped, are_whole};
+use store_stop::are_whole;
 
-/// What stopping a store gave, once its works were done.
-#[derive(Drop)]
-pub struct Ended {
-    pub done: Result<(), ScriptRefusal>,
-    pub stopped: Stopped,
-}
-
-/// Lets the callers of these passes do what each line says, and stops the store.
+/// Lets the callers of these passes do what each line up to the stop says, and stops the store.
 pub fn work_and_stop<R: Wait, N: HeapName, I: Index>(
     rt: &R,
-    alloc: Global,
+    scene: &mut Scene<'_>,
     store: Store<N, I>,
     passes: Vec<Pass<Fuel>>,
-    scene: &mut Scene,
-    works: &[WorkLine],
-) -> Result<Ended, ScriptFault>
+) -> Result<(), ScriptFault>
     requires { AreAllCallers N.heap (map (λ p. p.ticket) passes.items) }
 {
-    let room = Vec::with_capacity(alloc, passes.len())?;
+    let passes = worked(rt, scene, &store, passes)?;
+    scene.left = Some(store.stop(scene.alloc, passes)?);
+    Ok(())
+}
+
+// Lets the callers of these passes do what each line up to the stop says.
+fn worked<R: Wait, N: HeapName, I: Index>(
+    rt: &R,
+    scene: &mut Scene<'_>,
+    store: &Store<N, I>,
+    passes: Vec<Pass<Fuel>>,
+) -> Result<Vec<Pass<Fuel>>, ScriptFault>
+    requires { AreAllCallers N.heap (map (λ p. p.ticket) passes.items) }
+    ensures all { IfOk result (λ passes. AreAllCallers N.heap
+        (map (λ p. p.ticket) passes.items)) }
+    ensures whole { IfOk result (λ passes. All (λ p. IsWhole p.ticket p.receipts.items)
+        passes.items) }
+{
+    let room = Vec::with_capacity(scene.alloc, passes.len())?;
     let mut callers = callers_of(passes, room);
-    let done = do_works(rt, &store, callers.as_mut_slice(), scene, works);
-    let passes = passes_of(alloc, callers)?;
-    if !are_whole(passes.as_slice()) {
-        return Err(ScriptFault::Caller);
+    do_works(rt, scene, store, callers.as_mut_slice())?;
+    let passes = passes_of(scene.alloc, callers)?;
+    if are_whole(passes.as_slice()) {
+        Ok(passes)
+    } else {
+        Err(ScriptFault::Caller)
     }
-    let stopped = store.stop(alloc, passes)?;
-    Ok(Ended { done, stopped })
 }
 
 // The callers of these passes, in their order, in a vector that has room for them.

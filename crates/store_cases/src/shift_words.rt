@@ -1,43 +1,32 @@
-// How answers to shifts are told: both receipts, or why it was refused.
-use crate::job_words::text_word;
-use crate::script_refusal::ScriptFault;
-use crate::told_calls::tell_receipt;
-use job_text::Outcome;
-use mont_base::{Receipt, Text, Unit};
+// How refusals of shifts are told.
+use crate::told_calls::{tell_receipt, tell_refusal};
+use job_text::{Deed, Outcome};
+use mont_base::{CallRefusal, Op, PairList, Receipt, Text, Unit};
 use std::alloc::{AllocError, Global};
 use store::ShiftRefusal;
 
-/// Tells what a shift was answered. A cut behind the first of its two entries tells that one too.
-pub fn tell_shift(
+/// Tells why a shift was refused. A cut behind the first of its two entries tells that one too.
+pub fn tell_shift_refusal(
     told: &mut String,
     alloc: Global,
-    answer: &Result<(Receipt, Receipt), ShiftRefusal>,
-) -> Result<(), ScriptFault> {
-    match answer {
-        Ok((out, into)) => {
-            tell_receipt(told, alloc, out)?;
-            write!(told, ", ")?;
-            tell_receipt(told, alloc, into)
-        }
-        Err(refusal) => tell_refusal(told, alloc, refusal),
-    }
-}
-
-fn tell_refusal(
-    told: &mut String,
-    alloc: Global,
-    refusal: &ShiftRefusal,
-) -> Result<(), ScriptFault> {
+    refusal: ShiftRefusal,
+) -> Result<(), AllocError> {
     match refusal {
-        ShiftRefusal::Missing { key } => tell_missing(told, alloc, *key),
-        ShiftRefusal::Cut { unit, first } => tell_cut(told, alloc, *unit, first),
-        _ => Ok(tell_other(told, *refusal)?),
+        ShiftRefusal::Missing { key } => tell_missing(told, alloc, key),
+        ShiftRefusal::Cut { unit, first } => tell_cut(told, alloc, unit, &first),
+        ShiftRefusal::SameUnit { unit } => write!(told, "sameunit {unit}"),
+        ShiftRefusal::Short { have } => write!(told, "short {have}"),
+        ShiftRefusal::Over { have } => write!(told, "over {have}"),
+        _ => tell_other(told, refusal),
     }
 }
 
-fn tell_missing(told: &mut String, alloc: Global, key: Text) -> Result<(), ScriptFault> {
-    let word = text_word(alloc, key)?;
-    Ok(write!(told, "missing {word}")?)
+// Tells which key is missing, as the deed spells it that gets it.
+fn tell_missing(told: &mut String, alloc: Global, key: Text) -> Result<(), AllocError> {
+    let op = Op::Get { key };
+    let deed = format!(in alloc; "{}", Deed::Call { op })?;
+    let word = deed.as_str().strip_prefix("get").unwrap_or("");
+    write!(told, "missing{word}")
 }
 
 // Tells a cut, and the entry that was added before it.
@@ -46,30 +35,30 @@ fn tell_cut(
     alloc: Global,
     unit: Unit,
     first: &Option<Receipt>,
-) -> Result<(), ScriptFault> {
+) -> Result<(), AllocError> {
     write!(told, "{}", Outcome::CutIn { unit })?;
     if let Some(receipt) = first {
         write!(told, " behind ")?;
-        tell_receipt(told, alloc, receipt)?;
+        tell_receipt(told, alloc, receipt, &PairList::empty())?;
     }
     Ok(())
 }
 
-// Tells a refusal that is neither of these.
+// Tells a refusal that an operation may meet too.
 fn tell_other(told: &mut String, refusal: ShiftRefusal) -> Result<(), AllocError> {
-    match refusal {
-        ShiftRefusal::SameUnit { unit } => write!(told, "sameunit {unit}"),
-        ShiftRefusal::Halted { unit, by } => write!(told, "{}", Outcome::Halted { unit, by }),
-        ShiftRefusal::Short { have } => write!(told, "short {have}"),
-        ShiftRefusal::Over { have } => write!(told, "over {have}"),
-        ShiftRefusal::CountEnd { which } => write!(told, "{}", Outcome::CountEnd { which }),
-        ShiftRefusal::Memory => write!(told, "memory"),
+    let refusal = match refusal {
+        ShiftRefusal::Halted { unit, by } => CallRefusal::Halted { unit, by },
+        ShiftRefusal::CountEnd { which } => CallRefusal::CountEnd { which },
         ShiftRefusal::Full {
             unit,
             need,
             free,
             clock,
-        } => write!(told, "unit {unit} {}", Outcome::Full { need, free, clock }),
-        ShiftRefusal::Missing { .. } | ShiftRefusal::Cut { .. } => Ok(()),
-    }
+        } => {
+            write!(told, "unit {unit} ")?;
+            CallRefusal::Full { need, free, clock }
+        }
+        _ => CallRefusal::Memory,
+    };
+    tell_refusal(told, refusal)
 }

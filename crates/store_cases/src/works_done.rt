@@ -1,198 +1,155 @@
 // What callers do with a store, line by line, and what is told of it.
-use crate::drawn_work::{draw_calls, tell_drawn};
-use crate::plain_units::PlainUnits;
-use crate::script::{Run, Work, WorkLine};
-use crate::script_refusal::{ScriptFault, ScriptRefusal};
+use crate::drawn_work::draw;
+use crate::plain_units::agrees;
+use crate::scene::Scene;
+use crate::script_fault::ScriptFault;
+use crate::script_words::{number_in, op_in, text_in};
 use crate::scripted_caller::Caller;
-use crate::shift_words::tell_shift;
-use crate::told_calls::{tell_call, tell_sync, tell_tick};
+use crate::shift_words::tell_shift_refusal;
+use crate::told_calls::{tell_receipt, tell_refusal, tell_sync, tell_tick};
 use heap_pass::HeapName;
 use index_kit::Index;
-use job_text::Deed;
-use mont_base::{Fuel, Op, PairList, Receipt, Text};
-use std::alloc::Global;
+use mont_base::{Fuel, PairList, Receipt};
 use std::sync::Wait;
 use store::Store;
 
-/// What stands beside a store while it is worked on.
-#[derive(Drop)]
-pub struct Scene {
-    pub alloc: Global,
-    pub run: Run,
-    pub plain: PlainUnits,
-    /// What is told so far.
-    pub told: String,
-}
-
-impl Scene {
-    /// Before anything is told, beside these plain structures.
-    pub fn new(alloc: Global, run: Run, plain: PlainUnits) -> Scene {
-        Scene {
-            alloc,
-            run,
-            plain,
-            told: String::new(alloc),
-        }
-    }
-}
-
-/// Does what each line says.
+/// Does what each line up to the stop says.
 pub fn do_works<R: Wait, N: HeapName, I: Index>(
     rt: &R,
+    scene: &mut Scene<'_>,
     store: &Store<N, I>,
     callers: &mut [Caller<N>],
-    scene: &mut Scene,
-    works: &[WorkLine],
-) -> Result<(), ScriptRefusal> {
-    for line in works {
-        match do_work(rt, store, callers, scene, line) {
-            Ok(()) => {}
-            Err(fault) => {
-                let line = line.number;
-                return Err(ScriptRefusal { line, fault });
-            }
+) -> Result<(), ScriptFault> {
+    for line in scene.unread() {
+        scene.read = scene.read.saturating_add(1);
+        if *line == "stop" {
+            return Ok(());
         }
+        do_work(rt, scene, store, callers, line)?;
     }
-    Ok(())
+    Err(ScriptFault::Place)
 }
 
 fn do_work<R: Wait, N: HeapName, I: Index>(
     rt: &R,
+    scene: &mut Scene<'_>,
     store: &Store<N, I>,
     callers: &mut [Caller<N>],
-    scene: &mut Scene,
-    line: &WorkLine,
+    line: &str,
 ) -> Result<(), ScriptFault> {
-    if let Work::Tells { other } = line.work {
-        return tell_other(store, callers, scene, line.caller, other);
+    let (caller, asked) = line.split_once(' ').ok_or(ScriptFault::Unclear)?;
+    let caller = number_in(caller)?;
+    if let Some(other) = asked.strip_prefix("tells ") {
+        return tell_other(scene, store, callers, caller, number_in(other)?);
     }
-    let Some(caller) = callers.get_mut(line.caller as usize) else {
-        return Err(ScriptFault::Caller);
-    };
-    match line.work {
-        Work::Draws { draws, whole } => {
-            let drawn = draw_calls(rt, store, caller, &mut scene.plain, &draws)?;
-            write!(scene.told, "{}: ", line.text)?;
-            Ok(tell_drawn(&mut scene.told, drawn, whole)?)
-        }
-        Work::Fuel { .. } | Work::Endless => {
-            set_gate(caller, scene.run, &line.work);
-            Ok(())
-        }
-        _ => {
-            write!(scene.told, "{}: ", line.text)?;
-            ask_or_shift(rt, store, caller, scene, &line.work)?;
-            Ok(writeln!(scene.told)?)
-        }
+    let caller = caller_at(callers, caller)?;
+    if let Some(steps) = asked.strip_prefix("fuel ") {
+        caller.set_gate(Fuel::new(scene.steps(steps)?));
+        return Ok(());
     }
+    if asked == "endless" {
+        caller.set_gate(Fuel::endless());
+        return Ok(());
+    }
+    write!(scene.told, "{line}: ")?;
+    ask(rt, scene, store, caller, asked)?;
+    Ok(writeln!(scene.told)?)
 }
 
-// Gives a caller another gate.
-fn set_gate<N: HeapName>(caller: &mut Caller<N>, run: Run, work: &Work) {
-    match work {
-        Work::Fuel { steps } => caller.set_gate(Fuel::new(steps.number(run.each))),
-        _ => caller.set_gate(Fuel::endless()),
-    }
-}
-
-// A caller asks what a line of a job may ask, or shifts an amount.
-fn ask_or_shift<R: Wait, N: HeapName, I: Index>(
-    rt: &R,
-    store: &Store<N, I>,
-    caller: &mut Caller<N>,
-    scene: &mut Scene,
-    work: &Work,
-) -> Result<(), ScriptFault> {
-    match work {
-        Work::Asks { deed } => ask(rt, store, caller, scene, deed),
-        Work::Shifts { from, to, amount } => {
-            shift(rt, store, caller, scene, *from, *to, *amount)
-        }
-        _ => Ok(()),
-    }
-}
-
-// A caller asks what a line of a job may ask.
-fn ask<R: Wait, N: HeapName, I: Index>(
-    rt: &R,
-    store: &Store<N, I>,
-    caller: &mut Caller<N>,
-    scene: &mut Scene,
-    deed: &Deed,
-) -> Result<(), ScriptFault> {
-    match deed {
-        Deed::Call { op } => call(rt, store, caller, scene, op),
-        Deed::Tick => tell_tick(&mut scene.told, caller.tick(rt, store)),
-        Deed::Sync => tell_sync(&mut scene.told, caller.sync(rt, store)),
-    }
-}
-
-// A caller makes an operation, and so do the plain structures.
-fn call<R: Wait, N: HeapName, I: Index>(
-    rt: &R,
-    store: &Store<N, I>,
-    caller: &mut Caller<N>,
-    scene: &mut Scene,
-    op: &Op,
-) -> Result<(), ScriptFault> {
-    let mut pairs = PairList::empty();
-    let Some(answer) = caller.call(rt, store, op, &mut pairs) else {
-        return Err(ScriptFault::Operation);
-    };
-    tell_call(&mut scene.told, scene.alloc, &answer, &pairs)?;
-    if let Ok(receipt) = &answer {
-        if !scene.plain.agree(receipt, &pairs)? {
-            write!(scene.told, ", and not in a plain structure")?;
-        }
-    }
-    Ok(())
-}
-
-// A caller shifts an amount, and so do the plain structures.
-fn shift<R: Wait, N: HeapName, I: Index>(
-    rt: &R,
-    store: &Store<N, I>,
-    caller: &mut Caller<N>,
-    scene: &mut Scene,
-    from: Text,
-    to: Text,
-    amount: u64,
-) -> Result<(), ScriptFault> {
-    let Some(answer) = caller.shift(rt, store, from, to, amount) else {
-        return Err(ScriptFault::Operation);
-    };
-    tell_shift(&mut scene.told, scene.alloc, &answer)?;
-    match &answer {
-        Ok((out, into)) => shift_plainly(scene, out, into),
-        Err(_refusal) => Ok(()),
-    }
-}
-
-// The plain structures make both operations of a shift.
-fn shift_plainly(scene: &mut Scene, out: &Receipt, into: &Receipt) -> Result<(), ScriptFault> {
-    let none = PairList::empty();
-    let agrees = scene.plain.agree(out, &none)?;
-    if !scene.plain.agree(into, &none)? || !agrees {
-        write!(scene.told, ", and not in plain structures")?;
-    }
-    Ok(())
+fn caller_at<N: HeapName>(
+    callers: &mut [Caller<N>],
+    number: u64,
+) -> Result<&mut Caller<N>, ScriptFault> {
+    callers.get_mut(number as usize).ok_or(ScriptFault::Caller)
 }
 
 // A caller tells another what it has seen.
 fn tell_other<N: HeapName, I: Index>(
+    scene: &Scene<'_>,
     store: &Store<N, I>,
     callers: &mut [Caller<N>],
-    scene: &mut Scene,
     caller: u64,
     other: u64,
 ) -> Result<(), ScriptFault> {
-    let Some(telling) = callers.get_mut(caller as usize) else {
-        return Err(ScriptFault::Caller);
-    };
-    let news = telling.tell(scene.alloc, store)?;
-    let Some(hearing) = callers.get_mut(other as usize) else {
-        return Err(ScriptFault::Caller);
-    };
-    hearing.hear(store, news);
+    let news = caller_at(callers, caller)?.tell(scene.alloc, store)?;
+    caller_at(callers, other)?.hear(store, news);
+    Ok(())
+}
+
+// A caller asks something of the store, and is told what came of it.
+fn ask<R: Wait, N: HeapName, I: Index>(
+    rt: &R,
+    scene: &mut Scene<'_>,
+    store: &Store<N, I>,
+    caller: &mut Caller<N>,
+    asked: &str,
+) -> Result<(), ScriptFault> {
+    let words: Vec<&str> = asked.split(' ').collect(scene.alloc)?;
+    match words.as_slice() {
+        ["tick"] => Ok(tell_tick(&mut scene.told, caller.tick(rt, store))?),
+        ["sync"] => Ok(tell_sync(&mut scene.told, caller.sync(rt, store))?),
+        ["shift", from, to, amount] => shift(rt, scene, store, caller, from, to, amount),
+        [how @ ("draws" | "tries"), many, seed, names] => {
+            draw(
+                rt,
+                scene,
+                store,
+                caller,
+                [many, seed, names],
+                *how == "draws",
+            )
+        }
+        _ => call(rt, scene, store, caller, asked),
+    }
+}
+
+// A caller makes an operation.
+fn call<R: Wait, N: HeapName, I: Index>(
+    rt: &R,
+    scene: &mut Scene<'_>,
+    store: &Store<N, I>,
+    caller: &mut Caller<N>,
+    asked: &str,
+) -> Result<(), ScriptFault> {
+    let mut pairs = PairList::empty();
+    match caller.call(rt, store, &op_in(asked)?, &mut pairs) {
+        Some(Ok(receipt)) => tell_answered(scene, &receipt, &pairs),
+        Some(Err(refusal)) => Ok(tell_refusal(&mut scene.told, refusal)?),
+        None => Err(ScriptFault::Operation),
+    }
+}
+
+// A caller shifts an amount.
+fn shift<R: Wait, N: HeapName, I: Index>(
+    rt: &R,
+    scene: &mut Scene<'_>,
+    store: &Store<N, I>,
+    caller: &mut Caller<N>,
+    from: &str,
+    to: &str,
+    amount: &str,
+) -> Result<(), ScriptFault> {
+    let (from, to) = (text_in(from)?, text_in(to)?);
+    match caller.shift(rt, store, from, to, number_in(amount)?) {
+        Some(Ok((out, into))) => {
+            tell_answered(scene, &out, &PairList::empty())?;
+            write!(scene.told, ", ")?;
+            tell_answered(scene, &into, &PairList::empty())
+        }
+        Some(Err(refusal)) => Ok(tell_shift_refusal(&mut scene.told, scene.alloc, refusal)?),
+        None => Err(ScriptFault::Operation),
+    }
+}
+
+// Tells an answer, and whether the plain structures make another of the operation.
+fn tell_answered(
+    scene: &mut Scene<'_>,
+    receipt: &Receipt,
+    pairs: &PairList,
+) -> Result<(), ScriptFault> {
+    tell_receipt(&mut scene.told, scene.alloc, receipt, pairs)?;
+    if !agrees(scene.plain.as_mut_slice(), receipt, pairs)? {
+        write!(scene.told, ", and not in a plain structure")?;
+    }
     Ok(())
 }
