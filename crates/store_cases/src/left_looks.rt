@@ -18,7 +18,8 @@ pub fn tell_look(
     scene: &mut Scene<'_>,
     asked: &[&str],
 ) -> Result<(), ScriptFault> {
-    let (told, alloc) = (&mut scene.told, scene.alloc);
+    let alloc = scene.alloc;
+    let told = &mut scene.told;
     let Some(left) = &scene.left else {
         return Err(ScriptFault::Place);
     };
@@ -68,16 +69,21 @@ fn tell_images(
 // Tells each text once, behind all of its masks.
 fn tell_texts(told: &mut String, masks: &[u64], texts: &[String]) -> Result<(), AllocError> {
     for (at, text) in texts.iter().enumerate() {
-        if !texts[..at]
-            .iter()
-            .any(|earlier| earlier.as_str() == text.as_str())
-        {
+        if is_first(texts, at, text.as_str()) {
             write!(told, "image of")?;
             tell_masks(told, masks, texts, text.as_str())?;
             write!(told, "\n{text}")?;
         }
     }
     Ok(())
+}
+
+// Whether no text before a place is this one.
+fn is_first(texts: &[String], at: usize, text: &str) -> bool {
+    texts
+        .iter()
+        .take(at)
+        .all(|earlier| earlier.as_str() != text)
 }
 
 // Tells the masks of a text.

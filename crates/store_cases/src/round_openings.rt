@@ -33,8 +33,7 @@ pub fn play_fresh<R: Wait, I: EmptyBox>(
         return Err(ScriptFault::Setting);
     }
     scene.plain = Contents::empty(alloc, layout)?.units.into_vec();
-    let gates = endless_gates(alloc, callers)?;
-    let boxes = boxes_of::<I>(alloc, scene.run.rooms)?;
+    let (gates, boxes) = outfit::<I>(scene, callers)?;
     let (heap, seats) = new_heap(alloc, layout, callers)?;
     play_on_fresh::<_, _, Brand>(rt, scene, heap, seats, gates, boxes)
 }
@@ -45,23 +44,19 @@ pub fn play_recovered<R: Wait, I: EmptyBox>(
     scene: &mut Scene<'_>,
     mut recovered: Recovered,
 ) -> Result<(), ScriptFault> {
+    let (gates, boxes) = outfit::<I>(scene, recovered.callers())?;
     if recovered.sweep(&mut Steady).is_err() {
         return Err(ScriptFault::Image);
     }
-    play_swept::<R, I>(rt, scene, recovered)
+    play_on_recovered::<_, _, Brand>(rt, scene, recovered, gates, boxes)
 }
 
-// Works on a store that goes on from an image, and stops it.
-fn play_swept<R: Wait, I: EmptyBox>(
-    rt: &R,
-    scene: &mut Scene<'_>,
-    recovered: Recovered,
-) -> Result<(), ScriptFault>
-    requires { recovered.swept ≡ true }
+// What a store with so many callers is given.
+fn outfit<I: EmptyBox>(scene: &Scene<'_>, callers: u64) -> Result<(Vec<Fuel>, Vec<I>), AllocError>
+    ensures { IfOk result (λ r. vec_len r.0 ≡ callers) }
 {
-    let boxes = boxes_of::<I>(scene.alloc, scene.run.rooms)?;
-    let gates = endless_gates(scene.alloc, recovered.callers())?;
-    play_on_recovered::<_, _, Brand>(rt, scene, recovered, gates, boxes)
+    let gates = endless_gates(scene.alloc, callers)?;
+    Ok((gates, boxes_of::<I>(scene.alloc, scene.run.rooms)?))
 }
 
 // A heap of which no step was made.

@@ -49,26 +49,24 @@ pub fn run_script<R: Threads + Wait + Sync, I: EmptyBox>(
     read: &mut usize,
 ) -> Result<String, ScriptFault> {
     let mut scene = Scene::new(alloc, case, lines, run);
-    let played = play_lines::<R, I>(rt, &mut scene);
+    let told = play_lines::<R, I>(rt, &mut scene);
     *read = scene.read;
-    match played {
-        Ok(()) => Ok(mem::replace(&mut scene.told, String::new(alloc))),
-        Err(fault) => Err(fault),
-    }
+    told
 }
 
 // Does what each line says. That which opens a store reads the lines up to its stop.
 fn play_lines<R: Threads + Wait + Sync, I: EmptyBox>(
     rt: &R,
     scene: &mut Scene<'_>,
-) -> Result<(), ScriptFault> {
-    for (at, line) in scene.lines.iter().enumerate() {
+) -> Result<String, ScriptFault> {
+    let lines = scene.lines;
+    for (at, line) in lines.iter().enumerate() {
         if at == scene.read {
             scene.read = at.saturating_add(1);
             play_line::<R, I>(rt, scene, line)?;
         }
     }
-    Ok(())
+    Ok(mem::replace(&mut scene.told, String::new(scene.alloc)))
 }
 
 fn play_line<R: Threads + Wait + Sync, I: EmptyBox>(

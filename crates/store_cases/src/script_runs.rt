@@ -51,20 +51,22 @@ fn tell_kinds<R: Threads + Wait + Sync>(
     lines: &[&str],
     read: &mut usize,
 ) -> Result<String, ScriptFault> {
-    let sorted = tell_runs::<R, SortedIndex>(rt, alloc, case, lines, u64::MAX, read)?;
-    let probed = tell_runs::<R, ProbeIndex>(rt, alloc, case, lines, u64::MAX, read)?;
-    let own = tell_runs::<R, RefusingIndex>(rt, alloc, case, lines, u64::MAX, read)?;
-    let mut told = String::from_str(alloc, sorted.as_str())?;
-    tell_kind(&mut told, "probed boxes", probed.as_str(), sorted.as_str())?;
-    tell_kind(&mut told, "boxes of its own", own.as_str(), sorted.as_str())?;
-    Ok(told)
+    let room = u64::MAX;
+    let sorted = tell_runs::<R, SortedIndex>(rt, alloc, case, lines, room, read)?;
+    let probed = tell_runs::<R, ProbeIndex>(rt, alloc, case, lines, room, read)?;
+    let own = tell_runs::<R, RefusingIndex>(rt, alloc, case, lines, room, read)?;
+    Ok(kinds_told(alloc, sorted.as_str(), probed.as_str(), own.as_str())?)
 }
 
-fn tell_kind(told: &mut String, boxes: &str, other: &str, sorted: &str) -> Result<(), AllocError> {
-    if other != sorted {
-        write!(told, "but with {boxes}\n{other}")?;
+fn kinds_told(alloc: Global, sorted: &str, probed: &str, own: &str) -> Result<String, AllocError> {
+    let mut told = String::from_str(alloc, sorted)?;
+    if probed != sorted {
+        write!(told, "but with probed boxes\n{probed}")?;
     }
-    Ok(())
+    if own != sorted {
+        write!(told, "but with boxes of its own\n{own}")?;
+    }
+    Ok(told)
 }
 
 // What is told of the runs of a script with boxes of a kind.
