@@ -42,6 +42,14 @@ fn behind<'a>(lines: &[&'a str], word: &str) -> Option<&'a str> {
     None
 }
 
+// Whether a script begins with a store that was never used and has no map unit.
+fn has_no_map(lines: &[&str]) -> bool {
+    match behind(lines, "store ") {
+        Some(shape) => shape.split_once('m').is_none(),
+        None => false,
+    }
+}
+
 // What is told of a script with sorted boxes, and behind that what is told of it with others where
 // that is something else.
 fn tell_kinds<R: Threads + Wait + Sync>(
@@ -53,6 +61,9 @@ fn tell_kinds<R: Threads + Wait + Sync>(
 ) -> Result<String, ScriptFault> {
     let room = u64::MAX;
     let sorted = tell_runs::<R, SortedIndex>(rt, alloc, case, lines, room, read)?;
+    if has_no_map(lines) {
+        return Ok(sorted);
+    }
     let probed = tell_runs::<R, ProbeIndex>(rt, alloc, case, lines, room, read)?;
     let own = tell_runs::<R, RefusingIndex>(rt, alloc, case, lines, room, read)?;
     Ok(kinds_told(alloc, sorted.as_str(), probed.as_str(), own.as_str())?)
