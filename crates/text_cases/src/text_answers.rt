@@ -1,4 +1,5 @@
-// What comes of a case on the text of a job or of a report.
+// What comes of a case on the text of a job or of a report, or on what is made of a number.
+use crate::generated_answer::answer_generated;
 use crate::job_answer::answer_job;
 use crate::judged::answer_judged;
 use crate::report_answer::answer_report;
@@ -6,13 +7,16 @@ use crate::verdict_answer::answer_verdict;
 use case_file::{Case, Unanswered, with_other_lines};
 use std::thread::Threads;
 
-/// Answers cases with a part `job` or a part `report`. The lines of a part `other lines` stand in
-/// the place of some of the report.
+/// Answers cases with a part `job`, a part `generated` or a part `report`. The lines of a part
+/// `other lines` stand in the place of some of the report.
 pub fn answer_to(
     rt: &(impl AllocGlobal + Threads + Sync),
     case: &Case,
 ) -> Result<Vec<u8>, Unanswered> {
     let alloc = rt.alloc();
+    if let Some(name) = case.part("generated") {
+        return answer_generated(alloc, case, name);
+    }
     let Some(right) = case.part("report") else {
         return answer_job(alloc, case);
     };
