@@ -3,108 +3,90 @@ use case_file::{Case, Unanswered, numbers_in};
 use mont_base::{MemSink, MemSource};
 use std::alloc::{AllocError, Global};
 
+/// The parts that have the calls that fail, of the source of the job, of that of the image, of the
+/// sink of the report, and of that of the image.
+pub const READS: &str = "failing reads";
+
+pub const IMAGE_READS: &str = "failing image reads";
+
+pub const WRITES: &str = "failing writes";
+
+pub const IMAGE_WRITES: &str = "failing image writes";
+
 // How many bytes a report and an image have at most.
 const MOST_BYTES: u64 = 1_048_576;
 
-/// A device of the process.
-#[derive(Clone, Copy, Debug, PartialEq, Eq)]
-pub enum Device {
-    /// The source of the job.
-    Job,
-    /// The source of the image.
-    Image,
-    /// The sink of the report.
-    Out,
-    /// The sink of the image.
-    ImageOut,
+/// The calls from the first to the last one of a device fail, and no others of it.
+#[derive(Clone, Copy)]
+pub struct Failing {
+    /// The part that the case would have.
+    pub head: &'static str,
+    pub first: u64,
+    pub last: u64,
 }
 
-/// The devices of a process, in memory.
-#[derive(Drop)]
-pub struct Ends {
-    pub job: MemSource,
-    pub image: MemSource,
-    pub out: MemSink,
-    pub image_out: MemSink,
-}
-
-/// How the devices of a case give and take bytes.
-#[derive(Drop)]
-pub struct Devices {
-    // How many bytes in a call.
-    piece: u64,
-    // The calls of each device that fail.
-    reads: Vec<u64>,
-    image_reads: Vec<u64>,
-    writes: Vec<u64>,
-    image_writes: Vec<u64>,
-}
-
-impl Devices {
-    /// The devices that a case tells. A call gives or takes 4096 bytes where it tells no number.
-    pub fn of_case(alloc: Global, case: &Case) -> Result<Devices, Unanswered> {
-        let piece = first_number(alloc, case, "pieces")?.unwrap_or(4096);
-        if piece == 0 {
-            return Err(Unanswered::Unclear { head: "pieces" });
-        }
-        Ok(Devices {
-            piece,
-            reads: numbers_of(alloc, case, "failing reads")?,
-            image_reads: numbers_of(alloc, case, "failing image reads")?,
-            writes: numbers_of(alloc, case, "failing writes")?,
-            image_writes: numbers_of(alloc, case, "failing image writes")?,
-        })
-    }
-
-    /// How many bytes a call gives or takes.
-    pub fn piece(&self) -> u64 {
-        self.piece
-    }
-
-    /// Lets these calls of a device fail, and no others of it.
-    pub fn fail(&mut self, device: Device, calls: Vec<u64>) {
-        match device {
-            Device::Job => self.reads = calls,
-            Device::Image => self.image_reads = calls,
-            Device::Out => self.writes = calls,
-            Device::ImageOut => self.image_writes = calls,
-        }
-    }
-
-    /// The devices of a process with this job and this image.
-    pub fn made(&self, alloc: Global, job: &[u8], image: &[u8]) -> Result<Ends, AllocError> {
-        let piece = self.piece;
-        Ok(Ends {
-            job: source(alloc, job, piece, &self.reads)?,
-            image: source(alloc, image, piece, &self.image_reads)?,
-            out: sink(alloc, piece, &self.writes)?,
-            image_out: sink(alloc, piece, &self.image_writes)?,
-        })
+/// How many bytes a call gives or takes: 4096 where the case tells no number.
+pub fn piece_of(alloc: Global, case: &Case) -> Result<u64, Unanswered> {
+    match first_number(alloc, case, "pieces", 4096)? {
+        0 => Err(Unanswered::Unclear { head: "pieces" }),
+        piece => Ok(piece),
     }
 }
 
-fn source(alloc: Global, text: &[u8], piece: u64, fails: &[u64]) -> Result<MemSource, AllocError> {
-    Ok(MemSource::new(text.to_vec(alloc)?, piece.max(1), fails.to_vec(alloc)?))
+/// A source of a text, whose calls fail that are told of it.
+pub fn source_of(
+    alloc: Global,
+    case: &Case,
+    failing: Option<Failing>,
+    head: &'static str,
+    text: &[u8],
+) -> Result<MemSource, Unanswered> {
+    let piece = piece_of(alloc, case)?.max(1);
+    let fails = calls_of(alloc, case, failing, head)?;
+    Ok(MemSource::new(text.to_vec(alloc)?, piece, fails))
 }
 
-fn sink(alloc: Global, piece: u64, fails: &[u64]) -> Result<MemSink, AllocError> {
-    MemSink::new(alloc, MOST_BYTES, piece.max(1), fails.to_vec(alloc)?)
+/// A sink, whose calls fail that are told of it.
+pub fn sink_of(
+    alloc: Global,
+    case: &Case,
+    failing: Option<Failing>,
+    head: &'static str,
+) -> Result<MemSink, Unanswered> {
+    let piece = piece_of(alloc, case)?.max(1);
+    let fails = calls_of(alloc, case, failing, head)?;
+    Ok(MemSink::new(alloc, MOST_BYTES, piece, fails)?)
 }
 
-// The numbers of a part, none where there is no such part.
-fn numbers_of(alloc: Global, case: &Case, head: &'static str) -> Result<Vec<u64>, Unanswered> {
-    match case.part(head) {
-        Some(text) => numbers_in(alloc, head, text),
-        None => Ok(Vec::new(alloc)),
+// The calls that fail of the device whose part has this head.
+fn calls_of(
+    alloc: Global,
+    case: &Case,
+    failing: Option<Failing>,
+    head: &'static str,
+) -> Result<Vec<u64>, Unanswered> {
+    match failing {
+        Some(failing) if failing.head == head => Ok(numbers(alloc, failing)?),
+        _ => numbers_in(alloc, head, case.part(head).unwrap_or(b"")),
     }
 }
 
-/// The first number of a part.
+// The numbers from the first to the last.
+fn numbers(alloc: Global, failing: Failing) -> Result<Vec<u64>, AllocError> {
+    let mut numbers = Vec::new(alloc);
+    for number in failing.first..failing.last.saturating_add(1) {
+        numbers.push(number)?;
+    }
+    Ok(numbers)
+}
+
+/// The first number of a part, or another where there is none.
 pub fn first_number(
     alloc: Global,
     case: &Case,
     head: &'static str,
-) -> Result<Option<u64>, Unanswered> {
-    let numbers = numbers_of(alloc, case, head)?;
-    Ok(numbers.first().copied())
+    other: u64,
+) -> Result<u64, Unanswered> {
+    let numbers = numbers_in(alloc, head, case.part(head).unwrap_or(b""))?;
+    Ok(numbers.first().copied().unwrap_or(other))
 }

@@ -1,4 +1,4 @@
-// What a process with devices in memory comes to.
+// What a process comes to, with devices in memory or with files.
 ghost use Rattle.std.specs.Prelude.{map, string_bytes};
 ghost use Rattle.std.specs.FinMap as finite;
 ghost use Rattle.montage_tool.specs.Devices.{sink_seen, source_seen};
@@ -7,7 +7,8 @@ ghost use Rattle.montage_tool.specs.Program.{Answers};
 
 use index_kit::Index;
 use mont_base::{Sink, Source};
-use montage_tool::{answer, exit_code, say};
+use montage_tool::{Status, answer, exit_code, say, serve};
+use std::rt::Files;
 use std::sync::Wait;
 use std::thread::Threads;
 
@@ -40,6 +41,19 @@ pub fn ended<R: AllocGlobal + Threads + Wait + Sync, J: Source, I: Source, O: Si
         out.new result }
 {
     let status = answer(rt, words, job, image, indexes, out, image_out);
+    let _ = say(rt.alloc(), out, &status);
+    exit_code(&status)
+}
+
+/// The same of a process whose words name files.
+pub fn ended_on_files<R: AllocGlobal + Files + Threads + Wait + Sync, J: Source, O: Sink>(
+    rt: &R,
+    words: &[String],
+    job: &mut J,
+    indexes: Vec<Box<dyn Index + Send>>,
+    out: &mut O,
+) -> u8 {
+    let status = serve(rt, words, job, indexes, out).unwrap_or(Status::Memory);
     let _ = say(rt.alloc(), out, &status);
     exit_code(&status)
 }

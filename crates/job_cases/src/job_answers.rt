@@ -1,20 +1,17 @@
 // What comes of a case on words, a job and an image.
-use crate::boxes::{BoxKind, boxes_in, empty_boxes};
-use crate::devices_told::{Devices, Ends, first_number};
-use crate::ended_process::ended;
+use crate::came_of_process::{Came, Given, came_of, text_in};
+use crate::devices_told::first_number;
 use crate::failing_table::{EACH_FAILING, failing_table};
 use crate::image_told::tell_image;
 use crate::short_answer::in_short;
 use crate::stop_table::{STOPS, stop_table};
 use case_file::{Case, Unanswered, is_wanted};
 use case_image::{has_image, image_text};
-use index_kit::{Index, ProbeIndex, SortedIndex};
-use mont_base::Text;
 use std::alloc::{AllocError, Global};
+use std::fs;
 use std::rt::Files;
 use std::sync::Wait;
 use std::thread::Threads;
-use std::{fs, str};
 
 // The heads of what the process is asked, first and behind that, each time with the image that was
 // written last.
@@ -24,6 +21,13 @@ static STEPS: &[(&str, &str)] = &[
     ("last words", "last job"),
 ];
 
+// As many empty boxes as a store has units, of either kind.
+const SORTED_BOXES: &str = "empty empty empty empty empty empty empty empty \
+                            empty empty empty empty empty empty empty empty";
+
+const PROBED_BOXES: &str = "probed probed probed probed probed probed probed probed \
+                            probed probed probed probed probed probed probed probed";
+
 /// Answers a case by what the process writes to its standard output, the image that it writes, and
 /// its exit status. The part `words` is its command line, the part `job` its standard input, the
 /// part `image` its image. It is tried with empty boxes of either kind, where it tells no boxes of
@@ -32,31 +36,49 @@ pub fn answer<R: AllocGlobal + Files + Threads + Wait + Sync>(
     rt: &R,
     case: &Case,
 ) -> Result<Vec<u8>, Unanswered> {
-    let alloc = rt.alloc();
+    let words = case.needed("words")?;
+    let job = job_of(rt, case, "job")?;
+    let image = image_of(rt.alloc(), case)?;
+    answer_given(
+        rt,
+        &Given {
+            case,
+            failing: None,
+            boxes: SORTED_BOXES,
+            words,
+            job: &job,
+            image: &image,
+        },
+    )
+}
+
+fn answer_given<R: AllocGlobal + Files + Threads + Wait + Sync>(
+    rt: &R,
+    given: &Given<'_>,
+) -> Result<Vec<u8>, Unanswered> {
+    let case = given.case;
     if let Some(steps) = case.part(STOPS) {
-        return stop_table(rt, case, steps);
+        return stop_table(rt, given, steps);
     }
     if let Some(devices) = case.part(EACH_FAILING) {
-        return failing_table(rt, case, devices);
+        return failing_table(rt, given, devices);
     }
-    if let Some(told) = case.part("boxes") {
-        return answer_with(rt, case, &boxes_in(alloc, told)?);
+    match case.part("boxes") {
+        Some(boxes) => answer_with(rt, given, text_in("boxes", boxes)?),
+        None => answer_often(rt, given),
     }
-    let times = first_number(alloc, case, "times")?.unwrap_or(1);
-    answer_often(rt, case, times)
 }
 
 // What comes of a case with empty boxes of either kind, which is tried so often.
 fn answer_often<R: AllocGlobal + Files + Threads + Wait + Sync>(
     rt: &R,
-    case: &Case,
-    times: u64,
+    given: &Given<'_>,
 ) -> Result<Vec<u8>, Unanswered> {
     let mut got = Vec::new(rt.alloc());
-    for _time in 0..times {
-        for sorted in [true, false] {
-            got = answer_with_empty(rt, case, sorted)?;
-            if !is_wanted(case, got.as_slice()) {
+    for _time in 0..first_number(rt.alloc(), given.case, "times", 1)? {
+        for boxes in [SORTED_BOXES, PROBED_BOXES] {
+            got = answer_with(rt, given, boxes)?;
+            if !is_wanted(given.case, got.as_slice()) {
                 return Ok(got);
             }
         }
@@ -64,150 +86,71 @@ fn answer_often<R: AllocGlobal + Files + Threads + Wait + Sync>(
     Ok(got)
 }
 
-fn answer_with_empty<R: AllocGlobal + Files + Threads + Wait + Sync>(
-    rt: &R,
-    case: &Case,
-    sorted: bool,
-) -> Result<Vec<u8>, Unanswered> {
-    let boxes = empty_boxes(rt.alloc(), sorted)?;
-    answer_with(rt, case, &boxes)
-}
-
 // What comes of a case with these boxes.
 fn answer_with<R: AllocGlobal + Files + Threads + Wait + Sync>(
     rt: &R,
-    case: &Case,
-    boxes: &[BoxKind],
+    given: &Given<'_>,
+    boxes: &str,
 ) -> Result<Vec<u8>, Unanswered> {
-    let alloc = rt.alloc();
-    let mut answer = Vec::new(alloc);
-    add_steps(rt, case, boxes, &mut answer)?;
-    in_short(alloc, case, answer)
-}
-
-// Adds what the process answers, each time it is asked.
-fn add_steps<R: AllocGlobal + Files + Threads + Wait + Sync>(
-    rt: &R,
-    case: &Case,
-    boxes: &[BoxKind],
-    answer: &mut Vec<u8>,
-) -> Result<(), Unanswered> {
-    let alloc = rt.alloc();
-    let devices = Devices::of_case(alloc, case)?;
-    let mut image = image_of(alloc, case)?;
-    let _ = case.needed("words")?;
+    let mut answer = Vec::new(rt.alloc());
+    let mut image = given.image.to_vec(rt.alloc())?;
     for heads in STEPS {
-        add_asked(rt, case, *heads, &devices, boxes, &mut image, answer)?;
+        add_asked(
+            rt,
+            &Given { boxes, ..*given },
+            *heads,
+            &mut image,
+            &mut answer,
+        )?;
     }
-    Ok(())
+    Ok(in_short(rt.alloc(), given.case, answer)?)
 }
 
 // Adds what the process answers the words with a head, where the case has them.
 fn add_asked<R: AllocGlobal + Files + Threads + Wait + Sync>(
     rt: &R,
-    case: &Case,
+    given: &Given<'_>,
     heads: (&'static str, &'static str),
-    devices: &Devices,
-    boxes: &[BoxKind],
     image: &mut Vec<u8>,
     answer: &mut Vec<u8>,
 ) -> Result<(), Unanswered> {
     let (words_head, job_head) = heads;
-    let Some(words) = case.part(words_head) else {
+    let Some(words) = given.case.part(words_head) else {
         return Ok(());
     };
-    let words = words_in(rt.alloc(), words)?;
-    let job = job_of(rt, case, job_head)?;
-    Ok(step(rt, &words, devices, &job, boxes, image, answer)?)
+    let job = job_of(rt, given.case, job_head)?;
+    let came = came_of(
+        rt,
+        &Given {
+            words,
+            job: &job,
+            image: image.as_slice(),
+            ..*given
+        },
+    )?;
+    Ok(add_came(rt.alloc(), &came, image, answer)?)
 }
 
-// Adds what the process answers these words, and takes the image over that it writes.
-fn step<R: AllocGlobal + Threads + Wait + Sync>(
-    rt: &R,
-    words: &[String],
-    devices: &Devices,
-    job: &[u8],
-    boxes: &[BoxKind],
+// Adds what came, and takes the image over, if one was written.
+fn add_came(
+    alloc: Global,
+    came: &Came,
     image: &mut Vec<u8>,
     answer: &mut Vec<u8>,
 ) -> Result<(), AllocError> {
-    let alloc = rt.alloc();
-    let mut ends = devices.made(alloc, job, image.as_slice())?;
-    let code = ended_with(rt, words, &mut ends, boxes)?;
-    add_written(alloc, answer, &ends, code)?;
-    take_image(alloc, image, ends.image_out.taken())
-}
-
-// Adds what the sinks took, and the exit status.
-fn add_written(
-    alloc: Global,
-    answer: &mut Vec<u8>,
-    ends: &Ends,
-    code: u8,
-) -> Result<(), AllocError> {
-    answer.extend_from_slice(ends.out.taken())?;
-    add_image(alloc, answer, ends.image_out.taken())?;
-    let last = format!(in alloc; "exit status {code}\n")?;
-    answer.extend_from_slice(last.as_bytes())
-}
-
-// Adds what is told of a written image.
-fn add_image(alloc: Global, answer: &mut Vec<u8>, written: &[u8]) -> Result<(), AllocError> {
-    if written.is_empty() {
-        return Ok(());
-    }
+    answer.extend_from_slice(&came.out)?;
     let mut told = String::new(alloc);
-    tell_image(alloc, &mut told, written)?;
+    if !came.image.is_empty() {
+        tell_image(alloc, &mut told, &came.image)?;
+        image.clear();
+        image.extend_from_slice(&came.image)?;
+    }
+    writeln!(told, "exit status {}", came.code)?;
     answer.extend_from_slice(told.as_bytes())
 }
 
-// Takes the image over that was written, if one was.
-fn take_image(alloc: Global, image: &mut Vec<u8>, written: &[u8]) -> Result<(), AllocError> {
-    if !written.is_empty() {
-        let taken = written.to_vec(alloc)?;
-        *image = taken;
-    }
-    Ok(())
-}
-
-// The exit status behind these words, with boxes of these kinds, which are made where they are
-// handed in.
-fn ended_with<R: AllocGlobal + Threads + Wait + Sync>(
-    rt: &R,
-    words: &[String],
-    ends: &mut Ends,
-    boxes: &[BoxKind],
-) -> Result<u8, AllocError> {
-    let alloc = rt.alloc();
-    let mut indexes: Vec<Box<dyn Index + Send>> = Vec::new(alloc);
-    for kind in boxes {
-        match kind {
-            BoxKind::Sorted => indexes.push(Box::new(alloc, SortedIndex::new(alloc))?)?,
-            BoxKind::Probed => indexes.push(Box::new(alloc, ProbeIndex::new(alloc))?)?,
-            BoxKind::Full => indexes.push(Box::new(alloc, full_index(alloc)?)?)?,
-        }
-    }
-    Ok(ended(
-        rt,
-        words,
-        &mut ends.job,
-        &mut ends.image,
-        indexes,
-        &mut ends.out,
-        &mut ends.image_out,
-    ))
-}
-
-// A sorted box that holds a pair.
-fn full_index(alloc: Global) -> Result<SortedIndex, AllocError> {
-    let mut index = SortedIndex::new(alloc);
-    index.reserve()?;
-    let _ = index.put(Text::of_number(1), 0);
-    Ok(index)
-}
-
-/// The image that a case has, or no byte.
-pub fn image_of(alloc: Global, case: &Case) -> Result<Vec<u8>, Unanswered> {
+// The image that a case has, or no byte.
+fn image_of(alloc: Global, case: &Case) -> Result<Vec<u8>, Unanswered> {
     if has_image(case) {
         image_text(alloc, case)
     } else {
@@ -215,33 +158,18 @@ pub fn image_of(alloc: Global, case: &Case) -> Result<Vec<u8>, Unanswered> {
     }
 }
 
-/// The standard input: the part with this head, or the file that the part `job file` names.
-pub fn job_of<R: AllocGlobal + Files>(
+// The standard input: the part with this head, or the file that the part `job file` names.
+fn job_of<R: AllocGlobal + Files>(
     rt: &R,
     case: &Case,
     head: &'static str,
 ) -> Result<Vec<u8>, Unanswered> {
-    let unclear = Unanswered::Unclear { head: "job file" };
     let Some(name) = case.part("job file") else {
         return Ok(case.part(head).unwrap_or(b"").to_vec(rt.alloc())?);
     };
-    let Ok(name) = str::from_utf8(name) else {
-        return Err(unclear);
-    };
+    let name = text_in("job file", name)?;
     match fs::read(rt, name.trim()) {
         Ok(text) => Ok(text),
-        Err(_) => Err(unclear),
+        Err(_) => Err(Unanswered::Unclear { head: "job file" }),
     }
-}
-
-/// The words of a command line.
-pub fn words_in(alloc: Global, text: &[u8]) -> Result<Vec<String>, Unanswered> {
-    let Ok(line) = str::from_utf8(text) else {
-        return Err(Unanswered::Unclear { head: "words" });
-    };
-    let mut words = Vec::new(alloc);
-    for word in line.split_ascii_whitespace() {
-        words.push(String::from_str(alloc, word)?)?;
-    }
-    Ok(words)
 }

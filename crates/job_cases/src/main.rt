@@ -1,7 +1,7 @@
-//! Tries worked cases of jobs: what the words and the job come to, on devices in memory.
+//! Tries worked cases of jobs: what the words and the job come to, on devices in memory or on files.
 #![tactic(auto)]
 
-mod boxes;
+mod came_of_process;
 mod devices_told;
 mod ended_process;
 mod failing_table;
@@ -9,7 +9,6 @@ mod image_told;
 mod job_answers;
 mod job_trial;
 mod number_ranges;
-mod one_process;
 mod short_answer;
 mod stop_table;
 

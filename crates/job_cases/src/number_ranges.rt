@@ -1,66 +1,29 @@
 // A table by rising numbers, in which a range of numbers with the same line stands once.
 use std::alloc::{AllocError, Global};
-use std::fmt::Write;
 
-/// The table, up to the last number.
-#[derive(Drop)]
-pub struct NumberRanges {
-    table: String,
-    // The range that goes on, and its line, once there is one.
-    first: u64,
-    last: u64,
-    line: Option<String>,
+/// The table of these lines, the first of which is that of this number.
+pub fn in_ranges(alloc: Global, first: u64, lines: &str) -> Result<String, AllocError> {
+    let mut table = String::new(alloc);
+    let (mut from, mut number, mut same) = (first, first, "");
+    for line in lines.lines() {
+        if line != same {
+            push_range(&mut table, from, number, same)?;
+            (from, same) = (number, line);
+        }
+        number = number.saturating_add(1);
+    }
+    push_range(&mut table, from, number, same)?;
+    Ok(table)
 }
 
-impl NumberRanges {
-    /// A table without a number.
-    pub fn new(alloc: Global) -> NumberRanges {
-        NumberRanges {
-            table: String::new(alloc),
-            first: 0,
-            last: 0,
-            line: None,
-        }
-    }
-
-    /// Adds the next number with its line.
-    pub fn push(&mut self, number: u64, line: String) -> Result<(), AllocError> {
-        if self.goes_on(&line) {
-            self.last = number;
-            return Ok(());
-        }
-        self.end_range()?;
-        self.first = number;
-        self.last = number;
-        self.line = Some(line);
-        Ok(())
-    }
-
-    /// The whole table.
-    pub fn into_table(self) -> Result<String, AllocError> {
-        let mut ranges = self;
-        ranges.end_range()?;
-        Ok(ranges.table)
-    }
-
-    // Whether the range that goes on has this line.
-    fn goes_on(&self, line: &String) -> bool {
-        match &self.line {
-            Some(own) => own.as_str() == line.as_str(),
-            None => false,
-        }
-    }
-
-    // Adds the range that went on to the table.
-    fn end_range(&mut self) -> Result<(), AllocError> {
-        let NumberRanges { first, last, .. } = *self;
-        if let Some(line) = &self.line {
-            if first == last {
-                writeln!(self.table, "{first}: {line}")?;
-            } else {
-                writeln!(self.table, "{first} to {last}: {line}")?;
-            }
-        }
+// Adds the line of the numbers from the first to the one before the last, unless there are none.
+fn push_range(table: &mut String, first: u64, behind: u64, line: &str) -> Result<(), AllocError> {
+    let last = behind.saturating_sub(1);
+    if first < last {
+        writeln!(table, "{first} to {last}: {line}")
+    } else if first < behind {
+        writeln!(table, "{first}: {line}")
+    } else {
         Ok(())
     }
 }

@@ -6,13 +6,11 @@
 // For each mask the table has the numbers of steps, and of the report the lines from that of the
 // first caller on, and the line of the verdict. A table that is that of the mask before isn't told
 // again.
-use crate::devices_told::Devices;
-use crate::job_answers::{image_of, words_in};
-use crate::number_ranges::NumberRanges;
-use crate::one_process::{Came, Given, came_of};
-use case_file::{Case, Unanswered, numbers_in};
+use crate::came_of_process::{Came, Given, came_of, text_in};
+use crate::number_ranges::in_ranges;
+use case_file::{Unanswered, numbers_in};
 use std::alloc::{AllocError, Global};
-use std::fmt::Write;
+use std::rt::Files;
 use std::str;
 use std::sync::Wait;
 use std::thread::Threads;
@@ -20,179 +18,112 @@ use std::thread::Threads;
 /// The part that has the numbers of steps.
 pub const STOPS: &str = "stops";
 
-const MASKS: &str = "masks";
-
 /// What comes of all runs.
-pub fn stop_table<R: AllocGlobal + Threads + Wait + Sync>(
+pub fn stop_table<R: AllocGlobal + Files + Threads + Wait + Sync>(
     rt: &R,
-    case: &Case,
+    given: &Given<'_>,
     steps: &[u8],
 ) -> Result<Vec<u8>, Unanswered> {
-    let alloc = rt.alloc();
-    let steps = steps_in(alloc, steps)?;
-    let Ok(masks) = str::from_utf8(case.needed(MASKS)?) else {
-        return Err(Unanswered::Unclear { head: MASKS });
-    };
-    let mut told = String::new(alloc);
-    tell_masks(rt, case, steps, masks, &mut told)?;
+    let steps = numbers_in(rt.alloc(), STOPS, steps)?;
+    let mut told = String::new(rt.alloc());
+    tell_masks(rt, given, &steps, &mut told)?;
     Ok(told.into_bytes())
 }
 
-// The first and the last number of steps.
-#[derive(Clone, Copy)]
-struct Steps {
-    first: u64,
-    last: u64,
-}
-
-fn steps_in(alloc: Global, steps: &[u8]) -> Result<Steps, Unanswered> {
-    let numbers = numbers_in(alloc, STOPS, steps)?;
-    match numbers.as_slice() {
-        [first, last] => Ok(Steps {
-            first: *first,
-            last: *last,
-        }),
-        _ => Err(Unanswered::Unclear { head: STOPS }),
-    }
-}
-
-// Tells the tables of all masks.
-fn tell_masks<R: AllocGlobal + Threads + Wait + Sync>(
+// Tells the tables of all masks, but for one that is that before.
+fn tell_masks<R: AllocGlobal + Files + Threads + Wait + Sync>(
     rt: &R,
-    case: &Case,
-    steps: Steps,
-    masks: &str,
+    given: &Given<'_>,
+    steps: &[u64],
     told: &mut String,
 ) -> Result<(), Unanswered> {
     let mut before = String::new(rt.alloc());
-    for mask in masks.split_ascii_whitespace() {
-        let table = table_of(rt, case, mask, steps)?;
-        tell_mask(told, mask, table.as_str(), before.as_str())?;
+    let masks = given.case.needed("masks")?;
+    for mask in text_in("masks", masks)?.split_ascii_whitespace() {
+        let table = table_of(rt, given, steps, mask)?;
+        writeln!(told, "mask {mask}")?;
+        if table != before {
+            told.push_str(&table)?;
+        }
         before = table;
     }
     Ok(())
 }
 
-// Tells the table of a mask, if it isn't the one before.
-fn tell_mask(told: &mut String, mask: &str, table: &str, before: &str) -> Result<(), AllocError> {
-    writeln!(told, "mask {mask}")?;
-    if table != before {
-        told.push_str(table)?;
-    }
-    Ok(())
-}
-
 // What comes of the runs with a mask.
-fn table_of<R: AllocGlobal + Threads + Wait + Sync>(
+fn table_of<R: AllocGlobal + Files + Threads + Wait + Sync>(
     rt: &R,
-    case: &Case,
-    mask: &str,
-    steps: Steps,
-) -> Result<String, Unanswered> {
-    let alloc = rt.alloc();
-    let job = masked_job(alloc, case, mask)?;
-    let mut ranges = NumberRanges::new(alloc);
-    push_runs(rt, case, job.as_str(), steps, &mut ranges)?;
-    Ok(ranges.into_table()?)
-}
-
-// The job with a mask.
-fn masked_job(alloc: Global, case: &Case, mask: &str) -> Result<String, Unanswered> {
-    let Ok(job) = str::from_utf8(case.needed("job")?) else {
-        return Err(Unanswered::Unclear { head: "job" });
-    };
-    Ok(job.replace(alloc, "MASK", mask)?)
-}
-
-// The job with a number of steps.
-fn stopped_job(alloc: Global, job: &str, number: u64) -> Result<String, AllocError> {
-    let digits = format!(in alloc; "{number}")?;
-    job.replace(alloc, "STEPS", digits.as_str())
-}
-
-// Adds what comes of a job with each number of steps.
-fn push_runs<R: AllocGlobal + Threads + Wait + Sync>(
-    rt: &R,
-    case: &Case,
-    job: &str,
-    steps: Steps,
-    ranges: &mut NumberRanges,
-) -> Result<(), Unanswered> {
-    let alloc = rt.alloc();
-    let words = words_in(alloc, case.needed("words")?)?;
-    let image = image_of(alloc, case)?;
-    for number in steps.first..steps.last.saturating_add(1) {
-        let line = stopped_at(rt, case, &words, job, &image, number)?;
-        ranges.push(number, line)?;
-    }
-    Ok(())
-}
-
-// What comes of a job with a number of steps.
-fn stopped_at<R: AllocGlobal + Threads + Wait + Sync>(
-    rt: &R,
-    case: &Case,
-    words: &[String],
-    job: &str,
-    image: &[u8],
-    number: u64,
-) -> Result<String, Unanswered> {
-    let job = stopped_job(rt.alloc(), job, number)?;
-    let given = Given {
-        words,
-        job: job.as_bytes(),
-        image,
-    };
-    stopped_run(rt, case, &given)
-}
-
-// What comes of a run, in one line.
-fn stopped_run<R: AllocGlobal + Threads + Wait + Sync>(
-    rt: &R,
-    case: &Case,
     given: &Given<'_>,
+    steps: &[u64],
+    mask: &str,
 ) -> Result<String, Unanswered> {
-    let alloc = rt.alloc();
-    let devices = Devices::of_case(alloc, case)?;
-    let run = came_of(rt, &devices, given)?;
-    let verdict = verdict_on(rt, &devices, &run)?;
-    Ok(told_in_line(alloc, &run, &verdict)?)
-}
-
-// What comes of `check F` with the report and the image of a run.
-fn verdict_on<R: AllocGlobal + Threads + Wait + Sync>(
-    rt: &R,
-    devices: &Devices,
-    run: &Came,
-) -> Result<Came, Unanswered> {
-    let words = words_in(rt.alloc(), b"check F")?;
-    let given = Given {
-        words: &words,
-        job: &run.out,
-        image: &run.image,
+    let [first, last] = steps else {
+        return Err(Unanswered::Unclear { head: STOPS });
     };
-    Ok(came_of(rt, devices, &given)?)
-}
-
-// The lines of a report from that of the first caller on, and the verdict on it.
-fn told_in_line(alloc: Global, run: &Came, verdict: &Came) -> Result<String, AllocError> {
-    let mut line = String::new(alloc);
-    let report = str::from_utf8(&run.out).unwrap_or("");
-    push_report(&mut line, report)?;
-    if let Ok(said) = str::from_utf8(&verdict.out) {
-        line.push_str(said.trim_end())?;
+    let mut lines = String::new(rt.alloc());
+    for number in *first..last.saturating_add(1) {
+        push_run(rt, given, mask, number, &mut lines)?;
     }
-    Ok(line)
+    Ok(in_ranges(rt.alloc(), *first, &lines)?)
 }
 
-// Adds the lines of a report from that of the first caller on.
-fn push_report(line: &mut String, report: &str) -> Result<(), AllocError> {
+// Adds what comes of a run with a mask and a number of steps.
+fn push_run<R: AllocGlobal + Files + Threads + Wait + Sync>(
+    rt: &R,
+    given: &Given<'_>,
+    mask: &str,
+    number: u64,
+    lines: &mut String,
+) -> Result<(), Unanswered> {
+    let job = stopped_job(rt.alloc(), text_in("job", given.job)?, mask, number)?;
+    let run = came_of(
+        rt,
+        &Given {
+            job: job.as_bytes(),
+            ..*given
+        },
+    )?;
+    push_judged(rt, given, &run, lines)
+}
+
+// The job with a mask and a number of steps.
+fn stopped_job(alloc: Global, job: &str, mask: &str, number: u64) -> Result<String, AllocError> {
+    let digits = format!(in alloc; "{number}")?;
+    let masked = job.replace(alloc, "MASK", mask)?;
+    masked.replace(alloc, "STEPS", digits.as_str())
+}
+
+// Adds what came of a run, and the verdict of `check F` on it, in one line.
+fn push_judged<R: AllocGlobal + Files + Threads + Wait + Sync>(
+    rt: &R,
+    given: &Given<'_>,
+    run: &Came,
+    lines: &mut String,
+) -> Result<(), Unanswered> {
+    let verdict = came_of(
+        rt,
+        &Given {
+            words: b"check F",
+            job: &run.out,
+            image: &run.image,
+            ..*given
+        },
+    )?;
+    Ok(push_told(lines, &run.out, &verdict.out)?)
+}
+
+// Adds the lines of a report from that of the first caller on, and the verdict.
+fn push_told(lines: &mut String, report: &[u8], verdict: &[u8]) -> Result<(), AllocError> {
     let mut is_behind = false;
-    for told in report.split('\n') {
+    for told in str::from_utf8(report).unwrap_or("").lines() {
         is_behind = is_behind || told.starts_with("caller 0 ");
-        if is_behind && !told.is_empty() {
-            write!(line, "{told}, ")?;
+        if is_behind {
+            write!(lines, "{told}, ")?;
         }
     }
-    Ok(())
+    writeln!(
+        lines,
+        "{}",
+        str::from_utf8(verdict).unwrap_or("").trim_end()
+    )
 }

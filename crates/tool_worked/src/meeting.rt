@@ -3,9 +3,10 @@ ghost use Rattle.std.specs.Prelude.{◌≡◌};
 
 use index_kit::{Index, SortedIndex};
 use mont_base::{MemSink, MemSource, Text};
-use montage_tool::{Status, montage};
+use montage_tool::{Status, serve};
 use std::alloc::{AllocError, Global};
 use std::process::Abort;
+use std::rt::Files;
 use std::sync::atomic::{AtomicU64, Ordering};
 use std::sync::{Arc, Wait};
 use std::test::Fail;
@@ -45,7 +46,7 @@ graph 3 0 0
 end
 ";
 
-// What the two boxes tell.
+// What the boxes tell.
 #[derive(Drop)]
 struct Signals {
     // How many puts were entered.
@@ -54,78 +55,30 @@ struct Signals {
     late: AtomicU64,
     // How many boxes were dropped.
     dropped: AtomicU64,
+    // How many of them held just their pair then.
+    held: AtomicU64,
 }
 
-impl Signals {
-    fn new() -> Signals {
-        Signals {
-            entered: AtomicU64::new(0),
-            late: AtomicU64::new(0),
-            dropped: AtomicU64::new(0),
-        }
-    }
-}
-
-// What a box holds when it is dropped.
-#[derive(Drop)]
-struct Held {
-    pairs: AtomicU64,
-    place: AtomicU64,
-}
-
-impl Held {
-    fn new() -> Held {
-        Held {
-            pairs: AtomicU64::new(0),
-            place: AtomicU64::new(0),
-        }
-    }
-
-    // How many pairs, and the place of the box's key.
-    fn told(&self) -> (u64, u64) {
-        let pairs = self.pairs.load(Ordering::SeqCst);
-        let place = self.place.load(Ordering::SeqCst);
-        (pairs, place)
-    }
-}
-
-// What both boxes tell, and what the first and the second hold.
-#[derive(Drop)]
-struct Told {
-    signals: Arc<Signals, Global>,
-    first: Arc<Held, Global>,
-    second: Arc<Held, Global>,
-}
-
-impl Told {
-    fn new(alloc: Global) -> Result<Told, AllocError> {
-        Ok(Told {
-            signals: Arc::new(alloc, Signals::new())?,
-            first: Arc::new(alloc, Held::new())?,
-            second: Arc::new(alloc, Held::new())?,
-        })
-    }
-}
-
-// A box that waits in each put until there were as many as there are boxes.
+// A box that waits in each put until there were as many as there are boxes, and the pair that it is
+// to hold in the end.
 struct Meeting {
     index: SortedIndex,
     key: Text,
+    place: u64,
     signals: Arc<Signals, Global>,
-    held: Arc<Held, Global>,
 }
 
 impl Drop for Meeting {
     fn drop(self) {
         self.signals.dropped.fetch_add(1, Ordering::SeqCst);
-        self.held.pairs.store(self.index.len(), Ordering::SeqCst);
-        let place = self.index.find(self.key).unwrap_or(u64::MAX);
-        self.held.place.store(place, Ordering::SeqCst);
+        if self.index.len() == 1 && self.index.find(self.key) == Some(self.place) {
+            self.signals.held.fetch_add(1, Ordering::SeqCst);
+        }
         let Meeting {
             index: _,
             key: _,
+            place: _,
             signals: _,
-            held: _,
         } = self;
     }
 }
@@ -170,88 +123,78 @@ fn both_come(entered: &AtomicU64) -> bool {
     false
 }
 
-// A box for this key.
+// A box for the pair of this key and this place.
 fn box_for(
     alloc: Global,
     key: u64,
+    place: u64,
     signals: &Arc<Signals, Global>,
-    held: &Arc<Held, Global>,
 ) -> Result<Box<Meeting>, AllocError> {
     let meeting = Meeting {
         index: SortedIndex::new(alloc),
         key: Text::of_number(key),
+        place,
         signals: Arc::try_clone(signals)?,
-        held: Arc::try_clone(held)?,
     };
     Ok(Box::new(alloc, meeting)?)
 }
 
 #[test]
 fn puts_of_two_units_are_under_way_at_once(rt: HostRuntime) -> Result<(), Fail> {
-    let alloc = rt.alloc();
-    let told = Told::new(alloc)?;
-    let mut out = MemSink::new(alloc, 4096, 4096, Vec::new(alloc))?;
-    is_run(&rt, &told, &mut out)?;
-    have_met(&rt, &told);
+    let signals = Signals {
+        entered: AtomicU64::new(0),
+        late: AtomicU64::new(0),
+        dropped: AtomicU64::new(0),
+        held: AtomicU64::new(0),
+    };
+    let signals = Arc::new(rt.alloc(), signals)?;
+    is_run(&rt, &signals)?;
+    have_met(&rt, &signals);
     Ok(())
 }
 
 // The job is run, and its report is written.
 fn is_run(
-    rt: &(impl Abort + AllocGlobal + Threads + Wait + Sync),
-    told: &Told,
-    out: &mut MemSink,
+    rt: &(impl Abort + AllocGlobal + Files + Threads + Wait + Sync),
+    signals: &Arc<Signals, Global>,
 ) -> Result<(), Fail> {
-    let text = Vec::from_slice(rt.alloc(), JOB.as_bytes())?;
-    let mut job = MemSource::new(text, 4096, Vec::new(rt.alloc()));
-    assert_eq!(rt; status_of(rt, told, &mut job, out)?, Status::Done);
-    assert_eq!(rt; out.taken(), REPORT.as_bytes());
+    let mut out = MemSink::new(rt.alloc(), 4096, 4096, Vec::new(rt.alloc()))?;
+    let status = status_of(rt, signals, &mut out)?;
+    assert!(rt; status == Status::Done && out.taken() == REPORT.as_bytes());
     Ok(())
 }
 
-// What a run comes to, whose image is neither read nor written.
+// What the run comes to.
 fn status_of(
-    rt: &(impl AllocGlobal + Threads + Wait + Sync),
-    told: &Told,
-    job: &mut MemSource,
+    rt: &(impl AllocGlobal + Files + Threads + Wait + Sync),
+    signals: &Arc<Signals, Global>,
     out: &mut MemSink,
 ) -> Result<Status, Fail> {
     let alloc = rt.alloc();
+    let text = Vec::from_slice(alloc, JOB.as_bytes())?;
     let words = vec![in alloc; String::from_str(alloc, "run")?]?;
-    let mut image = MemSource::new(Vec::new(alloc), 1, Vec::new(alloc));
-    let mut image_out = MemSink::new(alloc, 1, 1, Vec::new(alloc))?;
-    run_boxes(
-        rt,
-        words.as_slice(),
-        told,
-        job,
-        &mut image,
-        out,
-        &mut image_out,
-    )
+    let mut job = MemSource::new(text, 4096, Vec::new(alloc));
+    run_boxes(rt, &words, signals, &mut job, out)
 }
 
-// Hands both boxes to a run over these devices.
+// Hands both boxes to the run.
 fn run_boxes(
-    rt: &(impl AllocGlobal + Threads + Wait + Sync),
+    rt: &(impl AllocGlobal + Files + Threads + Wait + Sync),
     words: &[String],
-    told: &Told,
+    signals: &Arc<Signals, Global>,
     job: &mut MemSource,
-    image: &mut MemSource,
     out: &mut MemSink,
-    image_out: &mut MemSink,
 ) -> Result<Status, Fail> {
     let alloc = rt.alloc();
     let mut indexes: Vec<Box<dyn Index + Send>> = Vec::new(alloc);
-    indexes.push(box_for(alloc, 2, &told.signals, &told.first)?)?;
-    indexes.push(box_for(alloc, 1, &told.signals, &told.second)?)?;
-    Ok(montage(rt, words, job, image, indexes, out, image_out))
+    indexes.push(box_for(alloc, 2, 0, signals)?)?;
+    indexes.push(box_for(alloc, 1, 8, signals)?)?;
+    Ok(serve(rt, words, job, indexes, out)?)
 }
 
 // Neither put waited in vain, and each box held its pair until it was dropped.
-fn have_met(rt: &impl Abort, told: &Told) {
-    let late = told.signals.late.load(Ordering::SeqCst);
-    let dropped = told.signals.dropped.load(Ordering::SeqCst);
-    assert_eq!(rt; (late, dropped), (0, 2));
-    assert_eq!(rt; (told.first.told(), told.second.told()), ((1, 0), (1, 8)));
+fn have_met(rt: &impl Abort, signals: &Signals) {
+    assert!(rt; signals.late.load(Ordering::SeqCst) == 0);
+    assert!(rt; signals.dropped.load(Ordering::SeqCst) == 2);
+    assert!(rt; signals.held.load(Ordering::SeqCst) == 2);
 }
