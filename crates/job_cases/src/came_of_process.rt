@@ -95,7 +95,11 @@ fn code_of<R: AllocGlobal + Files + Threads + Wait + Sync>(
     let alloc = rt.alloc();
     let mut indexes: Vec<Box<dyn Index + Send>> = Vec::new(alloc);
     for word in given.boxes.split_ascii_whitespace() {
-        push_box(alloc, &mut indexes, word)?;
+        if word == "probed" {
+            indexes.push(Box::new(alloc, ProbeIndex::new(alloc))?)?;
+        } else {
+            indexes.push(sorted_box(alloc, word)?)?;
+        }
     }
     let Sources { job, image } = sources;
     Ok(if given.case.part("files").is_some() {
@@ -113,27 +117,18 @@ fn code_of<R: AllocGlobal + Files + Threads + Wait + Sync>(
     })
 }
 
-// Adds the box that a word tells.
-fn push_box(
-    alloc: Global,
-    indexes: &mut Vec<Box<dyn Index + Send>>,
-    word: &str,
-) -> Result<(), Unanswered> {
+// A sorted box, which is empty or holds a pair.
+fn sorted_box(alloc: Global, word: &str) -> Result<Box<SortedIndex>, Unanswered> {
+    let mut index = SortedIndex::new(alloc);
     match word {
-        "empty" => indexes.push(Box::new(alloc, SortedIndex::new(alloc))?)?,
-        "probed" => indexes.push(Box::new(alloc, ProbeIndex::new(alloc))?)?,
-        "full" => indexes.push(Box::new(alloc, full_index(alloc)?)?)?,
+        "empty" => {}
+        "full" => {
+            index.reserve()?;
+            let _ = index.put(Text::of_number(1), 0);
+        }
         _ => return Err(Unanswered::Unclear { head: "boxes" }),
     }
-    Ok(())
-}
-
-// A sorted box that holds a pair.
-fn full_index(alloc: Global) -> Result<SortedIndex, AllocError> {
-    let mut index = SortedIndex::new(alloc);
-    index.reserve()?;
-    let _ = index.put(Text::of_number(1), 0);
-    Ok(index)
+    Ok(Box::new(alloc, index)?)
 }
 
 // The words of a command line.

@@ -9,7 +9,6 @@ ghost use Rattle.montage_tool.specs.Process.{CameOf, Ends};
 use index_kit::{Index, ProbeIndex, SortedIndex};
 use mont_base::{MOST_UNITS, Sink, Source};
 use montage_tool::{Status, StdSink, StdSource, exit_of, say, serve, words_of};
-use std::alloc::{AllocError, Global};
 use std::process::ExitCode;
 use std::rt::{Env, Files};
 use std::sync::Wait;
@@ -22,7 +21,8 @@ fn main(rt: HostRuntime) -> ExitCode {
     answer_words(&rt, &mut job, &mut out)
 }
 
-// The words are answered with as many empty boxes as a store has units. Where there is no memory for
+// The words are answered with as many empty boxes as a store has units, of two kinds in turn. The
+// first map is given the one that probes, which finds a key quicker. Where there is no memory for
 // them there are no words either.
 fn answer_words<R: AllocGlobal + Env + Files + Threads + Wait + Sync, J: Source, O: Sink>(
     rt: &R,
@@ -30,22 +30,24 @@ fn answer_words<R: AllocGlobal + Env + Files + Threads + Wait + Sync, J: Source,
     out: &mut O,
 ) -> ExitCode {
     let alloc = rt.alloc();
-    let mut indexes = Vec::new(alloc);
-    let words = match push_boxes(alloc, &mut indexes) {
-        Ok(()) => words_of(alloc, env::args(rt)),
-        Err(_) => Err(Status::Memory),
+    let mut indexes: Vec<Box<dyn Index + Send>> = Vec::new(alloc);
+    for _pair in 0..MOST_UNITS / 2 {
+        let Ok(probed) = Box::new(alloc, ProbeIndex::new(alloc)) else {
+            break;
+        };
+        let Ok(sorted) = Box::new(alloc, SortedIndex::new(alloc)) else {
+            break;
+        };
+        if indexes.push(probed).is_err() || indexes.push(sorted).is_err() {
+            break;
+        }
+    }
+    let words = if indexes.len() < MOST_UNITS {
+        Err(Status::Memory)
+    } else {
+        words_of(alloc, env::args(rt))
     };
     end_process(rt, words, job, indexes, out)
-}
-
-// Adds boxes of two kinds in turn. The first map is given the one that probes, which finds a key
-// quicker.
-fn push_boxes(alloc: Global, indexes: &mut Vec<Box<dyn Index + Send>>) -> Result<(), AllocError> {
-    for _pair in 0..MOST_UNITS / 2 {
-        indexes.push(Box::new(alloc, ProbeIndex::new(alloc))?)?;
-        indexes.push(Box::new(alloc, SortedIndex::new(alloc))?)?;
-    }
-    Ok(())
 }
 
 // Answers the words of the process, where it has any, with these boxes, says the status by its
