@@ -3,7 +3,7 @@ ghost use Rattle.std.specs.Prelude.{◌≡◌};
 ghost use Rattle.store.specs.StoreCalls.{IsSamePass};
 
 use crate::course::Course;
-use crate::lent_store::{Kind, layout_of, lend};
+use crate::lent_store::{Kind, layout_of, lend_to_one};
 use crate::timed_rounds::{nanos_since, time_calls};
 use crate::timing_trouble::Trouble;
 use heap_pass::{HeapName, Pass};
@@ -18,7 +18,7 @@ use store_door::Work;
 const SLOTS: u64 = 4096;
 
 // What ends a round.
-#[derive(Clone, Copy, PartialEq, Eq)]
+#[derive(Clone, Copy)]
 pub(crate) enum End {
     // An advance that writes the round's records back.
     Tick,
@@ -59,8 +59,7 @@ pub(crate) fn time_ends<R: AllocGlobal + Threads + Wait + Clock + Sync>(
         ends,
         came: Ok(0),
     };
-    let (_stopped, mut works) = lend(rt, alloc, layout, vec![in alloc; rounds]?)?;
-    match works.pop() {
+    match lend_to_one(rt, alloc, layout, rounds)? {
         Some(rounds) => rounds.came,
         None => Ok(0),
     }

@@ -19,7 +19,7 @@ pub(crate) struct Course {
 }
 
 // What an operation does.
-#[derive(Clone, Copy, PartialEq, Eq)]
+#[derive(Clone, Copy)]
 pub(crate) enum Deed {
     Put,
     Get,
@@ -69,23 +69,41 @@ impl Turns {
         op_at(deed, unit, number, key)
     }
 
-    // The operations that do this with so many things in each unit.
-    fn ops(&self, alloc: Global, deed: Deed, things: u64) -> Result<Vec<Op>, AllocError> {
-        let mut ops = Vec::new(alloc);
-        for turn in 0..self.many(things) {
-            ops.push(self.op(deed, turn))?;
+    // Adds the operations of these steps, each over and over until there are so many at least.
+    fn push_steps(
+        &self,
+        ops: &mut Vec<Op>,
+        steps: &[Step],
+        size: u64,
+        least: u64,
+    ) -> Result<(), AllocError> {
+        for (deed, things) in steps {
+            let many = match things {
+                Things::Size => size,
+                Things::Vertices => size.saturating_add(1),
+                Things::Items => ITEMS,
+            };
+            self.push_ops(ops, *deed, many, least)?;
         }
-        Ok(ops)
+        Ok(())
     }
 
-    // So often that a round is long.
-    fn long(&self, alloc: Global, deed: Deed, things: u64) -> Result<Vec<Op>, AllocError> {
-        let once = self.many(things).max(1);
-        let mut ops = Vec::new(alloc);
-        for turn in 0..LONG.div_ceil(once).saturating_mul(once) {
-            ops.push(self.op(deed, turn % once))?;
+    // Adds the operations that do this with so many things in each unit, over and over until there
+    // are so many at least.
+    fn push_ops(
+        &self,
+        ops: &mut Vec<Op>,
+        deed: Deed,
+        things: u64,
+        least: u64,
+    ) -> Result<(), AllocError> {
+        let once = self.many(things);
+        for _time in 0..least.div_ceil(once.max(1)) {
+            for turn in 0..once {
+                ops.push(self.op(deed, turn))?;
+            }
         }
-        Ok(ops)
+        Ok(())
     }
 }
 
@@ -128,6 +146,95 @@ fn op_at(deed: Deed, unit: u64, number: u64, key: u64) -> Op {
     }
 }
 
+// So many of a thing in each unit.
+#[derive(Clone, Copy)]
+enum Things {
+    // As many as the plan's size.
+    Size,
+    // One more: the vertices of a path of so many edges.
+    Vertices,
+    // Those that come and go in a round.
+    Items,
+}
+
+// Something that is done with so many things.
+type Step = (Deed, Things);
+
+// The steps of a course, and whether its timed one is gone through until the round is long.
+struct Shape {
+    first: &'static [Step],
+    before: &'static [Step],
+    timed: &'static [Step],
+    after: &'static [Step],
+    long: bool,
+}
+
+// Puts of pairs that are there.
+static PUTS: Shape = Shape {
+    first: &[(Deed::Put, Things::Size)],
+    before: &[],
+    timed: &[(Deed::Put, Things::Size)],
+    after: &[],
+    long: true,
+};
+
+// Look-ups of pairs that are there.
+static GETS: Shape = Shape {
+    first: &[(Deed::Put, Things::Size)],
+    before: &[],
+    timed: &[(Deed::Get, Things::Size)],
+    after: &[],
+    long: true,
+};
+
+// Pairs are put, and their removal is timed.
+static REMOVALS: Shape = Shape {
+    first: &[],
+    before: &[(Deed::Put, Things::Size)],
+    timed: &[(Deed::Del, Things::Size)],
+    after: &[],
+    long: false,
+};
+
+// Items are added behind those that stay, and then as many are taken.
+static ADDITIONS: Shape = Shape {
+    first: &[(Deed::Enq, Things::Size)],
+    before: &[],
+    timed: &[(Deed::Enq, Things::Items)],
+    after: &[(Deed::Deq, Things::Items)],
+    long: false,
+};
+
+// Items are taken, behind as many that were added.
+static TAKINGS: Shape = Shape {
+    first: &[(Deed::Enq, Things::Size)],
+    before: &[(Deed::Enq, Things::Items)],
+    timed: &[(Deed::Deq, Things::Items)],
+    after: &[],
+    long: false,
+};
+
+// The edges of a path are added, and then removed.
+static NEW_EDGES: Shape = Shape {
+    first: &[(Deed::AddVertex, Things::Vertices)],
+    before: &[],
+    timed: &[(Deed::AddEdge, Things::Size)],
+    after: &[(Deed::DelEdge, Things::Size)],
+    long: false,
+};
+
+// The edges at the vertices of a path are counted.
+static COUNTS: Shape = Shape {
+    first: &[
+        (Deed::AddVertex, Things::Vertices),
+        (Deed::AddEdge, Things::Size),
+    ],
+    before: &[],
+    timed: &[(Deed::Degree, Things::Size)],
+    after: &[],
+    long: true,
+};
+
 impl Course {
     // The course by which this call is timed, with so many things in each unit.
     pub(crate) fn of(
@@ -136,82 +243,33 @@ impl Course {
         turns: Turns,
         size: u64,
     ) -> Result<Course, AllocError> {
-        match work {
-            Timed::Put => over_pairs(alloc, turns, Deed::Put, size),
-            Timed::Get => over_pairs(alloc, turns, Deed::Get, size),
-            Timed::Del => removals(alloc, turns, size),
-            Timed::Enq => additions(alloc, turns, size),
-            Timed::Deq => takings(alloc, turns, size),
-            Timed::AddEdge => new_edges(alloc, turns, size),
-            Timed::Degree => counts(alloc, turns, size),
-        }
+        let shape = match work {
+            Timed::Put => &PUTS,
+            Timed::Get => &GETS,
+            Timed::Del => &REMOVALS,
+            Timed::Enq => &ADDITIONS,
+            Timed::Deq => &TAKINGS,
+            Timed::AddEdge => &NEW_EDGES,
+            Timed::Degree => &COUNTS,
+        };
+        let mut course = Course {
+            first: Vec::new(alloc),
+            before: Vec::new(alloc),
+            timed: Vec::new(alloc),
+            after: Vec::new(alloc),
+        };
+        let least = if shape.long { LONG } else { 1 };
+        turns.push_steps(&mut course.first, shape.first, size, 1)?;
+        turns.push_steps(&mut course.before, shape.before, size, 1)?;
+        turns.push_steps(&mut course.timed, shape.timed, size, least)?;
+        turns.push_steps(&mut course.after, shape.after, size, 1)?;
+        Ok(course)
     }
 
     // Puts of so many pairs, by an only caller.
     pub(crate) fn puts(alloc: Global, pairs: u64) -> Result<Vec<Op>, AllocError> {
-        ALONE.ops(alloc, Deed::Put, pairs)
+        let mut ops = Vec::new(alloc);
+        ALONE.push_ops(&mut ops, Deed::Put, pairs, 1)?;
+        Ok(ops)
     }
-}
-
-// This is timed with pairs that are there.
-fn over_pairs(alloc: Global, turns: Turns, deed: Deed, size: u64) -> Result<Course, AllocError> {
-    Ok(Course {
-        first: turns.ops(alloc, Deed::Put, size)?,
-        before: Vec::new(alloc),
-        timed: turns.long(alloc, deed, size)?,
-        after: Vec::new(alloc),
-    })
-}
-
-// Pairs are put, and their removal is timed.
-fn removals(alloc: Global, turns: Turns, size: u64) -> Result<Course, AllocError> {
-    Ok(Course {
-        first: Vec::new(alloc),
-        before: turns.ops(alloc, Deed::Put, size)?,
-        timed: turns.ops(alloc, Deed::Del, size)?,
-        after: Vec::new(alloc),
-    })
-}
-
-// Items are added behind those that stay, and then as many are taken.
-fn additions(alloc: Global, turns: Turns, size: u64) -> Result<Course, AllocError> {
-    Ok(Course {
-        first: turns.ops(alloc, Deed::Enq, size)?,
-        before: Vec::new(alloc),
-        timed: turns.ops(alloc, Deed::Enq, ITEMS)?,
-        after: turns.ops(alloc, Deed::Deq, ITEMS)?,
-    })
-}
-
-// Items are taken, behind as many that were added.
-fn takings(alloc: Global, turns: Turns, size: u64) -> Result<Course, AllocError> {
-    Ok(Course {
-        first: turns.ops(alloc, Deed::Enq, size)?,
-        before: turns.ops(alloc, Deed::Enq, ITEMS)?,
-        timed: turns.ops(alloc, Deed::Deq, ITEMS)?,
-        after: Vec::new(alloc),
-    })
-}
-
-// The edges of a path are added, and then removed.
-fn new_edges(alloc: Global, turns: Turns, size: u64) -> Result<Course, AllocError> {
-    Ok(Course {
-        first: turns.ops(alloc, Deed::AddVertex, size.saturating_add(1))?,
-        before: Vec::new(alloc),
-        timed: turns.ops(alloc, Deed::AddEdge, size)?,
-        after: turns.ops(alloc, Deed::DelEdge, size)?,
-    })
-}
-
-// The edges at the vertices of a path are counted.
-fn counts(alloc: Global, turns: Turns, size: u64) -> Result<Course, AllocError> {
-    let mut first = turns.ops(alloc, Deed::AddVertex, size.saturating_add(1))?;
-    let edges = turns.ops(alloc, Deed::AddEdge, size)?;
-    first.extend_from_slice(&edges)?;
-    Ok(Course {
-        first,
-        before: Vec::new(alloc),
-        timed: turns.long(alloc, Deed::Degree, size)?,
-        after: Vec::new(alloc),
-    })
 }

@@ -21,7 +21,7 @@ const GRAPHS: &[u8] = b"gggg";
 const MOST: usize = 8;
 
 // The kinds of units on which something is timed.
-#[derive(Clone, Copy, PartialEq, Eq)]
+#[derive(Clone, Copy)]
 pub(crate) enum Kind {
     Map,
     Queue,
@@ -57,6 +57,30 @@ pub(crate) fn lend<R: Threads + Sync, W: Work<R, Fuel> + Drop + Send>(
         indexes.push(ProbeIndex::new(alloc))?;
     }
     Ok(with_fresh(rt, alloc, layout, gates, indexes, works)?)
+}
+
+// Lends a store to these, and gives them back when it was stopped.
+pub(crate) fn lend_to<R: Threads + Sync, W: Work<R, Fuel> + Drop + Send>(
+    rt: &R,
+    alloc: Global,
+    layout: Layout,
+    works: Vec<W>,
+) -> Result<Vec<W>, StoreRefusal> {
+    match lend(rt, alloc, layout, works) {
+        Ok((_stopped, works)) => Ok(works),
+        Err(why) => Err(why),
+    }
+}
+
+// Lends a store to one alone.
+pub(crate) fn lend_to_one<R: Threads + Sync, W: Work<R, Fuel> + Drop + Send>(
+    rt: &R,
+    alloc: Global,
+    layout: Layout,
+    work: W,
+) -> Result<Option<W>, StoreRefusal> {
+    let works = vec![in alloc; work]?;
+    Ok(lend_to(rt, alloc, layout, works)?.pop())
 }
 
 // So many gates, none of which ever cuts.

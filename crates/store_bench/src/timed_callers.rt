@@ -3,7 +3,7 @@ ghost use Rattle.std.specs.Prelude.{◌≡◌};
 ghost use Rattle.store.specs.StoreCalls.{IsSamePass};
 
 use crate::course::{Course, Turns};
-use crate::lent_store::{Kind, layout_of, lend};
+use crate::lent_store::{Kind, layout_of, lend_to};
 use crate::timed_plan::{Callers, Timed};
 use crate::timed_rounds::go_through;
 use crate::timing_trouble::Trouble;
@@ -69,6 +69,19 @@ pub(crate) fn time_callers<R: AllocGlobal + Threads + Wait + Clock + Sync>(
     };
     let layout = layout_of(kind, by.many, SLOTS)?;
     let done = AtomicU64::new(0);
+    let sharers = sharers_of(alloc, work, by, size, calls, &done)?;
+    slowest(&lend_to(rt, alloc, layout, sharers)?)
+}
+
+// Those who share a store: each caller, and the one who moves the clock on if there is one.
+fn sharers_of(
+    alloc: Global,
+    work: Timed,
+    by: Callers,
+    size: u64,
+    calls: u64,
+    done: &AtomicU64,
+) -> Result<Vec<Sharer<'_>>, AllocError> {
     let mut sharers = Vec::new(alloc);
     for caller in 0..by.many {
         let turns = Turns {
@@ -77,13 +90,12 @@ pub(crate) fn time_callers<R: AllocGlobal + Threads + Wait + Clock + Sync>(
             own: by.own,
         };
         let course = Course::of(alloc, work, turns, size)?;
-        sharers.push(sharer_of(Part::Calls { course, calls }, &done))?;
+        sharers.push(sharer_of(Part::Calls { course, calls }, done))?;
     }
     if by.advancer {
-        sharers.push(sharer_of(Part::Ticks { callers: by.many }, &done))?;
+        sharers.push(sharer_of(Part::Ticks { callers: by.many }, done))?;
     }
-    let (_stopped, sharers) = lend(rt, alloc, layout, sharers)?;
-    slowest(&sharers)
+    Ok(sharers)
 }
 
 fn sharer_of(part: Part, done: &AtomicU64) -> Sharer<'_> {

@@ -1,7 +1,7 @@
 // What is to be timed.
 
 // What is timed.
-#[derive(Clone, Copy, Debug, PartialEq, Eq)]
+#[derive(Clone, Copy)]
 pub(crate) enum Subject {
     // Calls of callers.
     Calls { work: Timed, by: Callers },
@@ -18,7 +18,7 @@ pub(crate) enum Subject {
 }
 
 // Which call of a structure.
-#[derive(Clone, Copy, Debug, PartialEq, Eq)]
+#[derive(Clone, Copy)]
 pub(crate) enum Timed {
     Put,
     Get,
@@ -30,7 +30,7 @@ pub(crate) enum Timed {
 }
 
 // Who calls.
-#[derive(Clone, Copy, Debug, PartialEq, Eq)]
+#[derive(Clone, Copy)]
 pub(crate) struct Callers {
     // How many callers there are, and as many units.
     pub(crate) many: u64,
@@ -41,7 +41,7 @@ pub(crate) struct Callers {
 }
 
 // What is timed, how large it is, and how often it is done.
-#[derive(Clone, Copy, Debug, PartialEq, Eq)]
+#[derive(Clone, Copy)]
 pub(crate) struct Plan {
     pub(crate) subject: Subject,
     pub(crate) size: u64,

@@ -4,7 +4,7 @@ use std::{fmt, io};
 use store::StoreRefusal;
 
 // Why nothing could be timed.
-#[derive(Clone, Copy, Debug, PartialEq, Eq)]
+#[derive(Clone, Copy)]
 pub(crate) enum Trouble {
     // The store refused something.
     Refused { why: StoreRefusal },

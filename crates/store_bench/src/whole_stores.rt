@@ -5,7 +5,7 @@ ghost use Rattle.store_bench.specs.StoppedRuns.{WasStopped};
 
 use crate::clock_ends::sync;
 use crate::course::Course;
-use crate::lent_store::{Kind, layout_of, lend};
+use crate::lent_store::{Kind, layout_of, lend, lend_to_one};
 use crate::timed_rounds::{nanos_since, time_calls};
 use crate::timing_trouble::Trouble;
 use heap_pass::{HeapName, Pass};
@@ -101,8 +101,7 @@ fn time_opening<R: Threads + Clock + Sync>(
         begin: Instant::now(rt)?,
         came: Ok(0),
     };
-    let (_stopped, mut works) = lend(rt, alloc, layout, vec![in alloc; opens]?)?;
-    match works.pop() {
+    match lend_to_one(rt, alloc, layout, opens)? {
         Some(opens) => opens.came,
         None => Ok(0),
     }
@@ -118,10 +117,21 @@ pub(crate) fn time_stops<R: AllocGlobal + Threads + Wait + Clock + Sync>(
     let mut nanos = 0u64;
     for _stop in 0..stops {
         let ops = Course::puts(alloc, KEYS)?;
-        let (_stopped, took) = stop_one(rt, alloc, SLOTS, ops, entries)?;
-        nanos = nanos.saturating_add(took);
+        nanos = nanos.saturating_add(time_stop(rt, alloc, ops, entries)?);
     }
     Ok(nanos)
+}
+
+fn time_stop<R: Threads + Wait + Clock + Sync>(
+    rt: &R,
+    alloc: Global,
+    ops: Vec<Op>,
+    entries: u64,
+) -> Result<u64, Trouble> {
+    match stop_one(rt, alloc, SLOTS, ops, entries) {
+        Ok((_stopped, took)) => Ok(took),
+        Err(why) => Err(why),
+    }
 }
 
 // A store that was stopped behind so many calls, with the nanoseconds that its stop took.
@@ -140,11 +150,19 @@ fn stop_one<R: Threads + Wait + Clock + Sync>(
         calls,
         ended: Err(Trouble::NoClock),
     };
-    let (stopped, mut works) = lend(rt, alloc, layout, vec![in alloc; fills]?)?;
-    let Some(fills) = works.pop() else {
-        return Err(Trouble::NoClock);
-    };
-    Ok((stopped, nanos_since(rt, fills.ended?)?))
+    let (stopped, works) = lend(rt, alloc, layout, vec![in alloc; fills]?)?;
+    match nanos_behind(rt, &works) {
+        Ok(nanos) => Ok((stopped, nanos)),
+        Err(why) => Err(why),
+    }
+}
+
+// The nanoseconds since its work was done.
+fn nanos_behind<R: Clock>(rt: &R, works: &[Fills]) -> Result<u64, Trouble> {
+    match works.first() {
+        Some(fills) => nanos_since(rt, fills.ended?),
+        None => Err(Trouble::NoClock),
+    }
 }
 
 // The nanoseconds of so many openings from the image of a map, half of whose slots have a pair,
@@ -155,9 +173,7 @@ pub(crate) fn time_recoveries<R: AllocGlobal + Threads + Wait + Clock + Sync>(
     recoveries: u64,
 ) -> Result<u64, Trouble> {
     let alloc = rt.alloc();
-    let pairs = slots / 2;
-    let (stopped, _took) = stop_one(rt, alloc, slots, Course::puts(alloc, pairs)?, pairs)?;
-    let image = pick(alloc, &stopped.words, 0)?;
+    let image = image_of_pairs(rt, alloc, slots)?;
     let mut nanos = 0u64;
     for _recovery in 0..recoveries {
         let begin = Instant::now(rt)?;
@@ -165,6 +181,20 @@ pub(crate) fn time_recoveries<R: AllocGlobal + Threads + Wait + Clock + Sync>(
         nanos = nanos.saturating_add(nanos_since(rt, begin)?);
     }
     Ok(nanos)
+}
+
+// The image of a map, half of whose slots have a pair.
+fn image_of_pairs<R: Threads + Wait + Clock + Sync>(
+    rt: &R,
+    alloc: Global,
+    slots: u64,
+) -> Result<Image, Trouble>
+    ensures { IfOk result (λ image. image.old ≡ false) }
+{
+    let pairs = slots / 2;
+    let ops = Course::puts(alloc, pairs)?;
+    let (stopped, _took) = stop_one(rt, alloc, slots, ops, pairs)?;
+    Ok(pick(alloc, &stopped.words, 0)?)
 }
 
 fn recover_once<R: Threads + Sync>(rt: &R, alloc: Global, image: &Image) -> Result<(), StoreRefusal>

@@ -23,14 +23,18 @@ use store_stop::Stopped;
 const MASK: u64 = 0xB6DB_6DB6_DB6D_B6DB;
 
 fn main(rt: HostRuntime) -> io::Result<()> {
-    let (stopped, turns) = match crash_and_resume(&rt) {
-        Ok(ran) => ran,
-        Err(why) => return println!(rt; "given up: {why:?}"),
-    };
+    match crash_and_resume(&rt) {
+        Ok((stopped, turns)) => tell(&rt, &stopped, &turns),
+        Err(why) => println!(rt; "given up: {why:?}"),
+    }
+}
+
+// Tells what the second store began with, what its caller took, and how much was done on it.
+fn tell(rt: &HostRuntime, stopped: &Stopped, turns: &[Turn]) -> io::Result<()> {
     for unit in stopped.base.units.as_slice() {
         println!(rt; "opened again with {} item", unit.size())?;
     }
-    for turn in &turns {
+    for turn in turns {
         println!(rt; "took {:?}", turn.took)?;
     }
     for history in stopped.histories.as_slice() {
