@@ -1,4 +1,5 @@
-//! Tries worked cases of jobs: what the words and the job come to, on devices in memory or on files.
+//! Tries worked cases of jobs: what the words and the job come to, on devices in memory or on
+//! files.
 #![tactic(auto)]
 
 mod came_of_process;

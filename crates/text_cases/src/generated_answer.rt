@@ -1,5 +1,5 @@
-// What is told of what is made of a number: the generated job, the opening of the generated bank and
-// the shifts of its callers, and the summary of no run at all.
+// What is told of what is made of a number: the generated job, the opening of the generated bank
+// and the shifts of its callers, and the summary of no run at all.
 ghost use Rattle.std.specs.Prelude.{◌<◌};
 
 use bank_job::{CALLERS, bank_layout, opening_puts, shifts_of_caller};
@@ -11,9 +11,9 @@ use plain::Contents;
 use std::alloc::{AllocError, Global};
 use std::str;
 
-/// The lines at the places of the part `lines`, which are counted from 0, and how many there are. The
-/// name is `job`, `opening`, `shifts` or `summary`. The part `numbers` has the number that all is
-/// made of, and for shifts the caller.
+/// The lines at the places of the part `lines`, which are counted from 0, and how many there are.
+/// The name is `job`, `opening`, `shifts` or `summary`. The part `numbers` has the number that all
+/// is made of, and for shifts the caller.
 pub fn answer_generated(alloc: Global, case: &Case, name: &[u8]) -> Result<Vec<u8>, Unanswered> {
     let numbers = numbers_in(alloc, "numbers", case.needed("numbers")?)?;
     let text = generated_text(alloc, name, &numbers)?;
