@@ -54,7 +54,9 @@ fn draw_calls<R: Wait, N: HeapName, I: Index>(
     let layout = store.heap().layout();
     let (mut agree, mut differ, mut refused) = (0u64, 0u64, 0u64);
     for made in 0..many {
-        let op = draws.op(&layout).ok_or(ScriptFault::Operation)?;
+        let Some(op) = draws.op(&layout) else {
+            return Err(ScriptFault::Operation);
+        };
         match draw_call(rt, store, caller, plain, &op)? {
             Some(true) => agree = agree.saturating_add(1),
             Some(false) => differ = differ.saturating_add(1),

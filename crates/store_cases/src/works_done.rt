@@ -111,8 +111,9 @@ fn call<R: Wait, N: HeapName, I: Index>(
     caller: &mut Caller<N>,
     asked: &str,
 ) -> Result<(), ScriptFault> {
+    let op = op_in(asked)?;
     let mut pairs = PairList::empty();
-    match caller.call(rt, store, &op_in(asked)?, &mut pairs) {
+    match caller.call(rt, store, &op, &mut pairs) {
         Some(Ok(receipt)) => tell_answered(scene, &receipt, &pairs),
         Some(Err(refusal)) => Ok(tell_refusal(&mut scene.told, refusal)?),
         None => Err(ScriptFault::Operation),
@@ -130,7 +131,8 @@ fn shift<R: Wait, N: HeapName, I: Index>(
     amount: &str,
 ) -> Result<(), ScriptFault> {
     let (from, to) = (text_in(from)?, text_in(to)?);
-    match caller.shift(rt, store, from, to, number_in(amount)?) {
+    let amount = number_in(amount)?;
+    match caller.shift(rt, store, from, to, amount) {
         Some(Ok((out, into))) => {
             tell_answered(scene, &out, &PairList::empty())?;
             write!(scene.told, ", ")?;
