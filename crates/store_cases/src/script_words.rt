@@ -41,17 +41,14 @@ pub fn masks_in(alloc: Global, words: &[&str]) -> Result<Vec<u64>, ScriptFault> 
 }
 
 /// The operation that words spell, whether or not the store has a unit for it.
-pub fn op_in(asked: &str) -> Result<Op, ScriptFault> {
-    match words::<MOST_WORDS>(asked.as_bytes()) {
-        Some(words) => read_op(words.as_slice()).ok_or(ScriptFault::Unclear),
-        None => Err(ScriptFault::Unclear),
-    }
+pub fn op_in(asked: &str) -> Option<Op> {
+    read_op(words::<MOST_WORDS>(asked.as_bytes())?.as_slice())
 }
 
 /// The text that a word spells.
-pub fn text_in(word: &str) -> Result<Text, ScriptFault> {
+pub fn text_in(word: &str) -> Option<Text> {
     match read_op(&[b"get".as_slice(), word.as_bytes()]) {
-        Some(Op::Get { key }) => Ok(key),
-        _ => Err(ScriptFault::Unclear),
+        Some(Op::Get { key }) => Some(key),
+        _ => None,
     }
 }

@@ -111,7 +111,9 @@ fn call<R: Wait, N: HeapName, I: Index>(
     caller: &mut Caller<N>,
     asked: &str,
 ) -> Result<(), ScriptFault> {
-    let op = op_in(asked)?;
+    let Some(op) = op_in(asked) else {
+        return Err(ScriptFault::Unclear);
+    };
     let mut pairs = PairList::empty();
     match caller.call(rt, store, &op, &mut pairs) {
         Some(Ok(receipt)) => tell_answered(scene, &receipt, &pairs),
@@ -130,7 +132,9 @@ fn shift<R: Wait, N: HeapName, I: Index>(
     to: &str,
     amount: &str,
 ) -> Result<(), ScriptFault> {
-    let (from, to) = (text_in(from)?, text_in(to)?);
+    let (Some(from), Some(to)) = (text_in(from), text_in(to)) else {
+        return Err(ScriptFault::Unclear);
+    };
     let amount = number_in(amount)?;
     match caller.shift(rt, store, from, to, amount) {
         Some(Ok((out, into))) => {
