@@ -46,7 +46,7 @@ fn push_image(told: &mut String, image: &Image) -> Result<(), AllocError> {
 // The lines of the slots that aren't all zeros, which stand behind the clock.
 fn push_slots(told: &mut String, words: &[u64], fields: usize) -> Result<(), AllocError> {
     if let Some((_clock, slots)) = words.split_first() {
-        for (slot, words) in slots.chunks(fields).enumerate() {
+        for (slot, words) in slots.chunks(fields.max(1)).enumerate() {
             if words.iter().any(|word| *word != 0) {
                 write!(told, "{slot} words")?;
                 push_numbers(told, words)?;

@@ -21,8 +21,7 @@ pub fn tell_behind(
 
 // The text of a history of one entry.
 fn history_text(alloc: Global, entry: &Entry, pairs: &PairList) -> Result<String, AllocError> {
-    let mut history = Sequence::new(alloc);
-    history.push(*entry)?;
+    let history = copied(alloc, slice::from_ref(entry))?;
     let runs = runs_of(alloc, pairs)?;
     let mut text = String::new(alloc);
     write_histories(&mut text, slice::from_ref(&history), slice::from_ref(&runs))?;
@@ -30,11 +29,15 @@ fn history_text(alloc: Global, entry: &Entry, pairs: &PairList) -> Result<String
 }
 
 fn runs_of(alloc: Global, pairs: &PairList) -> Result<Sequence<Run>, AllocError> {
-    let mut run = Sequence::new(alloc);
-    for pair in pairs.as_slice() {
-        run.push(*pair)?;
-    }
     let mut runs = Sequence::new(alloc);
-    runs.push(run)?;
+    runs.push(copied(alloc, pairs.as_slice())?)?;
     Ok(runs)
+}
+
+fn copied<T: Copy>(alloc: Global, items: &[T]) -> Result<Sequence<T>, AllocError> {
+    let mut copy = Sequence::new(alloc);
+    for item in items {
+        copy.push(*item)?;
+    }
+    Ok(copy)
 }

@@ -47,8 +47,13 @@ pub fn op_in(asked: &str) -> Option<Op> {
 
 /// The text that a word spells.
 pub fn text_in(word: &str) -> Option<Text> {
-    match read_op(&[b"get".as_slice(), word.as_bytes()]) {
-        Some(Op::Get { key }) => Some(key),
+    key_of(&read_op(&[b"get".as_slice(), word.as_bytes()])?)
+}
+
+// The key of a look-up.
+fn key_of(op: &Op) -> Option<Text> {
+    match op {
+        Op::Get { key } => Some(*key),
         _ => None,
     }
 }
