@@ -15,24 +15,29 @@ use std::alloc::{AllocError, Global};
 
 // What is asked of a unit, and the reply that it may give.
 #[derive(Clone, Copy)]
-struct Asked {
+struct Asked<'a> {
     unit: u64,
-    op: Op,
-    reply: Reply,
+    op: &'a Op,
+    reply: &'a Reply,
 }
 
-fn asked_in(words: &str) -> Result<Asked, LineFault> {
+fn asked_in(words: &str) -> Result<(u64, Op, Reply), LineFault> {
     let (unit, answer) = first_word(words);
     let (op, reply) = answer_in(answer)?;
     match unit.parse() {
-        Ok(unit) => Ok(Asked { unit, op, reply }),
+        Ok(unit) => Ok((unit, op, reply)),
         Err(_) => Err(LineFault::Unclear),
     }
 }
 
 /// Tells of all images.
 pub fn tell_images(alloc: Global, run: &mut Run, words: &str) -> Result<(), LineFault> {
-    let asked = asked_in(words)?;
+    let (unit, op, reply) = asked_in(words)?;
+    let asked = Asked {
+        unit,
+        op: &op,
+        reply: &reply,
+    };
     write!(run.told, "images {words}: ")?;
     let (current, durable) = (clock(&run.core), durable_clock(&run.core));
     tell_at(alloc, &mut run.told, &run.core, &asked, durable)?;
@@ -48,7 +53,7 @@ fn tell_at(
     alloc: Global,
     told: &mut String,
     core: &Core,
-    asked: &Asked,
+    asked: &Asked<'_>,
     clock: Epoch,
 ) -> Result<(), AllocError> {
     let (mut all, mut same) = (0_u64, 0_u64);
@@ -68,7 +73,12 @@ fn tell_at(
 /// 64.
 pub fn tell_picked(alloc: Global, run: &mut Run, words: &str) -> Result<(), LineFault> {
     let (digits, rest) = first_word(words);
-    let asked = asked_in(rest)?;
+    let (unit, op, reply) = asked_in(rest)?;
+    let asked = Asked {
+        unit,
+        op: &op,
+        reply: &reply,
+    };
     let Ok(mask) = u64::from_str_radix(digits, 16) else {
         return Err(LineFault::Unclear);
     };
@@ -110,7 +120,7 @@ fn is_given(
     alloc: Global,
     layout: Layout,
     image: &[u64],
-    asked: &Asked,
+    asked: &Asked<'_>,
 ) -> Result<bool, AllocError> {
     if !is_well_formed(alloc, layout, image)? {
         return Ok(false);
@@ -119,10 +129,10 @@ fn is_given(
     is_given_in(&mut contents, asked)
 }
 
-fn is_given_in(contents: &mut Contents, asked: &Asked) -> Result<bool, AllocError> {
+fn is_given_in(contents: &mut Contents, asked: &Asked<'_>) -> Result<bool, AllocError> {
     if asked.unit < contents.units.len() {
-        let reply = contents.units.item_mut(asked.unit).apply(&asked.op)?;
-        Ok(reply == asked.reply)
+        let reply = contents.units.item_mut(asked.unit).apply(asked.op)?;
+        Ok(reply == *asked.reply)
     } else {
         Ok(false)
     }
