@@ -3,7 +3,7 @@ ghost use Rattle.std.specs.Prelude.{◌≡◌};
 ghost use Rattle.store.specs.StoreCalls.{IsSamePass};
 
 use crate::course::Course;
-use crate::lent_store::{Kind, layout_of, lend_to_one};
+use crate::lent_store::{Kind, layout_of, lend_to};
 use crate::timed_rounds::{nanos_since, time_calls};
 use crate::timing_trouble::Trouble;
 use heap_pass::{HeapName, Pass};
@@ -59,7 +59,7 @@ pub(crate) fn time_ends<R: AllocGlobal + Threads + Wait + Clock + Sync>(
         ends,
         came: Ok(0),
     };
-    match lend_to_one(rt, alloc, layout, rounds)? {
+    match lend_to(rt, alloc, layout, vec![in alloc; rounds]?)?.pop() {
         Some(rounds) => rounds.came,
         None => Ok(0),
     }

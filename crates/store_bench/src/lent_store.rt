@@ -72,17 +72,6 @@ pub(crate) fn lend_to<R: Threads + Sync, W: Work<R, Fuel> + Drop + Send>(
     }
 }
 
-// Lends a store to one alone.
-pub(crate) fn lend_to_one<R: Threads + Sync, W: Work<R, Fuel> + Drop + Send>(
-    rt: &R,
-    alloc: Global,
-    layout: Layout,
-    work: W,
-) -> Result<Option<W>, StoreRefusal> {
-    let works = vec![in alloc; work]?;
-    Ok(lend_to(rt, alloc, layout, works)?.pop())
-}
-
 // So many gates, none of which ever cuts.
 fn endless_gates(alloc: Global, many: usize) -> Result<Vec<Fuel>, AllocError>
     ensures { IfOk result (λ gates. vec_len gates ≡ many) }

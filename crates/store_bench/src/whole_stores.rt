@@ -5,7 +5,7 @@ ghost use Rattle.store_bench.specs.StoppedRuns.{WasStopped};
 
 use crate::clock_ends::sync;
 use crate::course::Course;
-use crate::lent_store::{Kind, layout_of, lend, lend_to_one};
+use crate::lent_store::{Kind, layout_of, lend, lend_to};
 use crate::timed_rounds::{nanos_since, time_calls};
 use crate::timing_trouble::Trouble;
 use heap_pass::{HeapName, Pass};
@@ -101,7 +101,7 @@ fn time_opening<R: Threads + Clock + Sync>(
         begin: Instant::now(rt)?,
         came: Ok(0),
     };
-    match lend_to_one(rt, alloc, layout, opens)? {
+    match lend_to(rt, alloc, layout, vec![in alloc; opens]?)?.pop() {
         Some(opens) => opens.came,
         None => Ok(0),
     }
