@@ -15,6 +15,7 @@ use std::sync::Wait;
 use std::thread::Threads;
 use store::StoreRefusal;
 use store_door::with_fresh;
+use store_stop::Stopped;
 
 // Every other word is lost in the crash, if it isn't durable.
 const MASK: u64 = 0x5555_5555_5555_5555;
