@@ -9,13 +9,11 @@ use mont_base::{Kinds, Layout, Steady, Text};
 use mont_image::pick;
 use opened_account::Account;
 use plain::{Contents, UnitState, recover};
-use std::alloc::Global;
 use std::io;
 use std::sync::Wait;
 use std::thread::Threads;
 use store::StoreRefusal;
 use store_door::with_fresh;
-use store_stop::Stopped;
 
 // Every other word is lost in the crash, if it isn't durable.
 const MASK: u64 = 0x5555_5555_5555_5555;
@@ -42,16 +40,7 @@ fn transfer_and_recover<R: AllocGlobal + Threads + Wait + Sync>(
         Account::new(),
     ]?;
     let (stopped, accounts) = with_fresh(rt, alloc, layout, gates, indexes, accounts)?;
-    recovered_of(alloc, &stopped, &accounts)
-}
-
-// What recovery rebuilds of a store on which every caller did all.
-fn recovered_of(
-    alloc: Global,
-    stopped: &Stopped,
-    accounts: &[Account],
-) -> Result<Contents, StoreRefusal> {
-    for account in accounts {
+    for account in &accounts {
         account.ended?;
     }
     let image = pick(alloc, &stopped.words, MASK)?;
