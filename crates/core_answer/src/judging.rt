@@ -11,7 +11,8 @@ ghost use Rattle.core_answer.specs.Judging.{Answers};
 
 use crate::newest::Newest;
 use mont_base::{Effect, Layout, Op, Reply, Unit};
-use plain::{BuildRefusal, UnitState, build, live_objects};
+use payload::live_objects;
+use plain::{BuildRefusal, UnitState, build};
 use std::alloc::{AllocError, Global};
 
 // The effects of an operation, if it is one of the unit and has this reply on the state that the

@@ -6,6 +6,7 @@ ghost use Rattle.heap.specs.Opens.{Opens};
 use crate::dealing::zeros;
 use crate::heap::Heap;
 use crate::opening::Seats;
+use heap_rule::Opening;
 use mont_base::{FIRST_CLOCK, Layout};
 use std::alloc::{AllocError, Global};
 
@@ -20,6 +21,13 @@ impl Heap {
     {
         let mut words = zeros(alloc, layout.words())?;
         words.set(0, FIRST_CLOCK);
-        Heap::of_words(alloc, layout, words.as_slice(), callers)
+        Heap::opened(
+            alloc,
+            Opening {
+                layout,
+                words,
+                callers,
+            },
+        )
     }
 }

@@ -38,10 +38,28 @@ impl Heap {
             (record { layout = layout; words = words.now; callers = callers })
             r.0 r.1.units.items r.1.advancer r.1.callers.items) }
     {
-        let clock = words[0];
-        let (heap, mut all) = table_of_words(alloc, layout, words, callers)?;
+        let words = Sequence::from_vec(Vec::from_slice(alloc, words)?);
+        Heap::opened(
+            alloc,
+            Opening {
+                layout,
+                words,
+                callers,
+            },
+        )
+    }
+
+    // The heap that opens so, and its seats.
+    pub(crate) fn opened(alloc: Global, opening: Opening) -> Result<(Heap, Seats), AllocError>
+        requires callers { (1 ≤ opening.callers) × (opening.callers ≤ 8) }
+        requires words { IsWellFormed opening.layout opening.words }
+        ensures { IfOk result (λ r. Opens opening
+            r.0 r.1.units.items r.1.advancer r.1.callers.items) }
+    {
+        let (heap, mut all) = table_of(alloc, &opening)?;
         let units = heap.deal_units(alloc, &mut all)?;
-        let callers = heap.deal_callers(alloc, &mut all, callers)?;
+        let callers = heap.deal_callers(alloc, &mut all, opening.callers)?;
+        let clock = opening.words.as_slice()[0];
         let advancer = heap.advancer_left(all, clock);
         let seats = Seats {
             units,
@@ -77,32 +95,15 @@ impl Heap {
 }
 
 // The heap, and a seat that knows all.
-fn table_of_words(
-    alloc: Global,
-    layout: Layout,
-    words: &[u64],
-    callers: u64,
-) -> Result<(Heap, Seat<Cell, View>), AllocError>
-    requires { IsWellFormed layout words.now }
-    ensures { IfOk result (λ r. (r.0.opening
-        ≡ record { layout = layout; words = words.now; callers = callers })
+fn table_of(alloc: Global, opening: &Opening) -> Result<(Heap, Seat<Cell, View>), AllocError>
+    requires { IsWellFormed opening.now.layout opening.now.words }
+    ensures { IfOk result (λ r. (r.0.opening ≡ opening.now)
         × (r.1.table_id ≡ r.0.table) × (r.1.me ≡ (view_without r.0.opening 0 0, []))) }
 {
-    let mut copy = Vec::new(alloc);
-    copy.extend_from_slice(words)?;
-    let opening = Opening {
-        layout,
-        words: Sequence::from_vec(copy),
-        callers,
-    };
-    let all_words = table_words(alloc, layout, words)?;
+    let layout = opening.layout;
+    let words = table_words(alloc, layout, opening.words.as_slice())?;
     let lists = empty_lists(alloc, 2 * layout.units(), layout.slots())?;
-    match Table::<Cell, View, Opening, Rule, Global>::new(
-        alloc,
-        all_words.as_slice(),
-        lists,
-        &opening,
-    ) {
+    match Table::<Cell, View, Opening, Rule, Global>::new(alloc, words.as_slice(), lists, opening) {
         Ok((table, all)) => Ok((Heap { table, layout }, all)),
         Err(Refused { slots: _ }) => Err(AllocError),
     }
@@ -114,7 +115,7 @@ fn table_words(alloc: Global, layout: Layout, words: &[u64]) -> Result<Vec<u64>,
         ≡ laid_out words.now words.now (replicate (units_of layout) 0)) }
 {
     let told = zeros(alloc, 8 * layout.units())?;
-    let mut all = Vec::new(alloc);
+    let mut all = Vec::with_capacity(alloc, (2 * layout.words() + 8 * layout.units()) as usize)?;
     all.extend_from_slice(words)?;
     all.extend_from_slice(words)?;
     all.extend_from_slice(told.as_slice())?;

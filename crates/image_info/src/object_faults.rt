@@ -15,7 +15,8 @@ use crate::pair_faults::PairJudge;
 use image_units::ImageFault;
 use mont_base::{Object, ObjectFault, Unit, UnitKind};
 use mont_image::Image;
-use plain::{live_objects, records};
+use payload::live_objects;
+use plain::records;
 use std::alloc::{AllocError, Global};
 
 /// Judges objects, one after the other.

@@ -7,7 +7,8 @@ ghost use Rattle.scan.specs.Scanned.{is_lost};
 ghost use Rattle.image_info.specs.UnitCounts.{AreAllCounts, AreCounts, is_anti_payload, is_free};
 
 use mont_base::{Epoch, FIELDS, Held, Kind, Layout, Slot, Unit};
-use plain::{live_objects, records};
+use payload::live_objects;
+use plain::records;
 use std::alloc::{AllocError, Global};
 
 /// How many slots of a unit hold what. Each slot counts once.

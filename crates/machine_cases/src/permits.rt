@@ -17,7 +17,7 @@ use core_steps::{CallerPart, UnitPart, UnitStage};
 use heap::Ticket;
 use mont_base::{Change, Held, Kind, LAST, Layout, Op, Reply, Sequence, Slot};
 use op_guard::Guard;
-use plain::newest_of;
+use payload::newest_of;
 use slots::{Region, Written};
 use std::alloc::{AllocError, Global};
 

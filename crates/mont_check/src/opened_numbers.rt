@@ -4,7 +4,7 @@ ghost use Rattle.mont_check.specs.OpenedNumbers.{IsOpening};
 
 use crate::last_numbers::{greatest_identity, greatest_serial};
 use mont_base::{Held, Object};
-use plain::live_objects;
+use payload::live_objects;
 use std::alloc::{AllocError, Global};
 
 /// What was in a unit when it was opened.

@@ -13,8 +13,8 @@ ghost use Rattle.old_image.specs.Renewal.{AreFrontPairs, AreRenewed, IsObjectRef
 
 use image_units::RecoverRefusal;
 use mont_base::{BODY, Layout, Object, ObjectFault, Slot, Text, Unit, UnitKind};
-use payload::pair_body;
-use plain::{build, live_objects, records};
+use payload::{live_objects, pair_body};
+use plain::{build, records};
 use std::alloc::{AllocError, Global};
 
 // The live objects of a unit with their bodies as they are now, or the first with a fault.

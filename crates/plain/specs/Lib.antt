@@ -3,7 +3,6 @@ pub mod Built
 pub mod Callers
 pub mod Continues
 pub mod GraphCode
-pub mod NewestVersions
 pub mod Ranges
 pub mod States
 pub mod Changes

@@ -8,10 +8,9 @@ ghost use Rattle.mont_base.specs.Image.{clock_of, DiffersFrom, IsWellFormed};
 ghost use Rattle.plain.specs.Acceptable.{HasClock, IsReadable, IsAcceptableUnit, Reads, version_key};
 
 use crate::image::{is_in_cut, records, words_at};
-use crate::objects::live_objects;
 use crate::structure::makes_structure;
 use mont_base::{FIRST_CLOCK, Held, LAST, Layout, Slot, Unit};
-use payload::read_words;
+use payload::{live_objects, read_words};
 use std::alloc::{AllocError, Global};
 use std::collections::BTreeSet;
 

@@ -1,6 +1,6 @@
 //! The structures kept plainly in memory, and plain programs of the definitions: what operations
-//! do, what histories lead to and use, what callers have seen, the live objects among records, the
-//! structure that objects make, which images recovery accepts, and what it rebuilds.
+//! do, what histories lead to and use, what callers have seen, the structure that objects make,
+//! which images recovery accepts, and what it rebuilds.
 #![tactic(auto)]
 
 mod acceptance;
@@ -13,7 +13,6 @@ mod history;
 mod image;
 mod item_row;
 mod map_state;
-mod objects;
 mod pair_table;
 mod queue_state;
 mod recovery;
@@ -32,7 +31,6 @@ pub use graph_state::GraphState;
 pub use history::{cut_at, is_legal, state_after};
 pub use image::{record_at, records};
 pub use map_state::{MapState, OrderedState};
-pub use objects::{live_objects, newest_of};
 pub use queue_state::QueueState;
 pub use recovery::recover;
 pub use room::used_slots;

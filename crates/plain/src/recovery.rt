@@ -5,9 +5,9 @@ ghost use Rattle.plain.specs.States.{states_of};
 
 use crate::contents::Contents;
 use crate::image::records;
-use crate::objects::live_objects;
 use crate::structure::{BuildRefusal, build};
 use mont_base::{Layout, Sequence};
+use payload::live_objects;
 use std::alloc::{AllocError, Global};
 
 /// Rebuilds the structure of each unit from the image that a crash left.

@@ -9,8 +9,8 @@ use crate::tellings::{told_accepted, told_fault};
 use case_file::Unanswered;
 use job_text::write_contents;
 use mont_base::{FIELDS, Held, LAST, Object, ObjectFault, Sequence, Unit};
-use payload::read_words;
-use plain::{BuildRefusal, Contents, UnitState, build, live_objects};
+use payload::{live_objects, read_words};
+use plain::{BuildRefusal, Contents, UnitState, build};
 use recover::ImageFault;
 use std::alloc::{AllocError, Global};
 

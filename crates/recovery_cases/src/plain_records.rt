@@ -2,9 +2,9 @@
 use case_file::Unanswered;
 use mont_base::{BODY, Effect, Epoch, Held, Kind, Label, Object, Thing, Unit};
 use payload::{
-    edge_body, edge_in, item_body, item_in, no_body, pair_body, pair_in, vertex_body, vertex_in,
+    edge_body, edge_in, item_body, item_in, live_objects, no_body, pair_body, pair_in, vertex_body,
+    vertex_in,
 };
-use plain::live_objects;
 use std::alloc::{AllocError, Global};
 
 /// The label and the body by which an effect is written in a unit with these records.

@@ -2,9 +2,9 @@
 use core_steps::{Core, Event, UnitPart};
 use mont_base::{BODY, Effect, Epoch, FIELDS, Held, LABEL, Object, Slot, Thing, Unit};
 use payload::{
-    edge_body, edge_in, item_body, item_in, no_body, pair_body, pair_in, vertex_body, vertex_in,
+    edge_body, edge_in, item_body, item_in, live_objects, no_body, pair_body, pair_in, vertex_body,
+    vertex_in,
 };
-use plain::live_objects;
 use std::alloc::{AllocError, Global};
 
 /// Adds the stores to a plan, one behind the other. It answers whether each effect has a record and

@@ -9,7 +9,8 @@ use crate::image_findings::{UnitRecords, recovered, unit_records};
 use crate::layout_answer::push_contents;
 use case_file::{Case, Unanswered};
 use mont_base::{Epoch, FIELDS, Held, LAST, Layout, Unit};
-use plain::{newest_of, record_at};
+use payload::newest_of;
+use plain::record_at;
 use std::alloc::{AllocError, Global};
 
 const HEAD: &str = "filled";

@@ -7,7 +7,8 @@ ghost use Rattle.plain.specs.States.{states_of};
 ghost use Rattle.unit_cases.specs.Told.{AreUnitRecords};
 
 use mont_base::{Held, Layout, Object, ObjectFault, Slot, Unit};
-use plain::{BuildRefusal, Contents, build, is_well_formed, live_objects, records, recover};
+use payload::live_objects;
+use plain::{BuildRefusal, Contents, build, is_well_formed, records, recover};
 use std::alloc::{AllocError, Global};
 
 /// What recovery rebuilds of an image, where it accepts it.

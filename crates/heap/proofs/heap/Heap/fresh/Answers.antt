@@ -5,11 +5,11 @@ use Rattle.mont_base.specs.Image.{IsWellFormed}
 use Rattle.heap.proofs.EmptyStores.{opens_empty, first_words}
 use Rattle.heap.proofs.heap.Heap.fresh.Goals as goal
 
-pub of_words-requires-clause-words : goal.of_words-requires-clause-words
-of_words-requires-clause-words c =
+pub opened-requires-clause-words : goal.opened-requires-clause-words
+opened-requires-clause-words c =
     subst (IsWellFormed c.args.layout)
-    (sym (first_words c.args.layout c.as_slice.result.now c.words.result c.words.ensures.value
-    (c.as_slice.ensures ∙ (c.set.ensures ∙ ap (λ (l : List ℕ). slice_set l 0 FIRST_CLOCK) c.in_ok-words.ensures))))
+    (sym (first_words c.args.layout _ c.words.result c.words.ensures.value
+    (c.set.ensures ∙ ap (λ (l : List ℕ). slice_set l 0 FIRST_CLOCK) c.in_ok-words.ensures)))
     (opens_empty c.args.layout c.words.ensures.layout c.args.callers).words
 
 pub returns-in_err-words-clause-empty : goal.returns-in_err-words-clause-empty

@@ -3,7 +3,7 @@ ghost use Rattle.std.specs.Prelude.{◌≡◌, ℕ, ◌==◌, ◌&&◌, ◌||◌
 ghost use Rattle.std.specs.Ordering.{nat_cmp};
 ghost use Rattle.std.specs.BTreeMap as tree;
 ghost use Rattle.mont_base.specs.Versions.{live_objects, newest_of, later_of, object_of};
-ghost use Rattle.plain.specs.NewestVersions.{HasNewest, is_above};
+ghost use Rattle.payload.specs.NewestVersions.{HasNewest, is_above};
 
 use mont_base::{Held, Kind, Object};
 use std::alloc::{AllocError, Global};

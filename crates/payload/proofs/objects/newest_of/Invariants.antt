@@ -1,6 +1,6 @@
 use Rattle.std.proofs.Common.{◌≡◌, drop}
 use Rattle.mont_base.specs.Versions.{later_of, newest_of}
-use Rattle.plain.proofs.objects.newest_of.Given as goal
+use Rattle.payload.proofs.objects.newest_of.Given as goal
 
 -- the newest so far, and of the records that are left
 abbrev pub invariant-loop-held : goal.invariant-loop-held
