@@ -1,5 +1,7 @@
 // A worked case.
+use crate::case_numbers::number_in;
 use crate::case_refusal::Unanswered;
+use std::alloc::Global;
 
 /// A part of a case: what it is, and its text.
 #[derive(Debug, Drop)]
@@ -33,6 +35,14 @@ impl Case {
         match self.part(head) {
             Some(text) => Ok(text),
             None => Err(Unanswered::Lacks { head }),
+        }
+    }
+
+    /// The one number of the last part with this head, if the case has one.
+    pub fn number(&self, alloc: Global, head: &'static str) -> Result<Option<u64>, Unanswered> {
+        match self.part(head) {
+            Some(text) => Ok(Some(number_in(alloc, head, text)?)),
+            None => Ok(None),
         }
     }
 }

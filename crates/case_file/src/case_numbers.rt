@@ -11,6 +11,14 @@ pub fn number_of(word: &[u8]) -> Option<u64> {
     }
 }
 
+/// The one number that the text of a part with this head lists.
+pub fn number_in(alloc: Global, head: &'static str, text: &[u8]) -> Result<u64, Unanswered> {
+    match numbers_in(alloc, head, text)?.as_slice() {
+        [number] => Ok(*number),
+        _ => Err(Unanswered::Unclear { head }),
+    }
+}
+
 /// The numbers that the text of a part with this head lists, on one line or on several.
 pub fn numbers_in(alloc: Global, head: &'static str, text: &[u8]) -> Result<Vec<u64>, Unanswered> {
     let unclear = Unanswered::Unclear { head };

@@ -15,7 +15,7 @@ mod trial;
 mod wanted;
 
 pub use case::{Case, Part};
-pub use case_numbers::numbers_in;
+pub use case_numbers::{number_in, numbers_in};
 pub use case_reader::read_cases;
 pub use case_refusal::{CaseFault, CaseRefusal, Unanswered};
 pub use other_lines::with_other_lines;

@@ -27,7 +27,7 @@ pub struct Failing {
 
 /// How many bytes a call gives or takes: 4096 where the case tells no number.
 pub fn piece_of(alloc: Global, case: &Case) -> Result<u64, Unanswered> {
-    match first_number(alloc, case, "pieces", 4096)? {
+    match case.number(alloc, "pieces")?.unwrap_or(4096) {
         0 => Err(Unanswered::Unclear { head: "pieces" }),
         piece => Ok(piece),
     }
@@ -78,15 +78,4 @@ fn numbers(alloc: Global, failing: Failing) -> Result<Vec<u64>, AllocError> {
         numbers.push(number)?;
     }
     Ok(numbers)
-}
-
-/// The first number of a part, or another where there is none.
-pub fn first_number(
-    alloc: Global,
-    case: &Case,
-    head: &'static str,
-    other: u64,
-) -> Result<u64, Unanswered> {
-    let numbers = numbers_in(alloc, head, case.part(head).unwrap_or(b""))?;
-    Ok(numbers.first().copied().unwrap_or(other))
 }

@@ -1,6 +1,5 @@
 // What comes of a case on words, a job and an image.
 use crate::came_of_process::{Came, Given, came_of, text_in};
-use crate::devices_told::first_number;
 use crate::failing_table::{EACH_FAILING, failing_table};
 use crate::image_told::tell_image;
 use crate::short_answer::in_short;
@@ -75,7 +74,7 @@ fn answer_often<R: AllocGlobal + Files + Threads + Wait + Sync>(
     given: &Given<'_>,
 ) -> Result<Vec<u8>, Unanswered> {
     let mut got = Vec::new(rt.alloc());
-    for _time in 0..first_number(rt.alloc(), given.case, "times", 1)? {
+    for _time in 0..given.case.number(rt.alloc(), "times")?.unwrap_or(1) {
         for boxes in [SORTED_BOXES, PROBED_BOXES] {
             got = answer_with(rt, given, boxes)?;
             if !is_wanted(given.case, got.as_slice()) {

@@ -3,7 +3,7 @@
 ghost use Rattle.std.specs.Prelude.{◌≡◌, ◌<◌, false};
 
 use crate::now::source_of;
-use case_file::{Unanswered, numbers_in};
+use case_file::{Unanswered, number_in};
 use mont_base::{MemSink, MemSource};
 use mont_image::{Image, ImageRefusal, read_image, write_image};
 use std::alloc::{AllocError, Global};
@@ -15,8 +15,7 @@ pub const FAILING: &str = "failing";
 /// fails; and how many of a sink the writer of its image makes, each of which leaves the front of
 /// the text that the calls before it took.
 pub fn failing_told(alloc: Global, part: &[u8], text: &[u8]) -> Result<Vec<u8>, Unanswered> {
-    let numbers = numbers_in(alloc, FAILING, part)?;
-    let piece = numbers.first().copied().unwrap_or(1).max(1);
+    let piece = number_in(alloc, FAILING, part)?.max(1);
     let reads = failing_reads(alloc, text, piece)?;
     let writes = failing_writes(alloc, text, piece)?;
     Ok(format!(in alloc; "source {reads}, sink {writes}\n")?.into_bytes())

@@ -38,7 +38,7 @@ fn push_scan(told: &mut String, found: &Scan) -> Result<(), AllocError> {
 
 /// A record with its label and its body.
 pub fn push_record(told: &mut String, held: &Held) -> Result<(), AllocError> {
-    write!(told, "{} {}", held.slot, kind_word(&held.label))?;
+    write!(told, "{} {}", held.slot, kind_name(&held.label))?;
     let Label {
         epoch,
         unit,
@@ -53,7 +53,7 @@ pub fn push_record(told: &mut String, held: &Held) -> Result<(), AllocError> {
     push_numbers(told, &held.body)
 }
 
-fn kind_word(label: &Label) -> &'static str {
+fn kind_name(label: &Label) -> &'static str {
     match label.kind {
         Kind::New => "new",
         Kind::Copy => "copy",

@@ -1,4 +1,4 @@
--- What is told of a job that was read, and what a fact of an answer gives.
+-- What is told of a job that was read, and what is judged of texts that spell a job and a report.
 use Rattle.std.proofs.Common.{◌≡◌, ℕ, List, Bool, length, true, refl, sym, subst}
 use Rattle.std.specs.Prelude.{Result, Ok, Err, IfOk}
 use Rattle.mont_base.specs.declared.record.Held.{Held}
@@ -18,11 +18,6 @@ told_read text j (Ok o) is_job is told =
     subst (IsOutcome text) (sym told)
     (refl, record { asked = j; is_job = is_job; spelled = is; stops_counted = refl; lines_counted = refl })
 told_read text j (Err e) is_job is told = tt
-
--- what each good answer of a call gives
-pub if_ok_gives : {A E : Type 0} {P Q : A → Type 0} (r : Result A E) → ((x : A) → P x → Q x) → IfOk r P → IfOk r Q
-if_ok_gives (Ok x) f holds = f x holds
-if_ok_gives (Err e) f holds = tt
 
 -- what is judged of an opened report, where a text spells it
 pub judged_right : {asked : Job} {opened : Report} {right report : List ℕ} {records : List (List Held)} {answer : Bool}

@@ -3,7 +3,7 @@ ghost use Rattle.std.specs.Prelude.{◌≡◌, IfOk, false};
 
 use crate::changed_reports::answer_changed;
 use crate::judged::report_in;
-use case_file::{Case, Unanswered, numbers_in};
+use case_file::{Case, Unanswered};
 use case_image::image_text;
 use job_text::Report;
 use mont_base::MemSource;
@@ -57,21 +57,11 @@ fn verdict_on(
 
 // The report that a text spells, with so many callers as the case says.
 fn report_of(alloc: Global, case: &Case, text: &[u8]) -> Result<Report, Unanswered> {
-    let Some(callers) = case.part(CALLERS) else {
-        return report_in(alloc, "report", text);
-    };
-    let callers = number_in(alloc, callers)?;
     let mut report = report_in(alloc, "report", text)?;
-    report.callers = callers;
-    Ok(report)
-}
-
-// The number of callers.
-fn number_in(alloc: Global, part: &[u8]) -> Result<u64, Unanswered> {
-    match numbers_in(alloc, CALLERS, part)?.as_slice() {
-        [number] => Ok(*number),
-        _ => Err(Unanswered::Unclear { head: CALLERS }),
+    if let Some(callers) = case.number(alloc, CALLERS)? {
+        report.callers = callers;
     }
+    Ok(report)
 }
 
 // The line of the verdict.

@@ -1,5 +1,5 @@
 // Numbers and letters in the parts of cases.
-use case_file::{Case, Unanswered, numbers_in};
+use case_file::{Case, Unanswered, number_in, numbers_in};
 use mont_base::{Kinds, LEAST_SLOTS, Layout};
 use std::alloc::Global;
 
@@ -41,10 +41,7 @@ pub fn rows_of(
 
 /// The one number of a part.
 pub fn number_of(alloc: Global, case: &Case, head: &'static str) -> Result<u64, Unanswered> {
-    match numbers_in(alloc, head, case.needed(head)?)?.as_slice() {
-        [number] => Ok(*number),
-        _ => Err(Unanswered::Unclear { head }),
-    }
+    number_in(alloc, head, case.needed(head)?)
 }
 
 /// A text of one line, without its line feed.
@@ -58,10 +55,7 @@ pub fn line_of(text: &[u8]) -> &[u8] {
 /// The layout of the part `kinds`, with so many slots in each unit as the part `slots` says, or
 /// with eight.
 pub fn layout_of(alloc: Global, case: &Case) -> Result<Layout, Unanswered> {
-    let slots = match case.part("slots") {
-        Some(_) => number_of(alloc, case, "slots")?,
-        None => LEAST_SLOTS,
-    };
+    let slots = case.number(alloc, "slots")?.unwrap_or(LEAST_SLOTS);
     let Ok(kinds) = Kinds::of_letters(line_of(case.needed("kinds")?)) else {
         return Err(Unanswered::Unclear { head: "kinds" });
     };

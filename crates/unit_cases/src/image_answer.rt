@@ -35,10 +35,7 @@ pub fn tell_image(answer: &mut String, alloc: Global, case: &Case) -> Result<(),
 
 // So many words, or as many as the part `words` says, with this clock and these slots.
 fn image_of(alloc: Global, case: &Case, words: u64, clock: Epoch) -> Result<Vec<u64>, Unanswered> {
-    let words = match case.part("words") {
-        Some(_) => number_of(alloc, case, "words")?,
-        None => words,
-    };
+    let words = case.number(alloc, "words")?.unwrap_or(words);
     let mut image = vec![in alloc; 0; words as usize]?;
     if let Some(first) = image.first_mut() {
         *first = clock;

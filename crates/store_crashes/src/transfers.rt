@@ -1,13 +1,9 @@
-//! A store between whose map units four callers transfer amounts, each in a thread of its own. The
-//! total stands in what recovery rebuilds from an image that a crash may leave.
-#![tactic(auto)]
-
-mod opened_account;
-
+// A store between whose map units four callers transfer amounts, each in a thread of its own. The
+// total stands in what recovery rebuilds from an image that a crash may leave.
+use crate::opened_account::Account;
 use index_kit::SortedIndex;
 use mont_base::{Kinds, Layout, Steady, Text};
 use mont_image::pick;
-use opened_account::Account;
 use plain::{Contents, UnitState, recover};
 use std::io;
 use std::sync::Wait;
@@ -18,8 +14,9 @@ use store_door::with_fresh;
 // Every other word is lost in the crash, if it isn't durable.
 const MASK: u64 = 0x5555_5555_5555_5555;
 
-fn main(rt: HostRuntime) -> io::Result<()> {
-    match transfer_and_recover(&rt) {
+/// Tells what the amounts come to.
+pub fn tell_total(rt: &HostRuntime) -> io::Result<()> {
+    match transfer_and_recover(rt) {
         Ok(contents) => println!(rt; "total: {}", total_of(&contents)),
         Err(why) => println!(rt; "given up: {why:?}"),
     }

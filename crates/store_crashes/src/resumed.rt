@@ -1,16 +1,12 @@
-//! A store that goes on behind a crash: a caller takes a turn, the store is stopped, and an image
-//! is picked as a crash may leave it. The store is recovered from it, a caller takes a turn on what
-//! it holds, and it is stopped again.
-#![tactic(auto)]
-
+// A store of a queue that goes on behind a crash: a caller takes a turn, the store is stopped, and an
+// image is picked as a crash may leave it. The store is recovered from it, a caller takes a turn on
+// what it holds, and it is stopped again.
 ghost use Rattle.std.specs.Prelude.{◌≡◌, false, IfOk};
 
-mod queue_turn;
-
+use crate::queue_turn::Turn;
 use index_kit::SortedIndex;
 use mont_base::{Kinds, Layout, Steady};
 use mont_image::{Image, pick};
-use queue_turn::Turn;
 use recover::recover;
 use std::io;
 use std::sync::Wait;
@@ -22,9 +18,10 @@ use store_stop::Stopped;
 // Every third word is lost in the crash, if it isn't durable.
 const MASK: u64 = 0xB6DB_6DB6_DB6D_B6DB;
 
-fn main(rt: HostRuntime) -> io::Result<()> {
-    match crash_and_resume(&rt) {
-        Ok((stopped, turns)) => tell(&rt, &stopped, &turns),
+/// Tells what came of both turns.
+pub fn tell_resumed(rt: &HostRuntime) -> io::Result<()> {
+    match crash_and_resume(rt) {
+        Ok((stopped, turns)) => tell(rt, &stopped, &turns),
         Err(why) => println!(rt; "given up: {why:?}"),
     }
 }
@@ -43,12 +40,17 @@ fn tell(rt: &HostRuntime, stopped: &Stopped, turns: &[Turn]) -> io::Result<()> {
     Ok(())
 }
 
-// A store of one queue, which is crashed behind one turn, and what it leaves behind a second one.
+// What the store leaves that goes on from the image of a crash, behind a second turn.
 fn crash_and_resume<R: AllocGlobal + Threads + Wait + Sync>(
     rt: &R,
 ) -> Result<(Stopped, Vec<Turn>), StoreRefusal> {
+    let alloc = rt.alloc();
     let image = crash(rt)?;
-    resume(rt, &image)
+    let mut store = recover(rt, alloc, &image, 1, 1)?;
+    store.sweep(&mut Steady)?;
+    let gates = vec![in alloc; Steady]?;
+    let turns = vec![in alloc; Turn::new(2)]?;
+    Ok(with_recovered(rt, alloc, store, gates, no_indexes(rt), turns)?)
 }
 
 // The image that a crash leaves of a store of one queue behind one turn.
@@ -61,21 +63,6 @@ fn crash<R: AllocGlobal + Threads + Wait + Sync>(rt: &R) -> Result<Image, StoreR
     let turns = vec![in alloc; Turn::new(1)]?;
     let (stopped, _turns) = with_fresh(rt, alloc, layout, gates, no_indexes(rt), turns)?;
     Ok(pick(alloc, &stopped.words, MASK)?)
-}
-
-// What the store leaves that goes on from an image, behind a second turn.
-fn resume<R: AllocGlobal + Threads + Wait + Sync>(
-    rt: &R,
-    image: &Image,
-) -> Result<(Stopped, Vec<Turn>), StoreRefusal>
-    requires { image.now.old ≡ false }
-{
-    let alloc = rt.alloc();
-    let mut store = recover(rt, alloc, image, 1, 1)?;
-    store.sweep(&mut Steady)?;
-    let gates = vec![in alloc; Steady]?;
-    let turns = vec![in alloc; Turn::new(2)]?;
-    Ok(with_recovered(rt, alloc, store, gates, no_indexes(rt), turns)?)
 }
 
 // A queue needs no index.
