@@ -1,2 +1,3 @@
 pub mod Bank
 pub mod Shifts
+pub mod BankText

@@ -35,7 +35,7 @@ use Rattle.big_job.specs.Digits.{number_spelled}
 use Rattle.big_job.proofs.Spelled.{spelled-decimal}
 use Rattle.bank_job.specs.Bank.{account, bank_layout, opening_put}
 use Rattle.bank_job.proofs.Accounts.{unit_of_account}
-use Rattle.bank_text.specs.BankText.{number_total, pairs_total}
+use Rattle.bank_job.specs.BankText.{number_total, pairs_total}
 use Rattle.bank_store.specs.BankCallers.{HasShiftedAll, HaveShifted}
 use Rattle.bank_store.specs.Ends.{all_given}
 use Rattle.bank_store.specs.MadeShifts.{ComesBehind, HasSeenPlace}

@@ -17,7 +17,7 @@ use Rattle.store_stop.specs.Headline.{AreLegal, cut_states}
 use Rattle.bank_job.specs.declared.shifts.Shift.{Shift}
 use Rattle.bank_job.specs.Bank.{bank_layout, first_puts}
 use Rattle.bank_job.specs.Shifts.{first_shifts}
-use Rattle.bank_text.specs.BankText.{number_total}
+use Rattle.bank_job.specs.BankText.{number_total}
 use Rattle.bank_store.specs.Ends.{End, HasGone, HoldsOfEach, all_given}
 
 -- ---- why there is no shift

@@ -13,8 +13,7 @@ ghost use Rattle.bank_store.specs.BankRun.{IsBankRun};
 
 use crate::bank_contents::contents_left;
 use crate::side_by_side::run_tellers;
-use bank_job::{CALLERS, bank_layout};
-use bank_text::BankReport;
+use bank_job::{BankReport, CALLERS, bank_layout};
 use heap::{Heap, Seats};
 use heap_pass::{HeapName, Pass};
 use index_kit::Index;

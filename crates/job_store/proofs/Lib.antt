@@ -10,3 +10,4 @@ pub mod Marked
 pub mod SeenPlaces
 pub mod Lossless
 pub mod CallersSynced
+mod Summaries

@@ -7,3 +7,4 @@ pub mod ImageNow
 pub mod ResumeRefusal
 pub mod ResumedRun
 pub mod RunRounds
+pub mod BigRun

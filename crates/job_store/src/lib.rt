@@ -1,8 +1,10 @@
 //! A whole run of a job: on a store that was never used, or on one that goes on from an image. It
-//! gives the report, and the image that a crash leaves.
+//! gives the report, and the image that a crash leaves. A run of the generated job gives its summary.
 #![tactic(auto)]
 
 mod base;
+mod big_run;
+mod counts;
 mod fresh_run;
 mod image_contents;
 mod image_now;
@@ -17,6 +19,7 @@ mod syncs;
 mod whole_run;
 
 pub use base::{bases_are_one, fresh_stores_hold_nothing};
+pub use big_run::run_big;
 pub use fresh_run::run_fresh;
 pub use image_contents::contents_in;
 pub use image_now::migrated_if_old;

@@ -9,7 +9,7 @@ use Rattle.job_text.specs.ReportText.{histories_lines, image_lines}
 use Rattle.job_text.specs.Runs.{spelled_all}
 use Rattle.bank_job.specs.Bank.{bank_layout}
 use Rattle.bank_store.specs.BankRun.{IsBankRun}
-use Rattle.bank_text.specs.BankText.{bank_text, head_words, number_total, total_words}
+use Rattle.bank_job.specs.BankText.{bank_text, head_words, number_total, total_words}
 use Rattle.store.specs.MapBoxes.{HaveEmptyBoxes}
 use Rattle.montage_tool.specs.GeneratedForms.{IsBankText, kept_total}
 

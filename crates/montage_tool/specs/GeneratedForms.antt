@@ -7,9 +7,9 @@ use Rattle.mont_base.specs.Layout.{Shape}
 use Rattle.mont_base.specs.State.{State}
 use Rattle.bank_job.specs.Bank.{bank_layout}
 use Rattle.bank_store.specs.BankRun.{IsBankRun}
-use Rattle.bank_text.specs.BankText.{bank_text, total_words}
+use Rattle.bank_job.specs.BankText.{bank_text, total_words}
 use Rattle.big_job.specs.Generated.{generated_head}
-use Rattle.big_store.specs.BigRun.{IsBigSummary}
+use Rattle.job_store.specs.BigRun.{IsBigSummary}
 use Rattle.job_text.specs.Lines.{text_of}
 use Rattle.store.specs.MapBoxes.{HaveEmptyBoxes, IsFirstLack}
 use Rattle.montage_tool.specs.declared.status.Status.{Status}

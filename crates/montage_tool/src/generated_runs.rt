@@ -6,10 +6,10 @@ ghost use Rattle.big_job.specs.Generated.{generated_head};
 ghost use Rattle.montage_tool.specs.GeneratedForms.{IsBankText, IsBigText, RefusesStore};
 
 use crate::status::Status;
+use bank_job::write_bank;
 use bank_store::run_bank;
-use bank_text::write_bank;
-use big_store::run_big;
 use index_kit::Index;
+use job_store::run_big;
 use std::sync::Wait;
 use std::thread::Threads;
 

@@ -7,13 +7,14 @@ ghost use Rattle.job_store.specs.Base.{nothing};
 ghost use Rattle.job_store.specs.WholeRun.{IsRunOn};
 ghost use Rattle.job_text.specs.PlainReport.{report_of};
 ghost use Rattle.store.specs.MapBoxes.{HaveEmptyBoxes, LacksBox};
-ghost use Rattle.big_store.specs.BigRun.{IsBigSummary, IsSummaryOf};
+ghost use Rattle.job_store.specs.BigRun.{IsBigSummary, IsSummaryOf};
 
 use crate::counts::{count_answered, has_clock_end};
+use crate::synced_run::{SyncedRun, run_synced};
+use crate::whole_run::WholeRun;
 use big_job::{big_job, big_summary};
 use caller::SyncRefusal;
 use index_kit::Index;
-use job_store::{SyncedRun, WholeRun, run_synced};
 use montage::OpenRefusal;
 use std::alloc::{AllocError, Global};
 use std::sync::Wait;

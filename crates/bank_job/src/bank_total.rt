@@ -2,7 +2,7 @@
 ghost use Rattle.std.specs.Prelude.{◌≡◌, ◌%◌, ◌^◌, sum_by};
 ghost use Rattle.plain.specs.States.{state_of, states_of};
 ghost use Rattle.big_job.specs.Totals.{value_of_pair};
-ghost use Rattle.bank_text.specs.BankText.{number_total, pairs_total};
+ghost use Rattle.bank_job.specs.BankText.{number_total, pairs_total};
 
 use big_job::number_spelled;
 use mont_base::Text;

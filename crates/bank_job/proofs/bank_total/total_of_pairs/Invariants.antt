@@ -1,7 +1,7 @@
 use Rattle.std.proofs.Common.{◌≡◌, ◌+◌, ◌%◌, ◌^◌}
 use Rattle.std.specs.List.{sum_by}
 use Rattle.big_job.specs.Totals.{value_of_pair}
-use Rattle.bank_text.proofs.bank_total.total_of_pairs.Given as goal
+use Rattle.bank_job.proofs.bank_total.total_of_pairs.Given as goal
 
 -- what is summed and what is still to come are the whole
 abbrev pub invariant-loop-key : goal.invariant-loop-key

@@ -25,7 +25,7 @@ use Rattle.job_store.specs.Base.{Base}
 use Rattle.job_store.specs.CarriedOut.{IsCarriedOut}
 use Rattle.job_store.specs.SyncedRun.{EndsSynced, LosesNothing, RefusesSync}
 use Rattle.job_store.specs.WholeRun.{IsRun}
-use Rattle.big_store.specs.BigRun.{IsSummaryOf, answered_in, is_clock_end, met_clock_end}
+use Rattle.job_store.specs.BigRun.{IsSummaryOf, answered_in, is_clock_end, met_clock_end}
 
 -- ---- how many outcomes there are
 small_sum : (lists : List (List Outcome)) → ((k : ℕ) (os : List Outcome) → slice_get lists k ≡ Some os → length os ≤ 2 ^ 32)

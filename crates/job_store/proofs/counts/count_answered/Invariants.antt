@@ -1,7 +1,7 @@
 -- The answered lines of the callers so far.
 use Rattle.std.proofs.Common.{◌≡◌, take}
-use Rattle.big_store.specs.BigRun.{answered_in}
-use Rattle.big_store.proofs.counts.count_answered.Given as goal
+use Rattle.job_store.specs.BigRun.{answered_in}
+use Rattle.job_store.proofs.counts.count_answered.Given as goal
 
 abbrev pub invariant-loop-of_caller : goal.invariant-loop-of_caller
 invariant-loop-of_caller l = l.count ≡ answered_in (take l.of_caller-index l.outcomes)

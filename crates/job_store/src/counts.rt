@@ -2,7 +2,7 @@
 ghost use Rattle.std.specs.Prelude.{◌≡◌, ◌<◌, ◌^◌, length, count_by, sum_by};
 ghost use Rattle.std.specs.List.{list_any};
 ghost use Rattle.job_text.specs.Outcomes.{is_at};
-ghost use Rattle.big_store.specs.BigRun.{answered_in, is_clock_end, met_clock_end};
+ghost use Rattle.job_store.specs.BigRun.{answered_in, is_clock_end, met_clock_end};
 
 use job_text::Outcome;
 use mont_base::Sequence;

@@ -2,7 +2,7 @@ use Rattle.std.proofs.Common.{◌≤◌, length, ap, sym, subst, arith}
 use Rattle.std.specs.Prelude.{count_by}
 use Rattle.std.proofs.lemmas.List.Sums.{count_by-le-length, sum_by_more_le_part}
 use Rattle.job_text.specs.Outcomes.{is_at}
-use Rattle.big_store.proofs.counts.count_answered.Goals as goal
+use Rattle.job_store.proofs.counts.count_answered.Goals as goal
 
 pub overflow_add-count : goal.overflow_add-count
 overflow_add-count c =

@@ -5,11 +5,11 @@ ghost use Rattle.plain.specs.States.{states_of};
 ghost use Rattle.job_text.specs.Lines.{line_of, text_of};
 ghost use Rattle.job_text.specs.ReportText.{image_lines};
 ghost use Rattle.bank_job.specs.Bank.{bank_layout};
-ghost use Rattle.bank_text.specs.BankText.{bank_text, head_words, total_words};
+ghost use Rattle.bank_job.specs.BankText.{bank_text, head_words, total_words};
 
+use crate::bank::bank_layout;
 use crate::bank_report::BankReport;
 use crate::bank_total::number_total;
-use bank_job::bank_layout;
 use job_text::{write_histories, write_units};
 use std::alloc::{AllocError, Global};
 

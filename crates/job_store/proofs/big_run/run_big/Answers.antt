@@ -5,7 +5,7 @@ use Rattle.job_text.specs.PlainReport.{report_of}
 use Rattle.store.specs.MapBoxes.{HaveEmptyBoxes}
 use Rattle.job_store.specs.Base.{nothing}
 use Rattle.job_store.specs.WholeRun.{IsRunOn}
-use Rattle.big_store.proofs.big_run.run_big.Goals as goal
+use Rattle.job_store.proofs.big_run.run_big.Goals as goal
 
 pub returns-clause-summary : goal.returns-clause-summary
 returns-clause-summary g c =

@@ -4,10 +4,10 @@ use Rattle.job_text.specs.declared.outcome.Outcome.{Outcome}
 use Rattle.job_text.specs.PlainReport.{report_of}
 use Rattle.big_job.specs.Generated.{generated_head}
 use Rattle.job_store.specs.Base.{nothing}
-use Rattle.big_store.specs.BigRun.{answered_in, met_clock_end}
-use Rattle.big_store.proofs.Summaries.{Tells, by_lines, by_sync, few_outcomes, summarised}
-use Rattle.big_store.proofs.big_run.summary_of.Goals.{then-is_err, else-is_err}
-use Rattle.big_store.proofs.big_run.summary_of.Goals as goal
+use Rattle.job_store.specs.BigRun.{answered_in, met_clock_end}
+use Rattle.job_store.proofs.Summaries.{Tells, by_lines, by_sync, few_outcomes, summarised}
+use Rattle.job_store.proofs.big_run.summary_of.Goals.{then-is_err, else-is_err}
+use Rattle.job_store.proofs.big_run.summary_of.Goals as goal
 
 pub count_answered-answered-requires : goal.count_answered-answered-requires
 count_answered-answered-requires c =
