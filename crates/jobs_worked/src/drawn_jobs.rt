@@ -1,89 +1,64 @@
-// Texts of jobs whose lines are drawn, the same at each time.
+// Jobs whose lines are drawn, the same at each time.
+ghost use Rattle.std.specs.Prelude.{IfOk};
+ghost use Rattle.job_text.specs.Grammar.{IsJob};
+
+use crate::reports::job_of;
+use job_text::Job;
 use rand_core::Rng;
 use rand_pcg::Pcg64;
 use std::alloc::{AllocError, Global};
+use std::test::Fail;
 
-// The numbers of the queues and of the graphs, behind four maps.
-const QUEUES: [u64; 2] = [4, 5];
+// What lines ask of four maps, of the queues 4 and 5 and of the graphs 6 and 7. A number below 100
+// is drawn for each line, which asks what the first row with a greater number says, and behind it
+// a number for each bound.
+static DEEDS: &[(u64, &str, &[u64])] = &[
+    (1, "tick", &[]),
+    (2, "sync", &[]),
+    (12, "get", &[1000]),
+    (21, "del", &[1000]),
+    (50, "put", &[1000, 1_000_000]),
+    (52, "len 4", &[]),
+    (55, "len 5", &[]),
+    (60, "deq 4", &[]),
+    (65, "deq 5", &[]),
+    (70, "enq 4", &[1_000_000]),
+    (75, "enq 5", &[1_000_000]),
+    (78, "addv 6", &[100, 1000]),
+    (81, "addv 7", &[100, 1000]),
+    (83, "delv 6", &[100]),
+    (84, "delv 7", &[100]),
+    (85, "degree 6", &[100]),
+    (87, "degree 7", &[100]),
+    (89, "dele 6", &[100, 100]),
+    (90, "dele 7", &[100, 100]),
+    (95, "adde 6", &[100, 100, 1000]),
+    (100, "adde 7", &[100, 100, 1000]),
+];
 
-const GRAPHS: [u64; 2] = [6, 7];
-
-// The text of a job of so many lines behind this header, for so many callers.
-pub(crate) fn drawn_text(
-    alloc: Global,
-    header: &str,
-    callers: u64,
-    lines: u64,
-) -> Result<Vec<u8>, AllocError> {
+// The job of so many lines behind this header, for so many callers.
+pub(crate) fn drawn_job(alloc: Global, header: &str, callers: u64, lines: u64) -> Result<Job, Fail>
+    ensures { IfOk result IsJob }
+{
     let mut text = String::from_str(alloc, header)?;
-    let mut draws = Draws {
-        generator: Pcg64::new(7, 0),
-    };
+    let mut generator = Pcg64::new(7, 0);
     for _ in 0..lines {
-        draws.push_line(&mut text, callers)?;
+        push_line(&mut generator, &mut text, callers)?;
     }
-    Ok(text.into_bytes())
+    job_of(alloc, text.as_str())
 }
 
-#[derive(Drop)]
-struct Draws {
-    generator: Pcg64,
+fn push_line(generator: &mut Pcg64, text: &mut String, callers: u64) -> Result<(), AllocError> {
+    let drawn = below(generator, 100);
+    if let Some((_, words, bounds)) = DEEDS.iter().find(|(many, _, _)| drawn < *many) {
+        write!(text, "{} {words}", below(generator, callers))?;
+        for many in *bounds {
+            write!(text, " {}", below(generator, *many))?;
+        }
+    }
+    text.push('\n')
 }
 
-impl Draws {
-    fn below(&mut self, many: u64) -> u64 {
-        if many == 0 {
-            return 0;
-        }
-        self.generator.next_u64() % many
-    }
-
-    fn one_of(&mut self, units: [u64; 2]) -> u64 {
-        let [first, second] = units;
-        if self.below(2) == 0 { first } else { second }
-    }
-
-    // One line in a hundred is a tick, one is a sync.
-    fn push_line(&mut self, text: &mut String, callers: u64) -> Result<(), AllocError> {
-        let caller = self.below(callers);
-        write!(text, "{caller} ")?;
-        match self.below(100) {
-            0 => writeln!(text, "tick"),
-            1 => writeln!(text, "sync"),
-            2..=49 => self.push_map_line(text),
-            50..=74 => self.push_queue_line(text),
-            _ => self.push_graph_line(text),
-        }
-    }
-
-    fn push_map_line(&mut self, text: &mut String) -> Result<(), AllocError> {
-        let key = self.below(1000);
-        match self.below(5) {
-            0 => writeln!(text, "get {key}"),
-            1 => writeln!(text, "del {key}"),
-            _ => writeln!(text, "put {key} {}", self.below(1_000_000)),
-        }
-    }
-
-    fn push_queue_line(&mut self, text: &mut String) -> Result<(), AllocError> {
-        let unit = self.one_of(QUEUES);
-        match self.below(5) {
-            0 => writeln!(text, "len {unit}"),
-            1 | 2 => writeln!(text, "deq {unit}"),
-            _ => writeln!(text, "enq {unit} {}", self.below(1_000_000)),
-        }
-    }
-
-    fn push_graph_line(&mut self, text: &mut String) -> Result<(), AllocError> {
-        let unit = self.one_of(GRAPHS);
-        let from = self.below(100);
-        let to = self.below(100);
-        match self.below(8) {
-            0 | 1 => writeln!(text, "addv {unit} {from} {}", self.below(1000)),
-            2 => writeln!(text, "delv {unit} {from}"),
-            3 => writeln!(text, "degree {unit} {from}"),
-            4 => writeln!(text, "dele {unit} {from} {to}"),
-            _ => writeln!(text, "adde {unit} {from} {to} {}", self.below(1000)),
-        }
-    }
+fn below(generator: &mut Pcg64, many: u64) -> u64 {
+    generator.next_u64().checked_rem(many).unwrap_or(0)
 }

@@ -1,34 +1,40 @@
-// A caller is held in the middle of its put until the other caller and the advancer are under way,
-// and these are held until it is.
-ghost use Rattle.std.specs.Prelude.{◌≡◌, ℕ, false, true};
+// Callers and the advancer meet, before their calls and in the middle of them, so that each is
+// under way while the others are.
 ghost use Rattle.job_text.specs.Grammar.{IsJob};
 
-use crate::reports::{is_right, job_of, report_of_run};
-use job_text::{Job, Report, write_report};
-use mont_base::{Cut, Gate};
-use std::alloc::{AllocError, Global};
-use std::sync::atomic::{AtomicU64, Ordering};
-use std::sync::{Arc, Wait};
+use crate::meeting_gates::{Meeting, MeetingGate, Signals};
+use crate::reports::{job_of, text_of_run};
+use job_text::Job;
+use mont_base::Fuel;
+use std::alloc::Global;
+use std::sync::Wait;
 use std::test::Fail;
 use std::thread::Threads;
 
-// How often a gate looks for what it waits for, by one load each time.
-const TURNS: u64 = 1_000_000_000;
+// A run whose gates meet. In its report a ? stands for an epoch that may be 2 or 3.
+struct Run {
+    job: &'static str,
+    // Where the gate of each caller comes to meetings, and that of the advancer.
+    callers: &'static [&'static [Meeting]],
+    advancer: &'static [Meeting],
+    report: &'static str,
+}
 
-// How many steps of the put are made before it is held.
-const STEPS: u64 = 5;
-
-// The other caller and the advancer.
-const OTHERS: u64 = 2;
-
-const JOB: &str = "\
+static RUNS: &[Run] = &[
+    // A put is held before its sixth step until the other caller and the advancer were asked, and
+    // these are held before their first step until it is.
+    Run {
+        job: "\
 montage-job 3 mqg 8 2 1 0000000000000000
 0 put 1 10
 1 len 1
-";
-
-// The report, but for the epoch of the second call: it may come before or behind the advance.
-const BEFORE_EPOCH: &str = "\
+",
+        callers: &[
+            &[Meeting { step: 5, come: 3 }],
+            &[Meeting { step: 0, come: 3 }],
+        ],
+        advancer: &[Meeting { step: 0, come: 3 }],
+        report: "\
 montage-report 3 mqg 8 2
 base 2
 map 0 0
@@ -37,9 +43,7 @@ graph 2 0 0
 unit 0 1
 0 0 0 2 put 1 10 = none
 unit 1 1
-0 1 0 ";
-
-const BEHIND_EPOCH: &str = " len 1 = count 0
+0 1 0 ? len 1 = count 0
 unit 2 0
 caller 0 1
 at 0 0
@@ -50,162 +54,199 @@ map 0 0
 queue 1 0
 graph 2 0 0
 end
-";
-
-// What the gates tell each other.
-#[derive(Drop)]
-struct Signals {
-    // 1 once the put is held.
-    held: AtomicU64,
-    // How many of the others were asked while it was.
-    asked: AtomicU64,
-    // How many gates waited in vain.
-    late: AtomicU64,
-}
-
-impl Signals {
-    fn new() -> Signals {
-        Signals {
-            held: AtomicU64::new(0),
-            asked: AtomicU64::new(0),
-            late: AtomicU64::new(0),
-        }
-    }
-
-    // Waits until the others were asked.
-    fn hold_put(&self) {
-        self.held.store(1, Ordering::SeqCst);
-        self.wait_for(OTHERS, &self.asked);
-    }
-
-    // Waits until the put is held.
-    fn hold_other(&self) {
-        self.wait_for(1, &self.held);
-        self.asked.fetch_add(1, Ordering::SeqCst);
-    }
-
-    // Looks until the number is there, or the turns are spent.
-    fn wait_for(&self, number: u64, place: &AtomicU64) {
-        for _ in 0..TURNS {
-            if place.load(Ordering::SeqCst) == number {
-                return;
-            }
-        }
-        self.late.fetch_add(1, Ordering::SeqCst);
-    }
-}
-
-// When a gate holds whoever asks it.
-#[derive(Drop)]
-enum Hold {
-    // The put, behind so many steps.
-    Put { steps: u64 },
-    // Another, before its first step.
-    Other,
-    // No more.
-    Over,
-}
-
-// A gate that never cuts, and holds once.
-#[derive(Drop)]
-struct Holding {
-    signals: Arc<Signals, Global>,
-    hold: Hold,
-}
-
-impl Gate for Holding {
-    ghost cuts = { λ _. 0 };
-
-    ghost endless = { λ _. true };
-
-    ghost asked = { λ _ _ cut. cut ≡ false };
-
-    fn step(&mut self) -> Result<(), Cut> {
-        match self.hold {
-            Hold::Put { steps: 0 } => {
-                self.hold = Hold::Over;
-                self.signals.hold_put();
-            }
-            Hold::Put { steps } => self.hold = Hold::Put { steps: steps - 1 },
-            Hold::Other => {
-                self.hold = Hold::Over;
-                self.signals.hold_other();
-            }
-            Hold::Over => {}
-        }
-        Ok(())
-    }
-}
-
-fn gate(signals: &Arc<Signals, Global>, hold: Hold) -> Result<Holding, AllocError> {
-    Ok(Holding {
-        signals: Arc::try_clone(signals)?,
-        hold,
-    })
-}
-
-// Whether the report has this text with one of the two epochs.
-fn is_expected(alloc: Global, report: &Report) -> Result<bool, AllocError> {
-    let text = write_report(alloc, report)?;
-    let before = is_of_epoch(alloc, text.as_slice(), 2)?;
-    Ok(before || is_of_epoch(alloc, text.as_slice(), 3)?)
-}
-
-fn is_of_epoch(alloc: Global, text: &[u8], epoch: u64) -> Result<bool, AllocError> {
-    let mut expected = String::new(alloc);
-    write!(expected, "{BEFORE_EPOCH}{epoch}{BEHIND_EPOCH}")?;
-    Ok(text == expected.as_bytes())
-}
+",
+    },
+    // Three callers and the advancer begin at once, so each has a thread.
+    Run {
+        job: "\
+montage-job 3 mqg 8 3 1 0000000000000000
+2 degree 2 7
+0 get 1
+1 enq 1 5
+1 len 1
+",
+        callers: &[
+            &[Meeting { step: 0, come: 4 }],
+            &[Meeting { step: 0, come: 4 }],
+            &[Meeting { step: 0, come: 4 }],
+        ],
+        advancer: &[Meeting { step: 0, come: 4 }],
+        report: "\
+montage-report 3 mqg 8 3
+base 2
+map 0 0
+queue 1 0
+graph 2 0 0
+unit 0 1
+0 0 0 ? get 1 = none
+unit 1 2
+0 1 0 ? enq 1 5 = none
+1 1 1 ? len 1 = count 1
+unit 2 1
+0 2 0 ? degree 2 7 = none
+caller 0 1
+at 0 0
+caller 1 2
+at 1 0
+at 1 1
+caller 2 1
+at 2 0
+image 3
+map 0 0
+queue 1 0
+graph 2 0 0
+end
+",
+    },
+    // The clock can't move past 3 while a put is held at epoch 2: a tick is tried again until the
+    // put has ended. Were it not held up, the caller would be done before its 500th step.
+    Run {
+        job: "\
+montage-job 3 mqg 8 2 0 0000000000000000
+0 put 1 10
+1 enq 1 7
+1 tick
+1 tick
+1 deq 1
+1 sync
+",
+        callers: &[
+            &[Meeting { step: 5, come: 2 }, Meeting { step: 5, come: 4 }],
+            &[Meeting { step: 0, come: 2 }, Meeting { step: 500, come: 4 }],
+        ],
+        advancer: &[],
+        report: "\
+montage-report 3 mqg 8 2
+base 2
+map 0 0
+queue 1 0
+graph 2 0 0
+unit 0 1
+0 0 0 2 put 1 10 = none
+unit 1 2
+0 1 0 2 enq 1 7 = none
+1 1 1 4 deq 1 = was 7
+unit 2 0
+caller 0 1
+at 0 0
+caller 1 5
+at 1 0
+ticked 3
+ticked 4
+at 1 1
+synced 6
+image 6
+map 0 1
+1 10
+queue 1 0
+graph 2 0 0
+end
+",
+    },
+    // The put is cut in place of that: the tick is stuck, the put's unit is halted, and a sync is
+    // stuck where it has something to wait for.
+    Run {
+        job: "\
+montage-job 3 mqg 8 2 0 0000000000000000
+stop 0 5
+0 put 1 10
+1 tick
+1 tick
+1 put 1 11
+1 sync
+1 enq 1 7
+1 sync
+",
+        callers: &[
+            &[Meeting { step: 5, come: 2 }, Meeting { step: 5, come: 4 }],
+            &[Meeting { step: 0, come: 2 }, Meeting { step: 500, come: 4 }],
+        ],
+        advancer: &[],
+        report: "\
+montage-report 3 mqg 8 2
+base 2
+map 0 0
+queue 1 0
+graph 2 0 0
+unit 0 0
+unit 1 1
+0 1 0 3 enq 1 7 = none
+unit 2 0
+caller 0 1
+cut 0
+caller 1 6
+ticked 3
+stuck 0 2
+halted 0 0
+synced 3
+at 1 0
+stuck 0 2
+image 3
+map 0 0
+queue 1 0
+graph 2 0 0
+end
+",
+    },
+];
 
 #[test]
-fn others_are_under_way_while_a_put_is_held(rt: HostRuntime) -> Result<(), Fail> {
+fn callers_meet_as_told(rt: HostRuntime) -> Result<(), Fail> {
     let alloc = rt.alloc();
-    let job = job_of(alloc, Vec::from_slice(alloc, JOB.as_bytes())?)?;
-    let signals = Arc::new(alloc, Signals::new())?;
-    meet(&rt, alloc, &job, &signals)
-}
-
-// The threads of a run meet, and its report is right.
-fn meet(
-    rt: &(impl Threads + Wait + Sync),
-    alloc: Global,
-    job: &Job,
-    signals: &Arc<Signals, Global>,
-) -> Result<(), Fail>
-    requires { IsJob job.now }
-{
-    let report = held_report(rt, alloc, job, signals)?;
-    if signals.late.load(Ordering::SeqCst) != 0 {
-        return Err(Fail::new("the threads didn't meet"));
-    }
-    judge(alloc, job, &report)
-}
-
-// The report of a run in which the gates hold the first caller's put, the other caller and the
-// advancer.
-fn held_report(
-    rt: &(impl Threads + Wait + Sync),
-    alloc: Global,
-    job: &Job,
-    signals: &Arc<Signals, Global>,
-) -> Result<Report, Fail>
-    requires { IsJob job.now }
-{
-    if job.callers != 2 {
-        return Err(Fail::new("another job"));
-    }
-    let gates = vec![in alloc;
-        gate(signals, Hold::Put { steps: STEPS })?,
-        gate(signals, Hold::Other)?,
-    ]?;
-    let advancers = gate(signals, Hold::Other)?;
-    report_of_run(rt, alloc, job, gates, advancers)
-}
-
-// The report is the expected one, and faithful.
-fn judge(alloc: Global, job: &Job, report: &Report) -> Result<(), Fail> {
-    if !is_expected(alloc, report)? || !is_right(alloc, job, report)? {
-        return Err(Fail::new("another report"));
+    for run in RUNS {
+        is_met(&rt, alloc, run)?;
     }
     Ok(())
+}
+
+// The gates of a run meet, and its report is the one that is told.
+fn is_met(rt: &(impl Threads + Wait + Sync), alloc: Global, run: &Run) -> Result<(), Fail> {
+    let job = job_of(alloc, run.job)?;
+    let signals = Signals::new();
+    let text = text_of_meeting(rt, alloc, run, &job, &signals)?;
+    if !signals.have_met() || !is_told(text.as_slice(), run.report.as_bytes()) {
+        return Err(Fail::new(run.job));
+    }
+    Ok(())
+}
+
+// The text of the report of a run.
+fn text_of_meeting(
+    rt: &(impl Threads + Wait + Sync),
+    alloc: Global,
+    run: &Run,
+    job: &Job,
+    signals: &Signals,
+) -> Result<Vec<u8>, Fail>
+    requires { IsJob job.now }
+{
+    let mut gates = Vec::new(alloc);
+    for (caller, meetings) in run.callers.iter().enumerate() {
+        gates.push(gate(job, caller as u64, meetings, signals))?;
+    }
+    let advancers = gate(job, job.callers, run.advancer, signals);
+    text_of_run(rt, alloc, job, gates, advancers)
+}
+
+// The gate of whoever has this number, with the fuel that the job gives it.
+fn gate<'a>(
+    job: &Job,
+    who: u64,
+    meetings: &'static [Meeting],
+    signals: &'a Signals,
+) -> MeetingGate<'a> {
+    let stop = job.stops.as_slice().iter().find(|stop| stop.who == who);
+    MeetingGate {
+        signals,
+        meetings,
+        steps: 0,
+        fuel: stop.map_or(Fuel::endless(), |stop| Fuel::new(stop.steps)),
+    }
+}
+
+// Whether a text is the one that is told.
+fn is_told(text: &[u8], told: &[u8]) -> bool {
+    text.len() == told.len()
+        && text.iter().zip(told).all(|(found, byte)| found == byte
+            || *byte == b'?' && matches!(*found, b'2' | b'3'))
 }
