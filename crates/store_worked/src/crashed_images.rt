@@ -1,10 +1,10 @@
-// Images that a crash may leave of a store's words.
+// Images that a crash may leave of a store's words, and what they hold.
 ghost use Rattle.std.specs.Prelude.{IsTrue};
 ghost use Rattle.mont_image.specs.Picking.{HasClock};
 
-use mont_base::{FIRST_CLOCK, LAST, Sequence, Words};
+use mont_base::{FIRST_CLOCK, LAST, Sequence, Text, Words};
 use mont_image::{Image, pick};
-use plain::{Contents, same_state};
+use plain::{Contents, MapState, UnitState, same_state};
 use recover::find_units;
 use std::alloc::Global;
 use std::test::Fail;
@@ -44,13 +44,34 @@ pub(crate) fn contents_of(
 // Whether all units have the same state.
 pub(crate) fn have_same_units(a: &Contents, b: &Contents) -> bool {
     let (a, b) = (a.units.as_slice(), b.units.as_slice());
-    if a.len() != b.len() {
-        return false;
-    }
-    for at in 0..a.len() {
-        if !same_state(&a[at], &b[at]) {
-            return false;
+    a.len() == b.len() && a.iter().zip(b).all(|(a, b)| same_state(a, b))
+}
+
+// What the numbers of all maps come to.
+pub(crate) fn total_of(contents: &Contents) -> u64 {
+    let mut total = 0u64;
+    for unit in contents.units.as_slice() {
+        if let UnitState::Map { state } = unit {
+            total = total.wrapping_add(total_of_map(state));
         }
     }
-    true
+    total
+}
+
+fn total_of_map(state: &MapState) -> u64 {
+    let mut total = 0u64;
+    for (_key, value) in state.iter() {
+        total = total.wrapping_add(number_of(value));
+    }
+    total
+}
+
+// The number whose digits a text is.
+fn number_of(text: &Text) -> u64 {
+    let mut number = 0u64;
+    for at in 0..text.len() {
+        let digit = text.byte(at).wrapping_sub(b'0');
+        number = number.wrapping_mul(10).wrapping_add(u64::from(digit));
+    }
+    number
 }

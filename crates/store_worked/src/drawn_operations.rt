@@ -3,13 +3,6 @@ use mont_base::{Fuel, Op, Text, Unit};
 use rand_core::Rng;
 use rand_pcg::Pcg64;
 
-// The units of a store whose kinds are `mqgo`, but for its map.
-const QUEUE: Unit = 1;
-
-const GRAPH: Unit = 2;
-
-const ORDERED: Unit = 3;
-
 // Keys and vertices are below this, so that they often meet.
 const NAMES: u64 = 7;
 
@@ -22,11 +15,15 @@ pub(crate) struct Draws {
 }
 
 impl Draws {
-    // The draws of a seed, of which there are as many rows as are asked for.
-    pub(crate) fn new(seed: u64, row: u64) -> Draws {
+    pub(crate) fn new(seed: u64) -> Draws {
         Draws {
-            generator: Pcg64::new(u128::from(seed), u128::from(row)),
+            generator: Pcg64::new(u128::from(seed), 0),
         }
+    }
+
+    // Draws of their own, whose seed is drawn.
+    pub(crate) fn apart(&mut self) -> Draws {
+        Draws::new(self.number())
     }
 
     // Any number.
@@ -52,13 +49,14 @@ impl Draws {
         }
     }
 
-    // An operation on one of the units of kinds `mqgo`.
-    pub(crate) fn op(&mut self) -> Op {
+    // An operation on one of the units of a store, which are so many maps, and behind them a queue,
+    // a graph and an ordered unit.
+    pub(crate) fn op(&mut self, maps: u64) -> Op {
         match self.below(4) {
             0 => self.map_op(),
-            1 => self.queue_op(),
-            2 => self.graph_op(),
-            _ => self.ordered_op(),
+            1 => self.queue_op(maps),
+            2 => self.graph_op(maps.wrapping_add(1)),
+            _ => self.ordered_op(maps.wrapping_add(2)),
         }
     }
 
@@ -74,8 +72,7 @@ impl Draws {
         }
     }
 
-    fn queue_op(&mut self) -> Op {
-        let unit = QUEUE;
+    fn queue_op(&mut self, unit: Unit) -> Op {
         match self.below(5) {
             0 => Op::Len { unit },
             1 | 2 => Op::Enq {
@@ -86,8 +83,7 @@ impl Draws {
         }
     }
 
-    fn graph_op(&mut self) -> Op {
-        let unit = GRAPH;
+    fn graph_op(&mut self, unit: Unit) -> Op {
         let (vertex, to, attr) = (self.below(NAMES), self.below(NAMES), self.below(VALUES));
         let from = vertex;
         match self.below(8) {
@@ -105,8 +101,7 @@ impl Draws {
         }
     }
 
-    fn ordered_op(&mut self) -> Op {
-        let unit = ORDERED;
+    fn ordered_op(&mut self, unit: Unit) -> Op {
         let key = self.text(NAMES);
         match self.below(8) {
             0 => Op::OGet { unit, key },

@@ -1,27 +1,28 @@
-//! Worked runs of a store whose callers are on threads: chains of rounds between which it crashes
-//! and recovers, amounts that callers shift beside one that ticks, and a store that one caller uses
-//! for long.
+//! Worked runs of a store whose callers are on threads: callers beside one that moves the clock on,
+//! chains of rounds between which the store crashes and recovers, amounts that callers shift, a
+//! caller that is held in the middle of a put, and a store that one caller uses for long. What is
+//! left is judged by plain structures.
 //!
 //! The crate has tests alone: beside the store's calls they would have all of it proved again.
 #![tactic(auto)]
 
 #[cfg(test)]
-mod chained_rounds;
+mod callers;
 #[cfg(test)]
-mod common_start;
+mod chains;
 #[cfg(test)]
 mod crashed_images;
 #[cfg(test)]
 mod drawn_operations;
 #[cfg(test)]
-mod judged_rounds;
+mod held_put;
+#[cfg(test)]
+mod judged_stores;
 #[cfg(test)]
 mod long_use;
 #[cfg(test)]
-mod round_callers;
-#[cfg(test)]
-mod shifted_totals;
-#[cfg(test)]
-mod shifting_parties;
+mod meetings;
 #[cfg(test)]
 mod swept_stores;
+#[cfg(test)]
+mod worked_chains;

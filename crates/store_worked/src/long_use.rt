@@ -5,6 +5,7 @@ ghost use Rattle.store.specs.FreshStore.{IsFreshHeap};
 ghost use Rattle.store.specs.Store.{AreAllCallers};
 ghost use Rattle.store_worked.specs.SameCallers.{IsSameCaller};
 
+use crate::chains::indexes;
 use crate::crashed_images::{contents_of, picked};
 use crate::drawn_operations::Draws;
 use heap::{Heap, Seats};
@@ -26,8 +27,6 @@ const THOUSAND: u64 = 1000;
 
 // A pass has room for so many receipts at most.
 const MOST_ROOM: usize = 2000;
-
-const KINDS: &[u8] = b"m";
 
 const SLOTS: u64 = 64;
 
@@ -105,30 +104,14 @@ fn use_long<N: HeapName>(
     requires { pass.old.ticket.table ≡ N.heap.table }
     ensures { IsSameCaller pass.old.ticket pass.new.ticket }
 {
-    for _ in 0..CALLS / THOUSAND {
-        use_some(rt, store, pass, by)?;
-        if pass.receipts.capacity() > MOST_ROOM {
-            by.well = false;
+    for number in 1..=CALLS {
+        use_once(rt, store, pass, by)?;
+        if number % THOUSAND == 0 {
+            by.well &= pass.receipts.capacity() <= MOST_ROOM;
+            pass.forget();
         }
-        pass.forget();
     }
     store.sync(rt, pass)?;
-    Ok(())
-}
-
-// Makes a thousand calls.
-fn use_some<N: HeapName>(
-    rt: &impl Wait,
-    store: &Store<N, SortedIndex>,
-    pass: &mut Pass<Steady>,
-    by: &mut Use,
-) -> Result<(), StoreRefusal>
-    requires { pass.old.ticket.table ≡ N.heap.table }
-    ensures { IsSameCaller pass.old.ticket pass.new.ticket }
-{
-    for _ in 0..THOUSAND {
-        use_once(rt, store, pass, by)?;
-    }
     Ok(())
 }
 
@@ -148,10 +131,7 @@ fn use_once<N: HeapName>(
         return Ok(());
     }
     let receipt = call(rt, store, pass, &op)?;
-    let reply = by.map.apply(&op)?;
-    if receipt.entry.reply != reply {
-        by.well = false;
-    }
+    by.well &= receipt.entry.reply == by.map.apply(&op)?;
     Ok(())
 }
 
@@ -175,15 +155,11 @@ fn call<N: HeapName>(
     }
 }
 
-fn layout() -> Result<Layout, Fail> {
-    Ok(Layout::new(Kinds::of_letters(KINDS)?, SLOTS)?)
-}
-
 // The words that a long use leaves.
 fn words_left(rt: &impl Wait, alloc: Global, by: &mut Use) -> Result<Words, Fail> {
-    let layout = layout()?;
+    let layout = Layout::new(Kinds::of_letters(b"m")?, SLOTS)?;
     let gates = vec![in alloc; Steady]?;
-    let indexes = vec![in alloc; SortedIndex::new(alloc)]?;
+    let indexes = indexes(alloc, 1)?;
     let (heap, seats) = Heap::fresh(alloc, layout, 1)?;
     Ok(used::<Brand>(rt, alloc, heap, seats, gates, indexes, by)?)
 }
@@ -195,23 +171,21 @@ fn are_as_used(
     words: &Words,
     by: &Use,
 ) -> Result<(), Fail> {
-    if !by.well {
-        return Err(Fail::new("another reply, or receipts that grow"));
-    }
     let image = picked(alloc, words, 0)?;
     let found = contents_of(rt, alloc, &image)?;
-    is_held(&found, &by.map)
+    if by.well && is_first(&found, &by.map) {
+        Ok(())
+    } else {
+        Err(Fail::new("another reply, receipts that grow, or another map that is durable"))
+    }
 }
 
-// The first unit is the map.
-fn is_held(found: &Contents, map: &MapState) -> Result<(), Fail> {
-    let Some(UnitState::Map { state }) = found.units.get(0) else {
-        return Err(Fail::new("no map"));
-    };
-    if !state.has_same_pairs(map) {
-        return Err(Fail::new("another map is durable"));
+// Whether the first unit is this map.
+fn is_first(found: &Contents, map: &MapState) -> bool {
+    match found.units.get(0) {
+        Some(UnitState::Map { state }) => state.has_same_pairs(map),
+        _ => false,
     }
-    Ok(())
 }
 
 // The words have the room of the layout.
@@ -227,7 +201,7 @@ fn has_no_more_room(layout: Layout, words: Words) -> Result<(), Fail> {
 fn a_long_use_takes_no_more_room(rt: HostRuntime) -> Result<(), Fail> {
     let alloc = rt.alloc();
     let mut by = Use {
-        draws: Draws::new(0, 0),
+        draws: Draws::new(0),
         map: MapState::new(alloc),
         well: true,
     };

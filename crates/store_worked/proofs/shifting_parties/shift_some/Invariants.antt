@@ -1,6 +1,0 @@
--- The pass is still of the same caller.
-use Rattle.store.specs.StoreCalls.{IsSamePass}
-use Rattle.store_worked.proofs.shifting_parties.shift_some.Given as goal
-
-abbrev pub invariant-loop : goal.invariant-loop
-invariant-loop g l = IsSamePass l.fn.pass l.pass
