@@ -31,11 +31,11 @@ const AMOUNTS: u64 = 40;
 // What a caller is there for.
 #[derive(Clone, Copy)]
 pub(crate) enum Part {
-    // It makes operations that are drawn.
+    // It makes an operation in each turn, which is drawn.
     Calls,
-    // One turn in eight is a tick, one is a sync, and in the others it makes such operations.
+    // In one turn of eight it ticks, in one it syncs, and in the others it makes such an operation.
     TakesTurns,
-    // It puts the first number under two keys, and syncs.
+    // It puts the first number under two keys, and syncs behind each.
     Puts,
     // It shifts amounts.
     Shifts,
@@ -83,6 +83,7 @@ pub(crate) struct Caller<'m> {
 }
 
 impl<'m> Caller<'m> {
+    // A caller that made no call.
     pub(crate) fn new(alloc: Global, meeting: &'m Meeting, part: Part, draws: Draws) -> Caller<'m> {
         Caller {
             meeting,
@@ -200,6 +201,7 @@ fn take_turns<R: Wait, N: HeapName, I: Index>(
     }
 }
 
+// One turn of its part.
 fn take_turn<R: Wait, N: HeapName, I: Index>(
     rt: &R,
     store: &Store<N, I>,

@@ -133,6 +133,7 @@ pub(crate) fn indexes(alloc: Global, maps: u64) -> Result<Vec<SortedIndex>, Allo
     Ok(indexes)
 }
 
+// Four callers, and the one beside them.
 fn callers<'m>(
     alloc: Global,
     meeting: &'m Meeting,

@@ -22,7 +22,7 @@ pub(crate) fn judge(alloc: Global, stopped: &Stopped, callers: &[Caller]) -> Res
     Ok(())
 }
 
-// Whether nothing came that may not come, where some caller was cut or none.
+// Whether nothing came that may never come, or that may come only where some caller was cut.
 fn are_well(callers: &[Caller]) -> bool {
     let is_some_cut = callers.iter().any(|caller| caller.cut);
     callers
@@ -30,6 +30,7 @@ fn are_well(callers: &[Caller]) -> bool {
         .all(|caller| caller.well && (is_some_cut || !caller.refused))
 }
 
+// Whether each history is legal from what its unit held when the store was opened.
 fn are_legal(stopped: &Stopped) -> Result<bool, AllocError> {
     let (layout, clock) = (stopped.words.layout, stopped.base_clock);
     let (bases, histories) = (stopped.base.units.as_slice(), stopped.histories.as_slice());
@@ -42,6 +43,7 @@ fn are_legal(stopped: &Stopped) -> Result<bool, AllocError> {
     Ok(are_legal)
 }
 
+// Whether the histories tell each answer at its place once, each caller's in their order.
 fn are_answers(alloc: Global, stopped: &Stopped, callers: &[Caller]) -> Result<bool, AllocError> {
     let histories = stopped.histories.as_slice();
     let mut answers = Vec::new(alloc);
