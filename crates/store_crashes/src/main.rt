@@ -7,11 +7,17 @@ mod queue_turn;
 mod resumed;
 mod transfers;
 
-use resumed::tell_resumed;
+use resumed::{crash_and_resume, tell};
 use std::io;
-use transfers::tell_total;
+use transfers::total_kept;
 
 fn main(rt: HostRuntime) -> io::Result<()> {
-    tell_resumed(&rt)?;
-    tell_total(&rt)
+    match crash_and_resume(&rt) {
+        Ok((stopped, turns)) => tell(&rt, &stopped, &turns)?,
+        Err(why) => println!(rt; "given up: {why:?}")?,
+    }
+    match total_kept(&rt) {
+        Ok(total) => println!(rt; "total: {total}"),
+        Err(why) => println!(rt; "given up: {why:?}"),
+    }
 }

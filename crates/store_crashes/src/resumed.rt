@@ -18,16 +18,8 @@ use store_stop::Stopped;
 // Every third word is lost in the crash, if it isn't durable.
 const MASK: u64 = 0xB6DB_6DB6_DB6D_B6DB;
 
-/// Tells what came of both turns.
-pub fn tell_resumed(rt: &HostRuntime) -> io::Result<()> {
-    match crash_and_resume(rt) {
-        Ok((stopped, turns)) => tell(rt, &stopped, &turns),
-        Err(why) => println!(rt; "given up: {why:?}"),
-    }
-}
-
-// Tells what the second store began with, what its caller took, and how much was done on it.
-fn tell(rt: &HostRuntime, stopped: &Stopped, turns: &[Turn]) -> io::Result<()> {
+/// Tells what the second store began with, what its caller took, and how much was done on it.
+pub fn tell(rt: &HostRuntime, stopped: &Stopped, turns: &[Turn]) -> io::Result<()> {
     for unit in stopped.base.units.as_slice() {
         println!(rt; "opened again with {} item", unit.size())?;
     }
@@ -40,8 +32,8 @@ fn tell(rt: &HostRuntime, stopped: &Stopped, turns: &[Turn]) -> io::Result<()> {
     Ok(())
 }
 
-// What the store leaves that goes on from the image of a crash, behind a second turn.
-fn crash_and_resume<R: AllocGlobal + Threads + Wait + Sync>(
+/// What the store leaves that goes on from the image of a crash, behind a second turn.
+pub fn crash_and_resume<R: AllocGlobal + Threads + Wait + Sync>(
     rt: &R,
 ) -> Result<(Stopped, Vec<Turn>), StoreRefusal> {
     let alloc = rt.alloc();

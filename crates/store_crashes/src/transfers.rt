@@ -5,7 +5,6 @@ use index_kit::SortedIndex;
 use mont_base::{Kinds, Layout, Steady, Text};
 use mont_image::pick;
 use plain::{Contents, UnitState, recover};
-use std::io;
 use std::sync::Wait;
 use std::thread::Threads;
 use store::StoreRefusal;
@@ -14,18 +13,9 @@ use store_door::with_fresh;
 // Every other word is lost in the crash, if it isn't durable.
 const MASK: u64 = 0x5555_5555_5555_5555;
 
-/// Tells what the amounts come to.
-pub fn tell_total(rt: &HostRuntime) -> io::Result<()> {
-    match transfer_and_recover(rt) {
-        Ok(contents) => println!(rt; "total: {}", total_of(&contents)),
-        Err(why) => println!(rt; "given up: {why:?}"),
-    }
-}
-
-// A store of two maps on which four callers worked, and what recovery rebuilds of it.
-fn transfer_and_recover<R: AllocGlobal + Threads + Wait + Sync>(
-    rt: &R,
-) -> Result<Contents, StoreRefusal> {
+/// What the numbers come to that recovery rebuilds of a store of two maps, on which four callers
+/// worked.
+pub fn total_kept<R: AllocGlobal + Threads + Wait + Sync>(rt: &R) -> Result<u64, StoreRefusal> {
     let alloc = rt.alloc();
     let layout = Layout::new(Kinds::of_letters(b"mm")?, 32)?;
     let gates = vec![in alloc; Steady, Steady, Steady, Steady]?;
@@ -41,7 +31,7 @@ fn transfer_and_recover<R: AllocGlobal + Threads + Wait + Sync>(
         account.ended?;
     }
     let image = pick(alloc, &stopped.words, MASK)?;
-    Ok(recover(alloc, image.layout, image.words.as_slice())?)
+    Ok(total_of(&recover(alloc, image.layout, image.words.as_slice())?))
 }
 
 // What the numbers of all maps come to.
