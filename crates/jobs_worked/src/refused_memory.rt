@@ -1,10 +1,15 @@
 // A caller that finds no memory stops no other, and all passes are there after it.
+ghost use Rattle.job_text.specs.Grammar.{IsJob};
+
 use crate::ended_runs::{Ended, ended_run};
 use crate::reports::job_of;
 use index_kit::{Index, SortedIndex};
+use job_text::Job;
 use mont_base::{Fuel, Text};
-use std::alloc::AllocError;
+use std::alloc::{AllocError, Global};
+use std::sync::Wait;
 use std::test::Fail;
+use std::thread::Threads;
 
 const JOB: &str = "\
 montage-job 3 mqg 8 2 3 0000000000000000
@@ -48,17 +53,40 @@ impl Index for FullIndex {
 
 #[test]
 fn passes_outlive_want_of_memory(rt: HostRuntime) -> Result<(), Fail> {
-    let alloc = rt.alloc();
-    let job = job_of(alloc, JOB)?;
-    let index = SortedIndex::new(alloc);
-    let indexes = vec![in alloc; FullIndex { index }]?;
-    let gates = vec![in alloc; Fuel::endless(), Fuel::endless()]?;
+    let job = job_of(rt.alloc(), JOB)?;
     let mut gate = Fuel::new(0);
-    let ended = ended_run(&rt, alloc, &job, indexes, gates, &mut gate)?;
-    if !is_short(&ended) || gate.cuts != 1 {
+    if !is_short_run(&rt, rt.alloc(), &job, &mut gate)? || gate.cuts != 1 {
         return Err(Fail::new("another end"));
     }
     Ok(())
+}
+
+// Whether a run ends as `is_short` says.
+fn is_short_run(
+    rt: &(impl Threads + Wait + Sync),
+    alloc: Global,
+    job: &Job,
+    gate: &mut Fuel,
+) -> Result<bool, Fail>
+    requires { IsJob job.now }
+{
+    let ended = short_run(rt, alloc, job, gate)?;
+    Ok(is_short(&ended))
+}
+
+// A run whose callers find no room in the index.
+fn short_run(
+    rt: &(impl Threads + Wait + Sync),
+    alloc: Global,
+    job: &Job,
+    gate: &mut Fuel,
+) -> Result<Ended, Fail>
+    requires { IsJob job.now }
+{
+    let index = SortedIndex::new(alloc);
+    let indexes = vec![in alloc; FullIndex { index }]?;
+    let gates = vec![in alloc; Fuel::endless(); 2]?;
+    ended_run(rt, alloc, job, indexes, gates, gate)
 }
 
 // The run lacked memory, and both calls of the first caller alone were answered.
