@@ -120,7 +120,7 @@ impl<'m> Caller<'m> {
     }
 
     // Keeps an answer, if there is memory for it.
-    fn keep(&mut self, receipt: Receipt) {
+    fn keep(&mut self, receipt: &Receipt) {
         self.well = is_kept(&mut self.answered, receipt) && self.well;
     }
 
@@ -138,13 +138,13 @@ impl<'m> Caller<'m> {
             Ok((out, into)) => {
                 self.well = self.well && out.entry.epoch == into.entry.epoch;
                 let up = out.unit < into.unit;
-                self.keep(if up { out } else { into });
-                self.keep(if up { into } else { out });
+                self.keep(if up { &out } else { &into });
+                self.keep(if up { &into } else { &out });
             }
             Err(ShiftRefusal::Cut { first, .. }) => {
                 self.refused = true;
                 if let Some(receipt) = first {
-                    self.keep(receipt);
+                    self.keep(&receipt);
                 }
             }
             Err(ShiftRefusal::Halted { .. }) => self.refused = true,
@@ -167,8 +167,8 @@ pub(crate) fn first_put(key: u64) -> Op {
 }
 
 // Adds an item to a list, if there is memory for it.
-fn is_kept<T: Drop>(list: &mut Sequence<T>, item: T) -> bool {
-    list.push(item).is_ok()
+fn is_kept<T: Copy>(list: &mut Sequence<T>, item: &T) -> bool {
+    list.push(*item).is_ok()
 }
 
 impl<'m, R: Wait> Work<R, Fuel> for Caller<'m> {
@@ -243,7 +243,7 @@ pub(crate) fn call<R: Wait, N: HeapName, I: Index, G: Gate>(
         return;
     }
     match store.apply(rt, pass, op) {
-        Ok(receipt) => caller.keep(receipt),
+        Ok(receipt) => caller.keep(&receipt),
         Err(CallRefusal::Full { .. }) => sync(rt, store, pass, caller),
         Err(CallRefusal::Halted { .. } | CallRefusal::Cut { .. }) => caller.refused = true,
         Err(CallRefusal::CountEnd { .. } | CallRefusal::Memory) => caller.well = false,

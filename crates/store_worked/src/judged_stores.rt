@@ -1,6 +1,6 @@
 // What callers leave of a store is judged by plain structures.
 use crate::callers::Caller;
-use mont_base::Sequence;
+use mont_base::{Entry, Epoch, Sequence};
 use mont_image::Image;
 use plain::{Contents, UnitState, View, cut_at, is_callers_order, is_legal, state_after};
 use std::alloc::{AllocError, Global};
@@ -73,9 +73,18 @@ pub(crate) fn expected(
     let mut units = Sequence::new(alloc);
     let histories = stopped.histories.as_slice().iter();
     for (base, history) in stopped.base.units.as_slice().iter().zip(histories) {
-        let base: &UnitState = base;
-        let entries = cut_at(alloc, cut, history.as_slice())?;
-        units.push(state_after(base.clone()?, entries.as_slice())?)?;
+        units.push(kept(alloc, cut, base, history.as_slice())?)?;
     }
     Ok(Contents { units })
+}
+
+// What the entries of a history up to an epoch make of what the unit held before.
+fn kept(
+    alloc: Global,
+    cut: Epoch,
+    base: &UnitState,
+    history: &[Entry],
+) -> Result<UnitState, AllocError> {
+    let entries = cut_at(alloc, cut, history)?;
+    state_after(base.clone()?, entries.as_slice())
 }
