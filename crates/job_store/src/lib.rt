@@ -1,5 +1,5 @@
 //! A whole run of a job: on a store that was never used, or on one that goes on from an image. It
-//! gives the report, and the image that a crash leaves. A run of the generated job gives its summary.
+//! gives the report, and the image that a crash leaves; one of the generated job, its summary.
 #![tactic(auto)]
 
 mod base;

@@ -1,15 +1,15 @@
-//! Two stores that crash: one of a queue, which goes on behind its crash, and one of two maps between
-//! which callers transfer amounts, whose total stands in what the crash leaves.
+//! Two stores that crash: one of a queue, which goes on behind its crash, and one of two maps
+//! between which callers transfer amounts, whose total stands in what the crash leaves.
 #![tactic(auto)]
 
 mod opened_account;
 mod queue_turn;
 mod resumed;
-mod transfers;
+mod transferred_amounts;
 
 use resumed::{crash_and_resume, tell};
 use std::io;
-use transfers::total_kept;
+use transferred_amounts::total_kept;
 
 fn main(rt: HostRuntime) -> io::Result<()> {
     match crash_and_resume(&rt) {

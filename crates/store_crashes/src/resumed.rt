@@ -1,6 +1,6 @@
-// A store of a queue that goes on behind a crash: a caller takes a turn, the store is stopped, and an
-// image is picked as a crash may leave it. The store is recovered from it, a caller takes a turn on
-// what it holds, and it is stopped again.
+// A store of a queue that goes on behind a crash: a caller takes a turn, the store is stopped, and
+// an image is picked as a crash may leave it. The store is recovered from it, a caller takes a turn
+// on what it holds, and it is stopped again.
 ghost use Rattle.std.specs.Prelude.{◌≡◌, false, IfOk};
 
 use crate::queue_turn::Turn;

@@ -3,10 +3,10 @@
 ghost use Rattle.std.specs.Prelude.{◌≡◌, ℕ, false, true, vec_len, IfOk};
 ghost use Rattle.store.specs.StoreCalls.{IsSamePass};
 
-use crate::callers::{Caller, Part, call, first_put};
-use crate::chains::{Chain, indexes, judged};
+use crate::chained_rounds::{Chain, indexes, judged};
 use crate::drawn_operations::Draws;
 use crate::meetings::Meeting;
+use crate::threaded_callers::{Caller, Part, call, first_put};
 use advance::AdvanceRefusal;
 use heap_pass::{HeapName, Pass};
 use index_kit::Index;

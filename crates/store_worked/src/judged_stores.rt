@@ -1,5 +1,5 @@
 // What callers leave of a store is judged by plain structures.
-use crate::callers::Caller;
+use crate::threaded_callers::Caller;
 use mont_base::{Entry, Epoch, Sequence};
 use mont_image::Image;
 use plain::{Contents, UnitState, View, cut_at, is_callers_order, is_legal, state_after};

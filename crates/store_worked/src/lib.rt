@@ -7,9 +7,7 @@
 #![tactic(auto)]
 
 #[cfg(test)]
-mod callers;
-#[cfg(test)]
-mod chains;
+mod chained_rounds;
 #[cfg(test)]
 mod crashed_images;
 #[cfg(test)]
@@ -24,5 +22,7 @@ mod long_use;
 mod meetings;
 #[cfg(test)]
 mod swept_stores;
+#[cfg(test)]
+mod threaded_callers;
 #[cfg(test)]
 mod worked_chains;

@@ -5,7 +5,7 @@ ghost use Rattle.store.specs.FreshStore.{IsFreshHeap};
 ghost use Rattle.store.specs.Store.{AreAllCallers};
 ghost use Rattle.store_worked.specs.SameCallers.{IsSameCaller};
 
-use crate::chains::indexes;
+use crate::chained_rounds::indexes;
 use crate::crashed_images::{contents_of, picked};
 use crate::drawn_operations::Draws;
 use heap::{Heap, Seats};

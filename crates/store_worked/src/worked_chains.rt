@@ -1,6 +1,6 @@
 // What is done with stores in chains of rounds.
-use crate::callers::{Part, TOTAL};
-use crate::chains::{Chain, first_round, go_on};
+use crate::chained_rounds::{Chain, first_round, go_on};
+use crate::threaded_callers::{Part, TOTAL};
 use std::alloc::Global;
 use std::sync::Wait;
 use std::test::Fail;

@@ -17,7 +17,8 @@ new-requires c =
 pub invariant_of-result : goal.invariant_of-result
 invariant_of-result c =
     let made = c.in-Ok.ensures.ok in
-    heap_is _ _ c.args.opening.now.layout c.as_slice.result.now c.as_slice-2.result.now c.in_ok-lists.lists.items c.args.opening.now.layout.slots
+    heap_is _ _ c.args.opening.now.layout c.as_slice.result.now c.as_slice-2.result.now
+    c.in_ok-lists.lists.items c.args.opening.now.layout.slots
     (sym (ap (λ (o : Opening). o.layout) made.5)) made.0 made.1 (c.as_slice-2.ensures.value ∙ c.in_ok-words.ensures)
     (ap length c.as_slice.ensures ∙ c.requires.size)
     (c.in_ok-lists.ensures ∙ (λ j. replicate (2 * c.units.ensures.value j) (listing (c.slots.ensures.value j) [])))

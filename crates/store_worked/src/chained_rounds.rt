@@ -2,12 +2,12 @@
 // and then it crashes, and the next round goes on from what is recovered.
 ghost use Rattle.std.specs.Prelude.{◌≡◌, vec_len, IfOk};
 
-use crate::callers::{Caller, Part};
 use crate::crashed_images::{contents_of, have_same_units, picked, total_of};
 use crate::drawn_operations::Draws;
 use crate::judged_stores::{expected, judge};
 use crate::meetings::Meeting;
 use crate::swept_stores::{CALLERS, Crashed, swept};
+use crate::threaded_callers::{Caller, Part};
 use index_kit::SortedIndex;
 use mont_base::{Fuel, Kinds, Layout};
 use std::alloc::{AllocError, Global};
