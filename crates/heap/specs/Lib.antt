@@ -4,6 +4,7 @@ pub mod HeapShown
 pub mod NewsShown
 pub mod SeatFields
 pub mod Receipts
+pub mod NextAnswer
 pub mod Opens
 pub mod FreshOpening
 pub mod Stops

@@ -12,10 +12,11 @@ ghost use Rattle.heap.specs.GateAsked.{IsAskedOnce};
 ghost use Rattle.heap.specs.Receipts.{receipt_of};
 
 use crate::heap::Heap;
+use crate::next_answer::NextAnswer;
 use crate::seats::{Ticket, UnitSeat};
 use atomic_table::Seat;
 use heap_rule::{Answer, Callers, Cell, Freezes, Leaves, Reads, TakesCallers, View, Whole};
-use mont_base::{Cut, Entry, Epoch, Gate, Op, Receipt, Reply};
+use mont_base::{Cut, Epoch, Gate, Op, Receipt, Reply};
 use std::marker::Brand;
 
 impl Heap {
@@ -51,6 +52,45 @@ impl Heap {
             × IsSoundUnit self.now.opening now durable seat.new.known) }
         ensures cut { OnErr result ((seat.new ≡ seat.old) × (ticket.new ≡ ticket.old)) }
     {
+        let answer = NextAnswer::of(seat, ticket);
+        let epoch = self.leave_epoch(seat, ticket, op, reply, gate)?;
+        Ok(answer.receipt(op, reply, epoch))
+    }
+
+    /// The same as `leave`, and answers the epoch alone. What the receipt is tells the unit's
+    /// `NextAnswer` of before.
+    pub fn leave_epoch<G: Gate>(
+        &self,
+        seat: &mut UnitSeat,
+        ticket: &mut Ticket,
+        op: &Op,
+        reply: &Reply,
+        gate: &mut G,
+    ) -> Result<Epoch, Cut>
+        requires heap { seat.old.table ≡ self.now.table }
+        requires ticket { ticket.old.table ≡ self.now.table }
+        requires may { CanLeave self.now.opening.layout seat.old.known.unit seat.old.known.part
+            ticket.old.known.part op.now reply.now (epoch_of seat.old.known.part.stage) }
+        requires home { seat.old.known.turn.out ≡ false }
+        requires given { seat.old.known.turn.pushed ≡ slots_written seat.old.known.part }
+        ensures gate { IsAskedOnce G.cuts G.endless G.asked gate.old gate.new result }
+        ensures epoch { IfOk result (λ epoch. epoch ≡ epoch_of seat.old.known.part.stage) }
+        ensures unit { IfOk result (λ epoch. seat.new ≡ record {
+          table = seat.old.table;
+          known = unit_left seat.old.known (answer_of ticket.old.known op.now reply.now epoch);
+        }) }
+        ensures caller { IfOk result (λ epoch. ticket.new ≡ record {
+          table = ticket.old.table;
+          known = caller_answered ticket.old.known seat.old.known
+              (answer_of ticket.old.known op.now reply.now epoch);
+        }) }
+        ensures front { OnOk result (IsNotBeyond ticket.old.known seat.old.known) }
+        ensures sound_before { OnOk result ((now durable : ℕ)
+            × IsSoundUnit self.now.opening now durable seat.old.known) }
+        ensures sound { OnOk result ((now durable : ℕ)
+            × IsSoundUnit self.now.opening now durable seat.new.known) }
+        ensures cut { OnErr result ((seat.new ≡ seat.old) × (ticket.new ≡ ticket.old)) }
+    {
         gate.step()?;
         let place = self.announcement(seat);
         let shared = &self.table.shared;
@@ -58,26 +98,14 @@ impl Heap {
         shared.join_seat::<TakesCallers>(&mut seat.seat, whole);
         self.store_left::<Brand>(&mut seat.seat, place, op, reply);
         ticket.seat = shared.split_seat::<Callers>(&mut seat.seat);
-        let epoch = seat.epoch;
-        let entry = Entry {
-            caller: ticket.number,
-            call: ticket.calls,
-            op: *op,
-            reply: *reply,
-            epoch,
-        };
-        let receipt = Receipt {
-            unit: seat.unit,
-            place: seat.entries,
-            entry,
-        };
+        let (unit, place, epoch) = (seat.unit, seat.entries, seat.epoch);
         seat.entries += 1;
         seat.newest = epoch;
         seat.epoch = 0;
         ticket.calls += 1;
         ticket.newest = epoch;
-        ticket.fronts.set(receipt.unit, receipt.place + 1);
-        Ok(receipt)
+        ticket.fronts.set(unit, place + 1);
+        Ok(epoch)
     }
 
     // The store of an announcement taken back, by a seat that has both parts.
@@ -163,30 +191,63 @@ impl Heap {
             × IsSoundUnit self.now.opening r.entry.epoch durable seat.new.known) }
         ensures cut { OnErr result ((seat.new ≡ seat.old) × (ticket.new ≡ ticket.old)) }
     {
+        let answer = NextAnswer::of(seat, ticket);
+        let epoch = self.read_epoch(seat, ticket, op, reply, gate)?;
+        Ok(answer.receipt(op, reply, epoch))
+    }
+
+    /// The same as `read_entry`, and answers the entry's epoch alone, which is the clock. What the
+    /// receipt is tells the unit's `NextAnswer` of before.
+    pub fn read_epoch<G: Gate>(
+        &self,
+        seat: &mut UnitSeat,
+        ticket: &mut Ticket,
+        op: &Op,
+        reply: &Reply,
+        gate: &mut G,
+    ) -> Result<Epoch, Cut>
+        requires heap { seat.old.table ≡ self.now.table }
+        requires ticket { ticket.old.table ≡ self.now.table }
+        requires may { CanRead self.now.opening.layout seat.old.known.unit seat.old.known.part
+            ticket.old.known.part op.now reply.now }
+        requires clean { IsTrue (are_clean (units_of self.now.opening.layout)
+            seat.old.known.clean) }
+        ensures gate { IsAskedOnce G.cuts G.endless G.asked gate.old gate.new result }
+        ensures unit { IfOk result (λ epoch. seat.new ≡ record {
+          table = seat.old.table;
+          known = unit_read seat.old.known epoch
+              (answer_of ticket.old.known op.now reply.now epoch);
+        }) }
+        ensures caller { IfOk result (λ epoch. ticket.new ≡ record {
+          table = ticket.old.table;
+          known = caller_answered ticket.old.known seat.old.known
+              (answer_of ticket.old.known op.now reply.now epoch);
+        }) }
+        ensures front { OnOk result (IsNotBeyond ticket.old.known seat.old.known) }
+        ensures clock { IfOk result (λ epoch. IsClock (record {
+          newest = max seat.old.known.learnt.newest ticket.old.known.part.newest;
+          durable = max seat.old.known.learnt.durable ticket.old.known.part.durable;
+        })
+            seat.old.known.part epoch) }
+        ensures sound_before { OnOk result ((now durable : ℕ)
+            × IsSoundUnit self.now.opening now durable seat.old.known) }
+        ensures sound { IfOk result (λ epoch. (durable : ℕ)
+            × IsSoundUnit self.now.opening epoch durable seat.new.known) }
+        ensures cut { OnErr result ((seat.new ≡ seat.old) × (ticket.new ≡ ticket.old)) }
+    {
         gate.step()?;
         let shared = &self.table.shared;
         let whole = shared.split_seat::<Whole>(&mut ticket.seat);
         shared.join_seat::<TakesCallers>(&mut seat.seat, whole);
         let epoch = self.load_read::<Brand>(&mut seat.seat, op, reply);
         ticket.seat = shared.split_seat::<Callers>(&mut seat.seat);
-        let entry = Entry {
-            caller: ticket.number,
-            call: ticket.calls,
-            op: *op,
-            reply: *reply,
-            epoch,
-        };
-        let receipt = Receipt {
-            unit: seat.unit,
-            place: seat.entries,
-            entry,
-        };
+        let (unit, place) = (seat.unit, seat.entries);
         seat.entries += 1;
         seat.newest = epoch;
         ticket.calls += 1;
         ticket.newest = epoch;
-        ticket.fronts.set(receipt.unit, receipt.place + 1);
-        Ok(receipt)
+        ticket.fronts.set(unit, place + 1);
+        Ok(epoch)
     }
 
     // The load of the clock, by a seat that has both parts.

@@ -12,6 +12,7 @@ mod fresh_heap;
 mod heap;
 mod list_calls;
 mod news;
+mod next_answer;
 mod note_calls;
 mod opening;
 mod seats;
@@ -21,6 +22,7 @@ mod unit_calls;
 
 pub use heap::Heap;
 pub use news::News;
+pub use next_answer::NextAnswer;
 pub use opening::Seats;
 pub use seats::{AdvSeat, Ticket, UnitSeat};
 pub use stopping::stopped_words_hold_cuts;

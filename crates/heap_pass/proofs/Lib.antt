@@ -1,2 +1,3 @@
 pub mod Cleanness
 pub mod Kept
+pub mod KeptReceipts

@@ -3,3 +3,4 @@ pub mod OfLayout
 pub mod OfHeap
 pub mod Spare
 pub mod Kept
+pub mod KeptReceipt

@@ -4,6 +4,7 @@
 //! Where a caller is cut in any of these, the unit is halted for good and gets no entry.
 #![tactic(auto)]
 
+mod answer_place;
 mod beginning;
 mod committing;
 mod guard;
@@ -12,8 +13,8 @@ mod reading;
 mod writing;
 
 pub use beginning::{begin, begin_at, make_room};
-pub use committing::commit;
+pub use committing::{commit, keep_commit};
 pub use guard::{AtRefusal, Guard, GuardRefusal};
 pub use halting::halt;
-pub use reading::read;
+pub use reading::{keep_read, read};
 pub use writing::{abandon, change};

@@ -3,7 +3,7 @@ ghost use Rattle.std.specs.Prelude.{◌≡◌, true, false, [], None, OnOk, IfEr
 ghost use Rattle.heap.specs.GateAsked.{IsAskedOften};
 ghost use Rattle.structure_call.specs.Calling.{HasAnsweredCall, LeavesCall, was_asked, was_checked, was_cut};
 ghost use Rattle.structure_call.specs.Checking.{MayBeCalled};
-ghost use Rattle.structure_call.specs.KeptReceipt.{KeepsReceipt};
+ghost use Rattle.heap_pass.specs.KeptReceipt.{KeepsReceipt};
 ghost use Rattle.structure_call.specs.Planning.{IsPlan};
 ghost use Rattle.structure_call.specs.Standing.{IsStanding};
 ghost use Rattle.pgraph.specs.PGraph.{IsGraphUnit};
@@ -18,6 +18,7 @@ impl PGraph {
     // Answers an operation that changes nothing with one entry, and keeps the receipt in the pass.
     //
     // Memory is taken before the first step, as by `perform`.
+    #[inline(always)]
     pub(crate) fn answer<G: Gate>(
         &mut self,
         heap: &Heap,

@@ -11,7 +11,7 @@ ghost use Rattle.slots.specs.Books.{Agrees};
 ghost use Rattle.slots.specs.WrittenRecords.{NamesLive};
 ghost use Rattle.structure_call.specs.Calling.{HasAnsweredCall, LeavesCall, was_asked, was_checked, was_cut};
 ghost use Rattle.structure_call.specs.Checking.{EndsCount, MayBeCalled};
-ghost use Rattle.structure_call.specs.KeptReceipt.{KeepsReceipt};
+ghost use Rattle.heap_pass.specs.KeptReceipt.{KeepsReceipt};
 ghost use Rattle.structure_call.specs.Planning.{first_at_end};
 ghost use Rattle.structure_call.specs.Standing.{IsStanding};
 ghost use Rattle.pgraph.specs.GraphEdit.{Fits, changes_of, prepared, node_by, nodes_behind, nodes_with};
@@ -25,11 +25,11 @@ use crate::graph_plan::{GraphPlan, look_up, plan};
 use crate::node::{Name, Node};
 use crate::pgraph::PGraph;
 use heap::Heap;
-use heap_pass::Pass;
+use heap_pass::{Pass, last_receipt};
 use mont_base::{CallRefusal, Change, Gate, Held, Op, Receipt, Slot};
 use slots::Region;
 use std::sync::Wait;
-use structure_call::{carry_out, check_numbers, check_running, last_receipt};
+use structure_call::{carry_out, check_numbers, check_running};
 
 impl PGraph {
     /// Carries an operation of the unit out, answers it with one entry, and keeps the receipt in
@@ -72,6 +72,7 @@ impl PGraph {
     }
 
     // Carries an operation out as it is planned, and answers one at once that changes nothing.
+    #[inline(never)]
     fn carry<R: Wait, G: Gate>(
         &mut self,
         rt: &R,

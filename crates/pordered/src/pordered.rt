@@ -11,13 +11,13 @@ ghost use Rattle.heap.specs.GateAsked.{IsAskedOften};
 ghost use Rattle.slots.specs.Books.{Agrees};
 ghost use Rattle.structure_call.specs.Calling.{HasAnsweredCall, LeavesCall, was_asked, was_checked, was_cut};
 ghost use Rattle.structure_call.specs.Checking.{MayBeCalled};
-ghost use Rattle.structure_call.specs.KeptReceipt.{KeepsReceipt};
+ghost use Rattle.heap_pass.specs.KeptReceipt.{KeepsReceipt};
 ghost use Rattle.structure_call.specs.Standing.{IsStanding};
 ghost use Rattle.shard_map.specs.MapShard.{IsMapUnit};
 
 use crate::order_answers::answer_of;
 use heap::Heap;
-use heap_pass::{OfHeap, Pass};
+use heap_pass::{OfHeap, Pass, last_receipt};
 use mont_base::{CallRefusal, Gate, Layout, Object, Op, Receipt};
 use order_index::OrderIndex;
 use shard_map::MapShard;
@@ -25,7 +25,6 @@ use slots::Region;
 use std::alloc::{AllocError, Global};
 use std::marker::Model;
 use std::sync::Wait;
-use structure_call::last_receipt;
 
 /// An ordered unit: the pairs stand in the records of its region, and an index keeps the live keys
 /// in order, each with the slot of its record.

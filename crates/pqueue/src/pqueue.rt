@@ -9,20 +9,20 @@ ghost use Rattle.slots.specs.Books.{Agrees};
 ghost use Rattle.structure_call.specs.Standing.{IsStanding};
 ghost use Rattle.structure_call.specs.Checking.{MayBeCalled};
 ghost use Rattle.structure_call.specs.Calling.{HasAnsweredCall, LeavesCall, was_asked, was_checked, was_cut};
-ghost use Rattle.structure_call.specs.KeptReceipt.{KeepsReceipt};
+ghost use Rattle.heap_pass.specs.KeptReceipt.{KeepsReceipt};
 ghost use Rattle.pqueue.specs.PQueue.{IsOfQueue, HasNoneLive, HoldsItems, serials_taken};
 
 use crate::queue_plan::{QueuePlan, adds_item, follow, plan};
 use crate::queued::Queued;
 use heap::Heap;
-use heap_pass::{OfHeap, Pass};
+use heap_pass::{OfHeap, Pass, last_receipt};
 use mont_base::{CallRefusal, Gate, Op, Receipt};
 use slots::Region;
 use std::alloc::{AllocError, Global};
 use std::collections::VecDeque;
 use std::marker::Model;
 use std::sync::Wait;
-use structure_call::{carry_out, check_numbers, check_running, last_receipt};
+use structure_call::{carry_out, check_numbers, check_running};
 
 /// A queue as a unit of a store.
 ///

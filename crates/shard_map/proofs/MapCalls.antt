@@ -1,6 +1,6 @@
 -- What a map unit is behind each answer of a call.
 use Rattle.std.proofs.Common.{◌≡◌, ℕ, ◌≤◌, List, [], ◌∷◌, ◌++◌, append-nil, sym, refl, ap, ◌∙◌, subst, arith, Bool, true, false}
-use Rattle.std.specs.Prelude.{Option, Some, None, Result, Ok, Err, IfErr, IsErrAnd, All, length, is_some, option_to_list, MatchOption}
+use Rattle.std.specs.Prelude.{Option, Some, None, Result, Ok, Err, IfErr, IsErrAnd, All, length, is_some}
 use Rattle.std.specs.FinMap as finite
 use Rattle.std.specs.List.{AllZip, list_any}
 use Rattle.std.proofs.Math.Path.{fun_ext}
@@ -159,11 +159,6 @@ is_called heap shown began ran checked places after stands is unit running same 
   running = ap (λ (r : RegionShown). r.books.halted) (again ∙ same) ∙ running;
   of_heap = subst (IsRegionOf heap) (sym (again ∙ same ∙ is)) stands.of_heap;
 }
-
--- the changes of a plan, as a list
-pub as_changes : (o : Option Change) (cs : List Change) → MatchOption o (cs ≡ []) (λ c. cs ≡ c ∷ []) → cs ≡ option_to_list o
-as_changes None cs h = h
-as_changes (Some c) cs h = h
 
 module _ (heap : HeapShown) (old new : RegionShown) (places : Places) (called : IsCalled heap old places) where
   -- it is a map unit still

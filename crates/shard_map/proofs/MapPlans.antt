@@ -25,30 +25,42 @@ use Rattle.slots.specs.Books.{RegionShown, record_in}
 use Rattle.structure_call.specs.Planning.{IsPlan, Makes, NamesThing}
 use Rattle.structure_call.specs.Standing.{IsStanding}
 use Rattle.shard_map.specs.declared.map_plan.Found.{Found}
-use Rattle.shard_map.specs.MapPlan.{HasValue, value_found, setting, removal}
+use Rattle.shard_map.specs.MapCall.{IsEither}
+use Rattle.shard_map.specs.MapPlan.{HasValue, key_asked, value_found, setting, removal}
 use Rattle.shard_map.specs.MapShard.{IsMapUnit}
 use Rattle.shard_map.proofs.KeyFacts.{has_pairs, may_have, no_value, value_kept, at_place, KeptAt, live_record_of, record_there}
 
 -- ---- operations on a key, of a map unit and of an ordered unit
-abbrev pub IsEither : Op → Op → (ℕ → Op) → Type 0
-IsEither op of_map of_ordered = (op ≡ of_map) ⊎ ((unit : ℕ) × (op ≡ of_ordered unit))
-
-either : (m : Pairs) (op of_map : Op) (of_ordered : ℕ → Op) (planned : Step) → map_step m of_map ≡ planned
-    → ((unit : ℕ) → map_step m (of_ordered unit) ≡ planned) → IsEither op of_map of_ordered → map_step m op ≡ planned
-either m op of_map of_ordered planned map ordered is = elim is [
-  | inl e ↦ ap (map_step m) e ∙ map
-  | inr e ↦ ap (map_step m) e.1 ∙ ordered e.0
+either : {T : Type 0} (f : Op → T) (op of_map : Op) (of_ordered : ℕ → Op) (wanted : T) → f of_map ≡ wanted
+    → ((unit : ℕ) → f (of_ordered unit) ≡ wanted) → IsEither op of_map of_ordered → f op ≡ wanted
+either f op of_map of_ordered wanted map ordered is = elim is [
+  | inl e ↦ ap f e ∙ map
+  | inr e ↦ ap f e.1 ∙ ordered e.0
 ]
+
+-- what is told of the key that an operation asks for is told of the one that it names
+module _ (op : Op) (key : Key) (P : Key → Type 0) (told : IfSome (key_asked op) P) where
+  of_key : key_asked op ≡ Some key → P key
+  of_key asks = subst (λ (o : Option Key). IfSome o P) asks told
+
+  pub of_put : (value : Value) → IsEither op (ops.Put key value) (λ unit. ops.OPut unit key value) → P key
+  of_put value which = of_key (either key_asked op (ops.Put key value) (λ unit. ops.OPut unit key value) (Some key) refl (λ _. refl) which)
+
+  pub of_get : IsEither op (ops.Get key) (λ unit. ops.OGet unit key) → P key
+  of_get which = of_key (either key_asked op (ops.Get key) (λ unit. ops.OGet unit key) (Some key) refl (λ _. refl) which)
+
+  pub of_del : IsEither op (ops.Del key) (λ unit. ops.ODel unit key) → P key
+  of_del which = of_key (either key_asked op (ops.Del key) (λ unit. ops.ODel unit key) (Some key) refl (λ _. refl) which)
 
 module _ (m : Pairs) (op : Op) (key : Key) where
   pub puts : (value : Value) → IsEither op (ops.Put key value) (λ unit. ops.OPut unit key value) → map_step m op ≡ pair_put m key value
-  puts value = either m op (ops.Put key value) (λ unit. ops.OPut unit key value) (pair_put m key value) refl (λ unit. refl)
+  puts value = either (map_step m) op (ops.Put key value) (λ unit. ops.OPut unit key value) (pair_put m key value) refl (λ unit. refl)
 
   pub gets : IsEither op (ops.Get key) (λ unit. ops.OGet unit key) → map_step m op ≡ pair_get m key
-  gets = either m op (ops.Get key) (λ unit. ops.OGet unit key) (pair_get m key) refl (λ unit. refl)
+  gets = either (map_step m) op (ops.Get key) (λ unit. ops.OGet unit key) (pair_get m key) refl (λ unit. refl)
 
   pub dels : IsEither op (ops.Del key) (λ unit. ops.ODel unit key) → map_step m op ≡ pair_del m key
-  dels = either m op (ops.Del key) (λ unit. ops.ODel unit key) (pair_del m key) refl (λ unit. refl)
+  dels = either (map_step m) op (ops.Del key) (λ unit. ops.ODel unit key) (pair_del m key) refl (λ unit. refl)
 
 -- the second of two that are both there
 second_of : {A B : Type 0} (a : Option A) (b : Option B) (p : A × B) → both a b ≡ Some p → b ≡ Some p.1

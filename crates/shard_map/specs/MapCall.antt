@@ -1,5 +1,5 @@
 -- How the index of a map unit follows an operation that was carried out.
-use Rattle.std.specs.Prelude.{ℕ, Option, Some, List, [], ◌∷◌}
+use Rattle.std.specs.Prelude.{◌≡◌, ◌⊎◌, ℕ, Option, Some, List, [], ◌∷◌}
 use Rattle.mont_base.specs.declared.record.Change.{Change}
 use Rattle.mont_base.specs.declared.record.Change.TheVariants.{Insert}
 use Rattle.std.specs.FinMap as finite
@@ -14,6 +14,10 @@ places_behind places (ops.Del key) (Some slot) = finite.remove places key
 places_behind places (ops.OPut unit key value) (Some slot) = finite.insert places key slot
 places_behind places (ops.ODel unit key) (Some slot) = finite.remove places key
 places_behind places _ _ = places
+
+-- an operation is this one of a map unit, or this one of an ordered unit
+abbrev pub IsEither : Op → Op → (ℕ → Op) → Type 0
+IsEither op of_map of_ordered = (op ≡ of_map) ⊎ ((unit : ℕ) × (op ≡ of_ordered unit))
 
 -- An index finds keys alone: the operation looks up, sets or removes one.
 abbrev pub AsksKey : Op → Type 0

@@ -1,6 +1,8 @@
 -- What is planned of a map operation.
 use Rattle.std.specs.Prelude.{◌≡◌, ℕ, List, Option, Some, None}
 use Rattle.std.specs.FinMap as finite
+use Rattle.mont_base.specs.declared.operation.Op.{Op}
+use Rattle.mont_base.specs.declared.operation.Op.TheVariants as ops
 use Rattle.mont_base.specs.declared.record.Change.{Change}
 use Rattle.mont_base.specs.declared.record.Change.TheVariants.{Insert, Replace, Remove}
 use Rattle.mont_base.specs.State.{Key, Value, Pairs}
@@ -17,6 +19,16 @@ HasValue r key value = (pairs : Pairs)
 abbrev pub value_found : Option Found → Option Value
 value_found None = None
 value_found (Some found) = Some found.value
+
+-- the key that an operation sets, looks up or removes
+abbrev pub key_asked : Op → Option Key
+key_asked (ops.Put key value) = Some key
+key_asked (ops.Get key) = Some key
+key_asked (ops.Del key) = Some key
+key_asked (ops.OPut unit key value) = Some key
+key_asked (ops.OGet unit key) = Some key
+key_asked (ops.ODel unit key) = Some key
+key_asked _ = None
 
 -- a new key is inserted, and another one's pair replaced
 abbrev pub setting : Option Found → List ℕ → Change

@@ -3,7 +3,7 @@ ghost use Rattle.std.specs.Prelude.{◌≡◌, true, false, [], None, OnOk, IfEr
 ghost use Rattle.heap.specs.GateAsked.{IsAskedOften};
 ghost use Rattle.structure_call.specs.Calling.{HasAnsweredCall, LeavesCall, was_asked, was_checked, was_cut};
 ghost use Rattle.structure_call.specs.Checking.{MayBeCalled};
-ghost use Rattle.structure_call.specs.KeptReceipt.{KeepsReceipt};
+ghost use Rattle.heap_pass.specs.KeptReceipt.{KeepsReceipt};
 ghost use Rattle.structure_call.specs.Planning.{IsPlan};
 ghost use Rattle.structure_call.specs.Standing.{IsStanding};
 ghost use Rattle.shard_map.specs.MapShard.{IsMapUnit};
@@ -21,6 +21,7 @@ impl<I: Index> MapShard<I> {
     /// operation that wants their order is answered.
     ///
     /// Memory is taken before the first step, as by `perform`.
+    #[inline(always)]
     pub fn answer<G: Gate>(
         &mut self,
         heap: &Heap,

@@ -5,10 +5,10 @@ ghost use Rattle.mont_base.specs.declared.effect.Thing.TheVariants.{Pair};
 ghost use Rattle.mont_base.specs.State.{earlier_text};
 ghost use Rattle.structure_call.specs.Planning.{NamesThing};
 ghost use Rattle.shard_map.specs.MapShard.{IsMapUnit};
-ghost use Rattle.shard_map.specs.MapPlan.{HasValue, value_found, setting, removal};
+ghost use Rattle.shard_map.specs.MapPlan.{HasValue, key_asked, value_found, setting, removal};
 
 use index_kit::Index;
-use mont_base::{BODY, Change, Reply, Slot, Text};
+use mont_base::{BODY, Change, Op, Reply, Slot, Text};
 use payload::value_in;
 use slots::Region;
 
@@ -22,6 +22,7 @@ pub struct Found {
 
 // What the live record of a key says, if the key is there. Where a caller was cut in the unit it
 // may be anything.
+#[inline(always)]
 pub(crate) fn find<I: Index>(region: &Region, index: &I, key: &Text) -> Option<Found>
     requires unit { IsMapUnit region.now (I.places index.now) }
     ensures value { region.now.books.halted ≡ None
@@ -38,6 +39,28 @@ pub(crate) fn find<I: Index>(region: &Region, index: &I, key: &Text) -> Option<F
         slot,
         identity: held.label.identity,
     })
+}
+
+// The same of the key that an operation asks for; none where it asks for none.
+#[inline(always)]
+pub(crate) fn find_asked<I: Index>(region: &Region, index: &I, op: &Op) -> Option<Found>
+    requires unit { IsMapUnit region.now (I.places index.now) }
+    ensures value { IfSome (key_asked op.now) (λ key. region.now.books.halted ≡ None
+        → HasValue region.now key (value_found result)) }
+    ensures named { IfSome (key_asked op.now) (λ key. region.now.books.halted ≡ None
+        → IfSome result (λ found. NamesThing region.now.seat.known.part.records
+        (Pair key found.value) found.slot found.identity)) }
+    ensures none { key_asked op.now ≡ None → result ≡ None }
+{
+    match op {
+        Op::Put { key, .. }
+        | Op::Get { key }
+        | Op::Del { key }
+        | Op::OPut { key, .. }
+        | Op::OGet { key, .. }
+        | Op::ODel { key, .. } => find(region, index, key),
+        _ => None,
+    }
 }
 
 // What an operation on a key is answered: the value that it had.

@@ -48,6 +48,7 @@ impl Region {
 
     /// Makes the written records the unit's, and retires what they supersede. The seat has just
     /// answered with this receipt; after a read there are none.
+    #[inline(always)]
     pub fn left(&mut self, receipt: &Receipt)
         requires { HasJustAnswered self.old receipt.now }
         ensures seat { self.new.seat ≡ self.old.seat }

@@ -39,7 +39,7 @@ use Rattle.op_guard.specs.Guarding.{HasNoted, IsFull}
 use Rattle.structure_call.specs.Calling.{HasAnsweredCall, HasEnd, IsUncarried, LeavesCall, was_asked, was_cut}
 use Rattle.structure_call.specs.Checking.{WasNoted}
 use Rattle.structure_call.specs.CountedNumbers.{HasCounted}
-use Rattle.structure_call.specs.KeptReceipt.{KeepsReceipt}
+use Rattle.heap_pass.specs.KeptReceipt.{KeepsReceipt}
 use Rattle.structure_call.specs.Planning.{IsPlan, Makes}
 use Rattle.structure_call.specs.Standing.{IsStanding, ShowsHistory}
 use Rattle.structure_call.proofs.Counted.{numbers_end}

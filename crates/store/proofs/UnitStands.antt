@@ -12,7 +12,7 @@ use Rattle.slots.specs.Books.{RegionShown, Agrees}
 use Rattle.structure_call.specs.Calling.{HasAnsweredCall, LeavesCall, was_checked}
 use Rattle.structure_call.specs.Checking.{MayBeCalled}
 use Rattle.structure_call.specs.CountedNumbers.{HasCounted}
-use Rattle.structure_call.specs.KeptReceipt.{KeepsReceipt}
+use Rattle.heap_pass.specs.KeptReceipt.{KeepsReceipt}
 use Rattle.structure_call.specs.Standing.{IsStanding}
 use Rattle.structure_call.proofs.Counted.{answers_are_counted, refusals_are_counted}
 use Rattle.store.specs.declared.unit_structure.Structure.{Structure}

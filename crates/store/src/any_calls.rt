@@ -13,6 +13,7 @@ use std::sync::Wait;
 impl<N: HeapName, I: Index> Store<N, I> {
     /// Carries an operation of a unit of the store out. Of a range it answers how many pairs there
     /// are; `orange` hands them over.
+    #[inline(always)]
     pub fn apply<R: Wait, G: Gate>(
         &self,
         rt: &R,

@@ -13,6 +13,7 @@ use std::sync::Wait;
 
 impl<N: HeapName, I: Index> Store<N, I> {
     /// Sets the attribute of a vertex, and answers the one that it had.
+    #[inline]
     #[tactic(auto, using(crate::proofs::UnitOps::add_vertex_of))]
     pub fn add_vertex<R: Wait, G: Gate>(
         &self,
@@ -32,6 +33,7 @@ impl<N: HeapName, I: Index> Store<N, I> {
     }
 
     /// Removes a vertex with every edge from or to it, all in one entry, and answers its attribute.
+    #[inline]
     #[tactic(auto, using(crate::proofs::UnitOps::del_vertex_of))]
     pub fn del_vertex<R: Wait, G: Gate>(
         &self,
@@ -50,6 +52,7 @@ impl<N: HeapName, I: Index> Store<N, I> {
     }
 
     /// Looks a vertex up.
+    #[inline]
     #[tactic(auto, using(crate::proofs::UnitOps::vertex_of))]
     pub fn vertex<R: Wait, G: Gate>(
         &self,
@@ -68,6 +71,7 @@ impl<N: HeapName, I: Index> Store<N, I> {
     }
 
     /// Counts the edges from or to a vertex.
+    #[inline]
     #[tactic(auto, using(crate::proofs::UnitOps::degree_of))]
     pub fn degree<R: Wait, G: Gate>(
         &self,
@@ -86,6 +90,7 @@ impl<N: HeapName, I: Index> Store<N, I> {
     }
 
     /// Sets the attribute of the edge from one vertex to another, and answers the one that it had.
+    #[inline]
     #[tactic(auto, using(crate::proofs::UnitOps::add_edge_of))]
     pub fn add_edge<R: Wait, G: Gate>(
         &self,
@@ -111,6 +116,7 @@ impl<N: HeapName, I: Index> Store<N, I> {
     }
 
     /// Removes an edge, and answers the attribute that it had.
+    #[inline]
     #[tactic(auto, using(crate::proofs::UnitOps::del_edge_of))]
     pub fn del_edge<R: Wait, G: Gate>(
         &self,

@@ -13,6 +13,7 @@ use std::sync::Wait;
 
 impl<N: HeapName, I: Index> Store<N, I> {
     /// Sets the value of a key, and answers the one that it had.
+    #[inline]
     #[tactic(auto, using(crate::proofs::UnitOps::put_of))]
     pub fn put<R: Wait, G: Gate>(
         &self,
@@ -31,6 +32,7 @@ impl<N: HeapName, I: Index> Store<N, I> {
     }
 
     /// Looks a key up.
+    #[inline]
     #[tactic(auto, using(crate::proofs::UnitOps::get_of))]
     pub fn get<R: Wait, G: Gate>(
         &self,
@@ -47,6 +49,7 @@ impl<N: HeapName, I: Index> Store<N, I> {
     }
 
     /// Removes a key, and answers the value that it had.
+    #[inline]
     #[tactic(auto, using(crate::proofs::UnitOps::del_of))]
     pub fn del<R: Wait, G: Gate>(
         &self,

@@ -13,6 +13,7 @@ use std::sync::Wait;
 
 impl<N: HeapName, I: Index> Store<N, I> {
     /// Sets the value of a key, and answers the one that it had.
+    #[inline]
     #[tactic(auto, using(crate::proofs::UnitOps::oput_of))]
     pub fn oput<R: Wait, G: Gate>(
         &self,
@@ -33,6 +34,7 @@ impl<N: HeapName, I: Index> Store<N, I> {
     }
 
     /// Looks a key up.
+    #[inline]
     #[tactic(auto, using(crate::proofs::UnitOps::oget_of))]
     pub fn oget<R: Wait, G: Gate>(
         &self,
@@ -50,6 +52,7 @@ impl<N: HeapName, I: Index> Store<N, I> {
     }
 
     /// Removes a key, and answers the value that it had.
+    #[inline]
     #[tactic(auto, using(crate::proofs::UnitOps::odel_of))]
     pub fn odel<R: Wait, G: Gate>(
         &self,
@@ -67,6 +70,7 @@ impl<N: HeapName, I: Index> Store<N, I> {
     }
 
     /// Answers the greatest key that isn't above this one.
+    #[inline]
     #[tactic(auto, using(crate::proofs::UnitOps::ofloor_of))]
     pub fn ofloor<R: Wait, G: Gate>(
         &self,
@@ -85,6 +89,7 @@ impl<N: HeapName, I: Index> Store<N, I> {
     }
 
     /// Counts the keys below this one.
+    #[inline]
     #[tactic(auto, using(crate::proofs::UnitOps::orank_of))]
     pub fn orank<R: Wait, G: Gate>(
         &self,

@@ -13,6 +13,7 @@ use std::sync::Wait;
 
 impl<N: HeapName, I: Index> Store<N, I> {
     /// Adds an item behind the last.
+    #[inline]
     #[tactic(auto, using(crate::proofs::UnitOps::enq_of))]
     pub fn enq<R: Wait, G: Gate>(
         &self,
@@ -30,6 +31,7 @@ impl<N: HeapName, I: Index> Store<N, I> {
     }
 
     /// Takes the first item.
+    #[inline]
     #[tactic(auto, using(crate::proofs::UnitOps::deq_of))]
     pub fn deq<R: Wait, G: Gate>(
         &self,
@@ -46,6 +48,7 @@ impl<N: HeapName, I: Index> Store<N, I> {
     }
 
     /// Counts the items.
+    #[inline]
     #[tactic(auto, using(crate::proofs::UnitOps::len_of))]
     pub fn len<R: Wait, G: Gate>(
         &self,

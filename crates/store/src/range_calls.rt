@@ -11,11 +11,10 @@ ghost use Rattle.store.specs.StoreShown.{OfAnyBase};
 use crate::store::Store;
 use crate::unit_at::UnitAt;
 use heap::Heap;
-use heap_pass::{HeapName, Pass};
+use heap_pass::{HeapName, Pass, last_receipt};
 use index_kit::Index;
 use mont_base::{CallRefusal, Gate, Op, PairList, Receipt, Text, Unit};
 use std::sync::{Mutex, Wait};
-use structure_call::last_receipt;
 
 impl<N: HeapName, I: Index> Store<N, I> {
     /// Gives the first pairs, at most so many, whose keys are not below one text and not above

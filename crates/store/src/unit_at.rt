@@ -1,7 +1,7 @@
 // What stands behind the lock of a unit: its structure.
 ghost use Rattle.std.specs.Prelude.{◌≡◌, Ok, Err, OnOk, IfErr, OnErr};
 ghost use Rattle.mont_laws.specs.Effects.{IsOpOf};
-ghost use Rattle.structure_call.specs.KeptReceipt.{KeepsReceipt};
+ghost use Rattle.heap_pass.specs.KeptReceipt.{KeepsReceipt};
 ghost use Rattle.store.specs.Shifting.{AreOfTwoUnits, HasTriedShift};
 ghost use Rattle.store.specs.StoreCalls.{HasCalled, HandsRun, IsRange};
 ghost use Rattle.store.specs.StoreShown.{OfAnyBase};

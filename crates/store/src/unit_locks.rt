@@ -1,22 +1,22 @@
 // The locks of the units. A call locks the operation's unit, and no other.
 ghost use Rattle.std.specs.Prelude.{◌≡◌, ◌<◌, Ok, Err, OnOk, IfErr};
 ghost use Rattle.mont_laws.specs.Effects.{IsOpOf};
-ghost use Rattle.structure_call.specs.KeptReceipt.{KeepsReceipt};
+ghost use Rattle.heap_pass.specs.KeptReceipt.{KeepsReceipt};
 ghost use Rattle.store.specs.StoreCalls.{HasCalled};
 ghost use Rattle.store.specs.StoreShown.{OfAnyBase};
 
 use crate::store::Store;
 use crate::unit_at::UnitAt;
 use heap::Heap;
-use heap_pass::{HeapName, Pass};
+use heap_pass::{HeapName, Pass, last_receipt};
 use index_kit::Index;
 use mont_base::{CallRefusal, Gate, Op, Receipt, Unit};
 use std::sync::{Mutex, Wait};
-use structure_call::last_receipt;
 
 impl<N: HeapName, I: Index> Store<N, I> {
     // Carries an operation of the unit out, and copies the receipt from the pass. What holds of a
     // store on the heap with any base holds of this one.
+    #[inline(always)]
     pub(crate) fn call_unit<R: Wait, G: Gate>(
         &self,
         rt: &R,

@@ -5,7 +5,7 @@ ghost use Rattle.mont_laws.specs.Effects.{IsOpOf};
 ghost use Rattle.heap.specs.GateAsked.{IsAskedOften};
 ghost use Rattle.structure_call.specs.Calling.{HasAnsweredCall, LeavesCall, was_asked, was_checked, was_cut};
 ghost use Rattle.structure_call.specs.Checking.{MayBeCalled};
-ghost use Rattle.structure_call.specs.KeptReceipt.{KeepsReceipt};
+ghost use Rattle.heap_pass.specs.KeptReceipt.{KeepsReceipt};
 ghost use Rattle.structure_call.specs.Standing.{IsStanding};
 ghost use Rattle.mont_base.specs.Layout.{is_of_kind, kind_of};
 ghost use Rattle.store.specs.StoreCalls.{IsRange};

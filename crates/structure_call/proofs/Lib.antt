@@ -14,4 +14,4 @@ pub mod Insertions
 pub mod NamedThings
 pub mod VersionsWithin
 pub mod Counted
-pub mod KeptReceipts
+pub mod AnsweredSince

@@ -3,6 +3,5 @@ pub mod Standing
 pub mod Checking
 pub mod Refusing
 pub mod Carrying
-pub mod KeptReceipt
 pub mod Calling
 pub mod CountedNumbers

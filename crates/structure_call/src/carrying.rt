@@ -7,7 +7,7 @@ ghost use Rattle.slots.specs.Books.{Agrees};
 ghost use Rattle.op_guard.specs.Regions.{IsReady, IsUnderWay, WasHalted};
 ghost use Rattle.structure_call.specs.Planning.{IsPlan, first_at_end};
 ghost use Rattle.structure_call.specs.Standing.{IsStanding};
-ghost use Rattle.structure_call.specs.KeptReceipt.{KeepsReceipt};
+ghost use Rattle.heap_pass.specs.KeptReceipt.{KeepsReceipt};
 ghost use Rattle.structure_call.specs.Carrying.{CanPutAll, HasWrittenAll, LeavesUncarried};
 ghost use Rattle.structure_call.specs.Calling.{HasCarriedOut, was_cut};
 
@@ -15,7 +15,7 @@ use crate::refusing::{or_cut, or_refused};
 use heap::Heap;
 use heap_pass::Pass;
 use mont_base::{CallRefusal, Change, Cut, Gate, Op, Reply, Slot};
-use op_guard::{Guard, begin, change, commit, read};
+use op_guard::{Guard, begin, change, keep_commit, keep_read};
 use slots::Region;
 use std::sync::Wait;
 
@@ -57,14 +57,15 @@ pub fn carry_out<R: Wait, G: Gate>(
     let guard = or_refused(begun, unit)?;
     let written = write_all(guard, heap, region, changes, pass);
     let (guard, slot) = or_cut(written, unit)?;
-    match commit(guard, heap, region, pass, op, reply) {
-        Ok(_) => Ok(slot),
+    match keep_commit(guard, heap, region, pass, op, reply) {
+        Ok(()) => Ok(slot),
         Err(_) => Err(CallRefusal::Cut { unit }),
     }
 }
 
 /// Carries a planned operation out that changes nothing, as one step, and keeps the receipt in the
 /// pass.
+#[inline(always)]
 pub fn answer<G: Gate>(
     heap: &Heap,
     region: &mut Region,
@@ -88,8 +89,8 @@ pub fn answer<G: Gate>(
     ensures agrees { Agrees region.new }
     ensures stands { IsStanding heap.now region.new }
 {
-    match read(heap, region, pass, op, reply) {
-        Ok(_) => Ok(()),
+    match keep_read(heap, region, pass, op, reply) {
+        Ok(()) => Ok(()),
         Err(_) => Err(CallRefusal::Cut {
             unit: region.unit(),
         }),

@@ -11,6 +11,7 @@ use mont_base::{CallRefusal, Change, Gate, LAST, Which};
 use slots::Region;
 
 /// Refuses a call of a unit in which a caller was cut. The pass then takes a note of the unit.
+#[inline(always)]
 pub fn check_running<G: Gate>(
     heap: &Heap,
     region: &mut Region,
@@ -39,6 +40,7 @@ pub fn check_running<G: Gate>(
 
 /// Refuses a call that would be given a number above the last one. The pass then takes a note of
 /// the unit. `serial` says whether the changes add an item to a queue.
+#[inline(always)]
 pub fn check_numbers<G: Gate>(
     heap: &Heap,
     region: &mut Region,

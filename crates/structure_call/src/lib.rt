@@ -5,7 +5,6 @@
 mod carrying;
 mod checking;
 mod counting;
-mod kept_receipt;
 mod refusing;
 
 pub use carrying::{answer, carry_out};
@@ -14,4 +13,3 @@ pub use counting::{
     answers_are_counted, fresh_units_are_counted, numbers_end, recovered_units_are_counted,
     refusals_are_counted,
 };
-pub use kept_receipt::last_receipt;

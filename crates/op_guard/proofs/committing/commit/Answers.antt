@@ -1,37 +1,14 @@
-use Rattle.std.proofs.Common.{rules, ◌≡◌, ℕ, ap, subst, sym, ◌∙◌}
-use Rattle.std.specs.Prelude.{OnOk}
-use Rattle.std.proofs.lemmas.Result.{IfOk-at_ok}
-use Rattle.mont_base.specs.declared.operation.Receipt.{Receipt}
-use Rattle.heap_rule.specs.Plays.{IsNotBeyond}
-use Rattle.heap_rule.specs.SoundUnits.{IsSoundUnit}
-use Rattle.slots.specs.Books.{RegionShown}
-use Rattle.op_guard.proofs.Committed.{seat_gave, sound_gave, seen_gave, sound_after}
+use Rattle.heap_pass.proofs.KeptReceipts.{some_given, last_holds, last_kept}
 use Rattle.op_guard.proofs.committing.commit.Goals as goal
 
+pub last_receipt-requires : goal.last_receipt-requires
+last_receipt-requires g c =
+    record { some = some_given c.in_ok-keep_commit.ensures.committed c.deref.result.now c.deref.ensures.value }
+
 pub returns-clause-committed : goal.returns-clause-committed
-returns-clause-committed g c =
-    let heap = c.args.heap.now in
-    let old = c.args.region.now in
-    let q = c.args.pass.now.ticket in
-    let lent = c.seat_mut.result.now in
-    let given = c.leave-left.ensures in
-    let left = c.leave-left.new in
-    let is = sym c.or_halt.ensures.same ∙ c.in_ok-receipt.was in
-    let seat : lent ≡ seat_gave old = c.seat_mut.ensures.value ∙ c.list_written.ensures.seat in
-    let kept = subst (λ z. OnOk z ((c.or_halt.new.region ≡ record { seat = left.seat; books = c.list_written.new.region.books })
-    × (c.or_halt.new.ticket ≡ left.ticket))) is c.or_halt.ensures.ok in
-    let front = subst (λ z. OnOk z (IsNotBeyond q.known lent.known)) is given.front in
-    let before = subst (λ z. OnOk z ((now durable : ℕ) × IsSoundUnit heap.opening now durable lent.known)) is given.sound_before in
-    let sound = IfOk-at_ok (λ (x : Receipt). (now durable : ℕ) × IsSoundUnit heap.opening now durable left.seat.known) is given.sound in
-    record {
-      answered = record {
-        receipt_is = search rules;
-        seen = seen_gave heap old lent seat q.known front;
-        caller = search rules;
-        books = search rules;
-        ready = search rules;
-        sound_before = sound_gave heap old lent seat before;
-        sound = sound_after heap c.left.new.self left.seat (c.left.ensures.seat ∙ ap (λ (x : RegionShown). x.seat) kept.0) sound;
-      };
-      part = search rules;
-    }
+returns-clause-committed g c = last_holds c.in_ok-keep_commit.ensures.committed c.deref.result.now c.deref.ensures.value
+    c.last_receipt.result c.last_receipt.ensures
+
+pub returns-clause-receipts : goal.returns-clause-receipts
+returns-clause-receipts g c = last_kept c.in_ok-keep_commit.ensures.committed c.deref.result.now c.deref.ensures.value
+    c.last_receipt.result c.last_receipt.ensures

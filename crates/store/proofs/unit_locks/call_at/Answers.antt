@@ -3,7 +3,7 @@ use Rattle.std.specs.Prelude.{Ok, Err, OnOk, IfErr}
 use Rattle.mont_base.specs.declared.operation.Receipt.{Receipt}
 use Rattle.mont_base.specs.declared.refusal.CallRefusal.{CallRefusal}
 use Rattle.heap.specs.HeapShown.{HeapShown}
-use Rattle.structure_call.specs.KeptReceipt.{KeepsReceipt}
+use Rattle.heap_pass.specs.KeptReceipt.{KeepsReceipt}
 use Rattle.store.specs.StoreCalls.{HasCalled}
 use Rattle.store.specs.StoreShown.{StoreShown, OfAnyBase}
 use Rattle.store.proofs.unit_locks.call_at.Goals as goal

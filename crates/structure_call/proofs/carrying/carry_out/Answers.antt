@@ -10,7 +10,7 @@ use Rattle.op_guard.specs.Answered.{HasCommitted}
 use Rattle.op_guard.specs.Guarding.{HasBegun}
 use Rattle.structure_call.specs.Calling.{HasCarriedOut}
 use Rattle.structure_call.specs.Carrying.{HasWrittenAll}
-use Rattle.structure_call.specs.KeptReceipt.{KeepsReceipt}
+use Rattle.heap_pass.specs.KeptReceipt.{KeepsReceipt}
 use Rattle.structure_call.specs.Planning.{IsPlan, first_at_end}
 use Rattle.structure_call.proofs.CarriedOut.{may_put_all, may_leave, answered_call, has_carried}
 use Rattle.structure_call.proofs.Refusals.{not_cut, not_refused, none_there, some_there}
@@ -45,8 +45,8 @@ write_all-written-requires-clause-may g c =
     let begun = IfOk-at_ok (λ (x : Guard). HasBegun heap old mid q (length changes) x) ok c.begin-begun.ensures.begun in
     may_put_all heap old q c.args.op.now c.args.reply.now changes c.requires.ready c.requires.plan c.requires.numbers mid guard begun
 
-pub commit-requires-clause-may : goal.commit-requires-clause-may
-commit-requires-clause-may g c =
+pub keep_commit-requires-clause-may : goal.keep_commit-requires-clause-may
+keep_commit-requires-clause-may g c =
     let heap = c.args.heap.now in
     let old = c.args.region.now in
     let q = c.args.pass.now.ticket in
@@ -85,26 +85,27 @@ returns-in-Ok-clause-carried g c =
     let last = c.in_ok-guard-2.slot in
     let ok = not_refused c.unit-unit.result c.begin-begun.result guard c.or_refused.result c.or_refused.ensures c.in_ok-guard.was in
     let begun = IfOk-at_ok (λ (x : Guard). HasBegun heap old mid q (length changes) x) ok c.begin-begun.ensures.begun in
-    let new = c.commit.new.region in
-    let r = c.commit.new.pass.ticket in
-    let receipt = c.in-Ok.field-0 in
+    let new = c.keep_commit.new.region in
+    let r = c.keep_commit.new.pass.ticket in
+    let committed = c.in-Ok.ensures.committed in
+    let receipt = committed.receipt in
     let ok2 = not_cut c.unit-unit.result c.write_all-written.result (g2, last) c.or_cut.result c.or_cut.ensures c.in_ok-guard-2.was in
     let written = IfOk-at_ok (λ (x : Guard × Option ℕ). HasWrittenAll heap mid done guard x.0 changes x.1) ok2
     c.write_all-written.ensures.written in
     let same = IfOk-at_ok (λ (x : Guard). c.begin-begun.new.pass.ticket ≡ q) ok c.begin-begun.ensures.caller in
     let same2 = IfOk-at_ok (λ (x : Guard × Option ℕ). c.write_all-written.new.pass.ticket ≡ c.begin-begun.new.pass.ticket) ok2
     c.write_all-written.ensures.caller in
-    let committed = subst (λ (x : CallerShown). HasCommitted heap done new x r op reply g2.epoch receipt) (same2 ∙ same)
-    c.in-Ok.ensures.committed in
+    let held = subst (λ (x : CallerShown). HasCommitted heap done new x r op reply g2.epoch receipt) (same2 ∙ same)
+    committed.holds in
     record {
       receipt = receipt;
-      kept = c.in-Ok.ensures.receipts
+      kept = committed.kept
           ∙ ap (λ receipts. receipts.items ++ receipt ∷ []) (c.write_all-written.ensures.receipts ∙ c.begin-begun.ensures.receipts);
       holds = record {
         answered = answered_call heap old q op reply changes c.requires.ready c.requires.plan c.requires.numbers mid guard begun
-            done g2 last written new r receipt committed;
-        replied = ap (λ (x : Receipt). x.entry.reply) committed.answered.receipt_is;
+            done g2 last written new r receipt held;
+        replied = ap (λ (x : Receipt). x.entry.reply) held.answered.receipt_is;
         carried = has_carried heap old q op reply changes c.requires.ready c.requires.plan c.requires.numbers mid guard begun
-            done g2 last written new r receipt committed;
+            done g2 last written new r receipt held;
       };
     }

@@ -4,7 +4,7 @@ use Rattle.mont_laws.specs.Effects.{IsOpOf}
 use Rattle.slots.specs.Books.{RegionShown}
 use Rattle.structure_call.specs.Carrying.{HasCarried}
 use Rattle.structure_call.specs.Planning.{IsPlan}
-use Rattle.structure_call.proofs.KeptReceipts.{answered_since}
+use Rattle.structure_call.proofs.AnsweredSince.{answered_since}
 use Rattle.pgraph.specs.GraphCall.{HasNode, record_at, restored}
 use Rattle.pgraph.specs.GraphEdit.{changes_of, effects_of, nodes_behind}
 use Rattle.pgraph.specs.GraphIndex.{Nodes}

@@ -1,4 +1,4 @@
-use Rattle.structure_call.proofs.KeptReceipts.{some_given, last_kept, last_holds}
+use Rattle.heap_pass.proofs.KeptReceipts.{some_given, last_kept, last_holds}
 use Rattle.pordered.proofs.pordered.POrdered.apply.Goals as goal
 
 pub last_receipt-requires : goal.last_receipt-requires

@@ -1,7 +1,7 @@
 use Rattle.std.proofs.Common.{sym, ap, ◌∙◌, subst}
 use Rattle.slots.specs.Books.{IsRegionOf}
 use Rattle.structure_call.specs.Standing.{IsStanding}
-use Rattle.structure_call.proofs.KeptReceipts.{answered_since}
+use Rattle.structure_call.proofs.AnsweredSince.{answered_since}
 use Rattle.pqueue.specs.PQueue.{PQueueShown}
 use Rattle.pqueue.proofs.Applies.{as_list, plan_names, uncarried_unit, answered_unit}
 use Rattle.pqueue.proofs.pqueue.PQueue.perform.Goals as goal

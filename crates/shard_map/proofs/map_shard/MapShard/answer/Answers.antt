@@ -1,6 +1,6 @@
 use Rattle.std.proofs.Common.{refl, ap, ◌∙◌}
 use Rattle.std.specs.Prelude.{None}
-use Rattle.structure_call.proofs.KeptReceipts.{answered_since}
+use Rattle.structure_call.proofs.AnsweredSince.{answered_since}
 use Rattle.shard_map.specs.MapShard.{MapShown}
 use Rattle.shard_map.proofs.MapCalls.{IsCalled, is_called, unit_uncarried, unit_answered}
 use Rattle.shard_map.proofs.map_shard.MapShard.answer.Goals as goal

@@ -2,7 +2,7 @@ use Rattle.std.proofs.Common.{◌≡◌, sym, ap, ◌∙◌, subst}
 use Rattle.std.specs.Prelude.{None}
 use Rattle.slots.specs.Books.{RegionShown}
 use Rattle.structure_call.specs.Planning.{IsPlan}
-use Rattle.structure_call.proofs.KeptReceipts.{answered_since}
+use Rattle.structure_call.proofs.AnsweredSince.{answered_since}
 use Rattle.shard_map.specs.MapShard.{MapShown}
 use Rattle.shard_map.proofs.MapCalls.{IsCalled, is_called, names_live, may_be_called, leaves_at_end, room_for, unit_uncarried, unit_behind}
 use Rattle.shard_map.proofs.map_shard.MapShard.carry.Goals as goal

@@ -2,7 +2,7 @@ use Rattle.std.specs.Prelude.{Ok, Err}
 use Rattle.std.specs.declared.result.Result.{Result}
 use Rattle.mont_base.specs.declared.operation.Receipt.{Receipt}
 use Rattle.mont_base.specs.declared.refusal.CallRefusal.{CallRefusal}
-use Rattle.structure_call.proofs.KeptReceipts.{some_given, last_holds}
+use Rattle.heap_pass.proofs.KeptReceipts.{some_given, last_holds}
 use Rattle.store.specs.StoreCalls.{HasCalled}
 use Rattle.store.specs.StoreShown.{StoreShown}
 use Rattle.store.proofs.CallsShown.{handed_on}

@@ -4,14 +4,8 @@ use Rattle.std.specs.Prelude.{Option, Some, slice_get}
 use Rattle.std.proofs.lemmas.List.{length_push}
 use Rattle.std.proofs.lemmas.Option.{same_Some}
 use Rattle.mont_base.specs.declared.operation.Receipt.{Receipt}
-use Rattle.mont_base.specs.declared.operation.Op.{Op}
-use Rattle.mont_base.specs.declared.operation.Reply.{Reply}
-use Rattle.mont_base.specs.declared.record.Change.{Change}
 use Rattle.core_steps.proofs.RowFacts.{row_last}
-use Rattle.heap.specs.HeapShown.{HeapShown, CallerShown}
-use Rattle.slots.specs.Books.{RegionShown}
-use Rattle.structure_call.specs.Calling.{HasAnsweredCall, HasCarriedOut}
-use Rattle.structure_call.specs.KeptReceipt.{KeepsReceipt}
+use Rattle.heap_pass.specs.KeptReceipt.{KeepsReceipt}
 
 module _ {old new : List Receipt} {Holds : Receipt → Type 0} (k : KeepsReceipt old new Holds) where
   longer : length new ≡ length old + 1
@@ -45,12 +39,3 @@ kept_so same tells k = record {
   kept = k.kept ∙ ap (λ (rs : List Receipt). rs ++ k.receipt ∷ []) same;
   holds = tells k.receipt k.holds;
 }
-
--- ---- an operation that was carried out behind the checks, which left the region, the caller and its receipts as they were
-pub answered_since : {heap : HeapShown} {first old new : RegionShown} {p q r : CallerShown} {op : Op} {reply : Reply}
-    {changes : List Change} {slot : Option ℕ} {before mid after : List Receipt} → old ≡ first → q ≡ p → mid ≡ before
-    → KeepsReceipt mid after (HasCarriedOut heap old new q r op reply changes slot)
-    → KeepsReceipt before after (HasAnsweredCall heap first new p r op)
-answered_since {heap = heap} {new = new} {r = r} {op = op} same_region same_caller same k = kept_so same
-    (λ receipt h. subst (λ (x : RegionShown × CallerShown). HasAnsweredCall heap x.0 new x.1 r op receipt)
-    (λ i. (same_region i, same_caller i)) h.answered) k

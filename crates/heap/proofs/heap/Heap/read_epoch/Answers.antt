@@ -4,7 +4,7 @@ use Rattle.heap_rule.specs.Views.{the_caller}
 use Rattle.heap_rule.proofs.SeatPlays.{splits_whole, splits_callers, joins_callers}
 use Rattle.heap.proofs.AnsweredSeats.{read_keeps}
 use Rattle.heap.proofs.SeatTables.{unit_table, caller_table}
-use Rattle.heap.proofs.heap.Heap.read_entry.Goals as goal
+use Rattle.heap.proofs.heap.Heap.read_epoch.Goals as goal
 
 pub split_seat-whole-requires : goal.split_seat-whole-requires
 split_seat-whole-requires g c =
