@@ -3,13 +3,13 @@ use Rattle.std.proofs.Common.{◌≡◌, ℕ, suc, length, Bool, true, false, co
 use Rattle.std.specs.Prelude.{◌≢◌, Option, Some, None, is_some, IsSome}
 use Rattle.std.specs.declared.cmp.Ordering.{Ordering}
 use Rattle.std.specs.declared.cmp.Ordering.TheVariants.{Less, Equal, Greater}
-use Rattle.std.specs.Cmp.{IsTotalOrder}
+use Rattle.std.specs.Cmp.{IsTotalOrder, IsEquivalence}
 use Rattle.std.specs.Ordering.{is_eq}
-use Rattle.std.specs.List.{All}
-use Rattle.std.specs.Map.{lookup}
-use Rattle.std.specs.BTreeMap.{BTreeMap, IsOrdered, is_at}
-use Rattle.std.proofs.lemmas.List.Elements.{All-head, All-tail}
-use Rattle.std.proofs.lemmas.Map.Views.{All-found}
+use Rattle.std.specs.List.{All, IsDistinct}
+use Rattle.std.specs.Map.{lookup, keys_of}
+use Rattle.std.specs.BTreeMap.{is_at}
+use Rattle.std.proofs.lemmas.List.Elements.{All-head, All-tail, All-contains_itself}
+use Rattle.std.proofs.lemmas.Map.Views.{lookup-from_Contains}
 use Rattle.slab.specs.Slab.{Slab, get, with_value, Updates}
 use Rattle.slab.proofs.SlabLemmas.{Updates-with_value}
 use Rattle.pgraph.specs.Shelf.{named_first, shelved, value_of, SetsValue, AreShelved}
@@ -37,6 +37,17 @@ lookup_shelved {V = V} values test (e ∷ es) there =
     by true f (Some v) g rest = rw f (sym g)
     by false f None g rest = rest f
     by false f (Some v) g rest = rw f (rest f)
+
+-- a key is found by a test for equal ones as by their order
+module _ {K X : Type 0} (eq : K → K → Bool) (cmp : K → K → Ordering) (matches : (x y : K) → eq x y ≡ is_eq (cmp x y)) where
+  pub found_by_order : (q : K) (es : List (K × X)) → lookup (eq q) es ≡ value_of cmp es q
+  found_by_order q [] = refl
+  found_by_order q (e ∷ es) = λ i. cond (matches q e.0 i) (Some e.1) (found_by_order q es i)
+
+  pub updates_by_order : (es fs : List (K × X)) (name : K) (w : Option X)
+      → ((q : K) → lookup (eq q) fs ≡ cond (eq name q) w (lookup (eq q) es)) → SetsValue cmp es fs name w
+  updates_by_order es fs name w updates q = sym (found_by_order q fs) ∙ updates q
+      ∙ (λ i. cond (matches name q i) w (found_by_order q es i))
 
 -- names that tie have the same
 pub lookup_tied : {K X : Type 0} {cmp : K → K → Ordering} → IsTotalOrder cmp → (a b : K) → is_at (cmp a) b ≡ true → (es : List (K × X))
@@ -85,10 +96,12 @@ length_shelved {K} {V} values (e ∷ es) h = by (get values e.1) (All-head (λ (
     by None f g = absurd (cc)
     by (Some v) f g = ap suc g
 
-pub each_there : {K V : Type 0} {cmp : K → K → Ordering} → IsTotalOrder cmp → (values : Slab V) (m : BTreeMap K ℕ)
-    → AreShelved cmp values m.entries → IsOrdered cmp m → length m.entries ≡ length (shelved values m.entries)
-each_there {K} {V} {cmp} order values m are ordered = length_shelved values m.entries
-    (λ i d l. are.there _ _ (All-found order m ordered i d l))
+pub each_there : {K V : Type 0} {eq : K → K → Bool} {cmp : K → K → Ordering} → IsEquivalence eq
+    → ((x y : K) → eq x y ≡ is_eq (cmp x y)) → (values : Slab V) (es : List (K × ℕ)) → AreShelved cmp values es
+    → IsDistinct eq (keys_of es) → length es ≡ length (shelved values es)
+each_there {eq = eq} {cmp = cmp} same matches values es are distinct = length_shelved values es
+    (λ i d l. are.there _ _ (sym (found_by_order eq cmp matches _ es)
+    ∙ lookup-from_Contains same _ _ es distinct (All-contains_itself es i d l)))
 
 -- room is no value
 pub shelved_with_room : {K V : Type 0} (values : Slab V) (n : ℕ) (es : List (K × ℕ))
@@ -122,6 +135,23 @@ module _ {K V : Type 0} {cmp : K → K → Ordering} (values after : Slab V) (es
       by : (t : Bool) → is_at (cmp name) q ≡ t → kept after (cond t o (value_of cmp es q)) ≡ cond t w (value_of cmp seen q)
       by true e = here
       by false e = same q e ∙ sym (value_kept values es are seen is q)
+
+-- a name has no key any more
+module _ {K V : Type 0} {cmp : K → K → Ordering} (values after : Slab V) (es fs : List (K × ℕ)) (name : K) (are : AreShelved cmp values es)
+    (sets : SetsValue cmp es fs name None)
+    (same : (q : K) → is_at (cmp name) q ≡ false → kept after (value_of cmp es q) ≡ kept values (value_of cmp es q)) where
+  had : (q : K) (key : ℕ) → value_of cmp fs q ≡ Some key → value_of cmp es q ≡ Some key
+  had q key e = by (is_at (cmp name) q) (sym (sets q) ∙ e)
+    where
+      by : (t : Bool) → cond t None (value_of cmp es q) ≡ Some key → value_of cmp es q ≡ Some key
+      by true f = absurd (cc)
+      by false f = f
+
+  pub remove_shelved : AreShelved cmp after fs
+  remove_shelved = record {
+    there = there_after values after es fs name None None are sets same refl (λ h. h);
+    once = λ p q key e f. are.once p q key (had p key e) (had q key f);
+  }
 
 -- the value of a name that has one is written in its place
 pub written_sets : {K V : Type 0} {cmp : K → K → Ordering} → IsTotalOrder cmp → (values : Slab V) (es : List (K × ℕ))

@@ -1,4 +1,4 @@
-// Values in a slab, each found by its name in an ordered map.
+// Values in a slab, each found by its name in a hash map.
 ghost use Rattle.std.specs.Prelude.{◌≡◌, ◌<◌, ◌^◌, length, [], Some, None, OnOk, OnErr};
 ghost use Rattle.std.specs.Borrow.{sem};
 ghost use Rattle.std.specs.Option.{option_copied_mut};
@@ -7,17 +7,18 @@ ghost use Rattle.pgraph.specs.Lending.{LendsValue};
 
 use slab::Slab;
 use std::alloc::{AllocError, Global};
-use std::collections::BTreeMap;
+use std::collections::HashMap;
+use std::hash::Hash;
 use std::marker::Model;
 
-// Contracts see the values with their names, by rising name.
+// Contracts see the values with their names, in an order that isn't told.
 #[derive(Drop)]
-pub(crate) struct Shelf<K: Ord, V> {
-    keys: BTreeMap<K, usize>,
+pub(crate) struct Shelf<K: Ord + Hash, V> {
+    keys: HashMap<K, usize>,
     values: Slab<V>,
 }
 
-impl<K: Ord, V> Model for Shelf<K, V> {
+impl<K: Ord + Hash, V> Model for Shelf<K, V> {
     ghost use Rattle.std.specs.Prelude.{List};
     ghost use Rattle.pgraph.specs.Shelf.{shelved, AreShelved};
 
@@ -28,13 +29,13 @@ impl<K: Ord, V> Model for Shelf<K, V> {
     ghost invariant = { λ s. AreShelved K.cmp s.values s.keys.entries };
 }
 
-impl<K: Ord + Copy, V: Copy> Shelf<K, V> {
+impl<K: Ord + Hash + Copy, V: Copy> Shelf<K, V> {
     // No values. It allocates nothing.
     pub(crate) fn new(alloc: Global) -> Shelf<K, V>
         ensures { result ≡ [] }
     {
         Shelf {
-            keys: BTreeMap::new(alloc),
+            keys: HashMap::new(alloc),
             values: Slab::new(alloc),
         }
     }
@@ -49,7 +50,7 @@ impl<K: Ord + Copy, V: Copy> Shelf<K, V> {
 
     // The value of a name, if it has one, to be changed there.
     pub(crate) fn get_mut(&mut self, name: K) -> Option<&mut V>
-        ensures* lends { sem 𝓛 (LendsValue K.row V.row K.Ord self.entry name result) }
+        ensures* lends { sem 𝓛 (LendsValue K.row V.row K.Ord K.Hash self.entry name result) }
         ensures value { option_copied_mut result ≡ value_of K.cmp self.old name }
     {
         let key = *self.keys.get(&name)?;

@@ -2,7 +2,7 @@ use Rattle.std.proofs.Common.{◌≡◌, refl, sym, ap, ◌∙◌}
 use Rattle.std.specs.Prelude.{Option, Some, None, OnSome}
 use Rattle.std.specs.Option.{option_copied}
 use Rattle.pgraph.specs.Shelf.{value_of}
-use Rattle.pgraph.proofs.Shelved.{kept, value_kept, written_sets}
+use Rattle.pgraph.proofs.Shelved.{found_by_order, kept, value_kept, written_sets}
 use Rattle.pgraph.proofs.shelf.Shelf.get_mut.Goals as goal
 
 on_some : {A P : Type 0} (o : Option A) → P → OnSome o P
@@ -15,7 +15,7 @@ returns-in_err-key g c = rw c.from_residual.ensures (
   record {
     lends = tt;
     value = sym (value_kept c.self.inside.values c.self.inside.keys.entries c.self.invariant c.args.self.now c.self.view_is c.args.name
-        ∙ ap (kept c.self.inside.values) (sym c.get.ensures.value ∙ ap option_copied c.in_err-key.was));
+        ∙ ap (kept c.self.inside.values) (sym (c.get.ensures.value ∙ found_by_order g.K.PartialEq.eq g.K.Ord.cmp g.met.K.Ord.matches_eq c.args.name c.self.inside.keys.entries) ∙ ap option_copied c.in_err-key.was));
   },
 )
 
@@ -24,7 +24,7 @@ returns g c =
     let values = c.self.inside.values in
     let es = c.self.inside.keys.entries in
     let key = c.in_ok-key.field-0.now in
-    let has : value_of g.K.Ord.cmp es c.args.name ≡ Some key = sym c.get.ensures.value ∙ ap option_copied c.in_ok-key.was in (
+    let has : value_of g.K.Ord.cmp es c.args.name ≡ Some key = sym (c.get.ensures.value ∙ found_by_order g.K.PartialEq.eq g.K.Ord.cmp g.met.K.Ord.matches_eq c.args.name c.self.inside.keys.entries) ∙ ap option_copied c.in_ok-key.was in (
       (
         refl,
         λ w. on_some c.get_mut.result (written_sets g.met.K.Ord.total values es c.self.invariant c.args.name key has w c.args.self.now
