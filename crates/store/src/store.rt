@@ -20,6 +20,8 @@ use std::sync::Mutex;
 #[derive(Drop)]
 pub struct Store<N: HeapName, I: Index = Box<dyn Index + Send>> {
     pub(crate) heap: Heap,
+    // It stands apart between the heap, which every call reads, and the first lock.
+    pub(crate) base_clock: Apart<Epoch>,
     pub(crate) unit_0: Apart<Mutex<UnitAt<0, N, I>>>,
     pub(crate) unit_1: Apart<Mutex<UnitAt<1, N, I>>>,
     pub(crate) unit_2: Apart<Mutex<UnitAt<2, N, I>>>,
@@ -37,7 +39,6 @@ pub struct Store<N: HeapName, I: Index = Box<dyn Index + Send>> {
     pub(crate) unit_14: Apart<Mutex<UnitAt<14, N, I>>>,
     pub(crate) unit_15: Apart<Mutex<UnitAt<15, N, I>>>,
     pub(crate) advancer: Mutex<Named<N, Advancer>>,
-    pub(crate) base_clock: Epoch,
     pub(crate) base: Contents,
 }
 
@@ -52,7 +53,7 @@ impl<N: HeapName, I: Index> Model for Store<N, I> {
 
     ghost view = { λ s. store_on s.heap (states_of s.base) };
 
-    ghost invariant = { λ s. IsStoreOf N.heap s.heap s.base_clock s.base };
+    ghost invariant = { λ s. IsStoreOf N.heap s.heap s.base_clock.part s.base };
 }
 
 impl<N: HeapName, I: Index> Store<N, I> {

@@ -86,7 +86,7 @@ impl<N: HeapName, I: Index> Store<N, I> {
             heap: self.heap,
             units: seats,
             advancer: self.advancer.into_inner().into_part().into_seat(),
-            base_clock: self.base_clock,
+            base_clock: self.base_clock.into_part(),
             base: self.base,
         }
     }

@@ -41,6 +41,7 @@ impl<N: HeapName, I: Index> Store<N, I> {
         let mut structures = structures.into_iter();
         Store {
             heap,
+            base_clock: Apart::new(base_clock),
             unit_0: next_unit(&mut structures),
             unit_1: next_unit(&mut structures),
             unit_2: next_unit(&mut structures),
@@ -58,7 +59,6 @@ impl<N: HeapName, I: Index> Store<N, I> {
             unit_14: next_unit(&mut structures),
             unit_15: next_unit(&mut structures),
             advancer: Mutex::new(Named::new(advancer)),
-            base_clock,
             base,
         }
     }

@@ -87,43 +87,46 @@ module _ (N I : RattleType) (name : names.Ghosts N.Denot) (asks : index.Ghosts I
   lock : (k : ℕ) → IsSync (apart.the_row (mutex.the_row (unit.the_row (number k) N I name asks)))
   lock k = search (apart_shared, crosses, unit_sent) depth 40
 
-  -- the heap, sixteen locks, the advancer's, the base
+  -- the heap, the clock at which it opened, sixteen locks, the advancer's, the base
   inside_shared : IsSync (inside.the_row N I name asks)
   inside_shared = declared_sync (inside.the_type N I name asks) (
     heap_shared,
     (
-      lock 0,
+      search (apart_shared, sendable) depth 20,
       (
-        lock 1,
+        lock 0,
         (
-          lock 2,
+          lock 1,
           (
-            lock 3,
+            lock 2,
             (
-              lock 4,
+              lock 3,
               (
-                lock 5,
+                lock 4,
                 (
-                  lock 6,
+                  lock 5,
                   (
-                    lock 7,
+                    lock 6,
                     (
-                      lock 8,
+                      lock 7,
                       (
-                        lock 9,
+                        lock 8,
                         (
-                          lock 10,
+                          lock 9,
                           (
-                            lock 11,
+                            lock 10,
                             (
-                              lock 12,
+                              lock 11,
                               (
-                                lock 13,
+                                lock 12,
                                 (
-                                  lock 14,
+                                  lock 13,
                                   (
-                                    lock 15,
-                                    (clock_shared N name _ n, (search sendable, (contents_shared, tt))),
+                                    lock 14,
+                                    (
+                                      lock 15,
+                                      (clock_shared N name _ n, (contents_shared, tt)),
+                                    ),
                                   ),
                                 ),
                               ),

@@ -1,4 +1,6 @@
-use Rattle.std.proofs.Common.{rules, sym, subst}
+use Rattle.std.proofs.Common.{ℕ, rules, sym, subst}
+use Rattle.plain.specs.States.{states_of}
+use Rattle.store_stop.specs.Headline.{IsBaseOf}
 use Rattle.store.specs.FreshStore.{AreUnitsFrom}
 use Rattle.store.proofs.store.Store.of_structures.Goals as goal
 
@@ -52,4 +54,7 @@ pub next_unit-requires-16 : goal.next_unit-requires-16
 next_unit-requires-16 g c = (search rules, c.next_unit-15.ensures)
 
 pub invariant_of-result : goal.invariant_of-result
-invariant_of-result g c = record { of_heap = c.requires.named; opened = c.requires.base }
+invariant_of-result g c = record {
+  of_heap = c.requires.named;
+  opened = subst (λ (clock : ℕ). IsBaseOf g.N.HeapName.heap.opening clock (states_of c.args.base)) (sym c.new.ensures) c.requires.base;
+}

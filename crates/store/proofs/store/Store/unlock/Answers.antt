@@ -1,5 +1,7 @@
-use Rattle.std.proofs.Common.{rules, ◌≡◌, ap, sym, subst, arith}
+use Rattle.std.proofs.Common.{ℕ, rules, ◌≡◌, ap, sym, subst, arith}
 use Rattle.heap.specs.HeapShown.{AdvShown}
+use Rattle.plain.specs.States.{states_of}
+use Rattle.store_stop.specs.Headline.{IsBaseOf}
 use Rattle.store.specs.SeatsBack.{AreSeatsBelow}
 use Rattle.store.specs.StoreShown.{StoreShown}
 use Rattle.store.proofs.SeatsTaken.{none_yet}
@@ -66,5 +68,6 @@ returns-clause-unlocked g c =
       each = c.give_seat-16.ensures.seats.each;
       home = c.give_seat-16.ensures.seats.home;
       advancer = subst (λ (a : AdvShown). a.table ≡ named.table) (sym c.into_seat.ensures) c.into_part-17.ensures.heap.of_heap.of_table;
-      base = c.self.invariant.opened;
+      base = subst (λ (clock : ℕ). IsBaseOf named.opening clock (states_of c.self.inside.base)) (sym c.into_part-18.ensures)
+          c.self.invariant.opened;
     }
