@@ -7,10 +7,12 @@ pub returns-in_err-key : goal.returns-in_err-key
 returns-in_err-key g c =
     c.from_residual.ensures
     ∙ sym (value_kept c.self.inside.values c.self.inside.keys.entries c.self.invariant c.args.self.now c.self.view_is c.args.name
-    ∙ ap (kept c.self.inside.values) (sym (c.get.ensures.value ∙ found_by_order g.K.PartialEq.eq g.K.Ord.cmp g.met.K.Ord.matches_eq c.args.name c.self.inside.keys.entries) ∙ ap option_copied c.in_err-key.was))
+    ∙ ap (kept c.self.inside.values) (sym (c.get.ensures.value ∙ found_by_order _ _ g.met.K.Ord.matches_eq _ _)
+    ∙ ap option_copied c.in_err-key.was))
 
 pub returns : goal.returns
 returns g c =
     c.copied.ensures ∙ c.get-2.ensures
     ∙ sym (value_kept c.self.inside.values c.self.inside.keys.entries c.self.invariant c.args.self.now c.self.view_is c.args.name
-    ∙ ap (kept c.self.inside.values) (sym (c.get.ensures.value ∙ found_by_order g.K.PartialEq.eq g.K.Ord.cmp g.met.K.Ord.matches_eq c.args.name c.self.inside.keys.entries) ∙ ap option_copied c.in_ok-key.was))
+    ∙ ap (kept c.self.inside.values) (sym (c.get.ensures.value ∙ found_by_order _ _ g.met.K.Ord.matches_eq _ _)
+    ∙ ap option_copied c.in_ok-key.was))

@@ -15,7 +15,8 @@ returns-in_err-key g c = rw c.from_residual.ensures (
   record {
     lends = tt;
     value = sym (value_kept c.self.inside.values c.self.inside.keys.entries c.self.invariant c.args.self.now c.self.view_is c.args.name
-        ∙ ap (kept c.self.inside.values) (sym (c.get.ensures.value ∙ found_by_order g.K.PartialEq.eq g.K.Ord.cmp g.met.K.Ord.matches_eq c.args.name c.self.inside.keys.entries) ∙ ap option_copied c.in_err-key.was));
+        ∙ ap (kept c.self.inside.values) (sym (c.get.ensures.value ∙ found_by_order _ _ g.met.K.Ord.matches_eq _ _)
+        ∙ ap option_copied c.in_err-key.was));
   },
 )
 
@@ -24,7 +25,8 @@ returns g c =
     let values = c.self.inside.values in
     let es = c.self.inside.keys.entries in
     let key = c.in_ok-key.field-0.now in
-    let has : value_of g.K.Ord.cmp es c.args.name ≡ Some key = sym (c.get.ensures.value ∙ found_by_order g.K.PartialEq.eq g.K.Ord.cmp g.met.K.Ord.matches_eq c.args.name c.self.inside.keys.entries) ∙ ap option_copied c.in_ok-key.was in (
+    let has : value_of g.K.Ord.cmp es c.args.name ≡ Some key =
+    sym (c.get.ensures.value ∙ found_by_order _ _ g.met.K.Ord.matches_eq _ _) ∙ ap option_copied c.in_ok-key.was in (
       (
         refl,
         λ w. on_some c.get_mut.result (written_sets g.met.K.Ord.total values es c.self.invariant c.args.name key has w c.args.self.now

@@ -13,8 +13,8 @@ invariant_of-self-2 g c =
     let updates = subst (λ (k : ℕ). Updates room c.insert_reserved.new.self k (Some c.args.value))
     (c.insert_reserved.ensures.key ∙ sym c.vacant_key-key.ensures.value) c.insert_reserved.ensures.updates in
     insert_shelved g.met.K.Ord.total room c.insert_reserved.new.self es c.insert.new.self.entries c.args.name c.vacant_key-key.result
-    c.args.value are c.vacant_key-key.ensures.vacant updates (updates_by_order g.K.PartialEq.eq g.K.Ord.cmp g.met.K.Ord.matches_eq es c.insert.new.self.entries c.args.name (Some c.vacant_key-key.result)
-    c.in_ok-insert.ensures.updates.0)
+    c.args.value are c.vacant_key-key.ensures.vacant updates
+    (updates_by_order _ _ g.met.K.Ord.matches_eq _ _ _ _ c.in_ok-insert.ensures.updates.0)
 
 pub returns-clause-ok : goal.returns-clause-ok
 returns-clause-ok g c =
@@ -25,7 +25,7 @@ returns-clause-ok g c =
     let updates = subst (λ (k : ℕ). Updates room c.insert_reserved.new.self k (Some c.args.value))
     (c.insert_reserved.ensures.key ∙ sym c.vacant_key-key.ensures.value) c.insert_reserved.ensures.updates in
     insert_sets g.met.K.Ord.total room c.insert_reserved.new.self es c.insert.new.self.entries c.args.name c.vacant_key-key.result
-    c.args.value are c.vacant_key-key.ensures.vacant updates (updates_by_order g.K.PartialEq.eq g.K.Ord.cmp g.met.K.Ord.matches_eq es c.insert.new.self.entries c.args.name (Some c.vacant_key-key.result)
-    c.in_ok-insert.ensures.updates.0) c.args.self.now
+    c.args.value are c.vacant_key-key.ensures.vacant updates
+    (updates_by_order _ _ g.met.K.Ord.matches_eq _ _ _ _ c.in_ok-insert.ensures.updates.0) c.args.self.now
     (ap (λ (s : Slab g.row.V.Denot). shelved s es) c.in_ok-reserve.ensures.rest_kept
     ∙ shelved_with_room c.self.inside.values room.capacity es ∙ c.self.view_is)
