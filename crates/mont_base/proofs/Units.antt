@@ -6,7 +6,7 @@ use Rattle.std.proofs.Math.ListN.{get_or-map}
 use Rattle.mont_base.specs.declared.constants.TheConstants.{MOST_UNITS}
 use Rattle.mont_base.specs.declared.kinds.UnitKind.{UnitKind}
 use Rattle.mont_base.specs.declared.kinds.UnitKind.TheVariants as kinds
-use Rattle.mont_base.specs.Kinds.{KindsStand}
+use Rattle.mont_base.specs.Kinds.{KindsStand, maps_among}
 use Rattle.mont_base.specs.Layout.{letter_of, letters_of, same_kind, units_from}
 use Rattle.mont_base.proofs.Padded.{behind_more, whole}
 
@@ -61,7 +61,12 @@ maps_behind = behind_more kinds.Map MOST_UNITS
 
 -- the kinds of the letters, and maps behind them
 pub filled :
-    (ks : List UnitKind) (units : ℕ) → 1 ≤ units → units ≤ MOST_UNITS → length ks ≡ MOST_UNITS
-    → drop units ks ≡ replicate (MOST_UNITS - units) kinds.Map → KindsStand units ks
-filled ks units some few long behind =
-    record { some = some; few = few; long = long; behind = whole kinds.Map MOST_UNITS ks units few long behind }
+    (ks : List UnitKind) (units maps : ℕ) → 1 ≤ units → units ≤ MOST_UNITS → length ks ≡ MOST_UNITS
+    → drop units ks ≡ replicate (MOST_UNITS - units) kinds.Map → maps ≡ maps_among (take units ks) → KindsStand units maps ks
+filled ks units maps some few long behind counted = record {
+  some = some;
+  few = few;
+  long = long;
+  behind = whole kinds.Map MOST_UNITS ks units few long behind;
+  counted = counted;
+}

@@ -1,6 +1,7 @@
 // The kinds of a store's units.
 ghost use Rattle.std.specs.Prelude.{◌≡◌, ◌≢◌, ◌<◌, ◌≤◌, ◌+◌, ◌-◌, ℕ, List, length, slice_get, Some, None, IfSome, MatchOption, MatchResult};
 ghost use Rattle.mont_base.specs.declared.kinds.UnitKind.{UnitKind};
+ghost use Rattle.mont_base.specs.Kinds.{maps_among};
 
 use crate::constants::MOST_UNITS;
 use std::marker::Model;
@@ -91,6 +92,8 @@ pub struct Kinds {
     // behind the last unit stand maps
     of_units: [UnitKind; MOST_UNITS],
     units: usize,
+    // how many of the units are maps
+    maps: u64,
 }
 
 impl Model for Kinds {
@@ -99,13 +102,17 @@ impl Model for Kinds {
 
     ghost Value = { List UnitKind };
 
-    ghost use Rattle.mont_base.specs.Kinds.{padded, KindsStand};
+    ghost use Rattle.mont_base.specs.Kinds.{padded, maps_among, KindsStand};
 
     ghost view = { λ k. take k.units k.of_units };
 
-    ghost invariant = { λ k. KindsStand k.units k.of_units };
+    ghost invariant = { λ k. KindsStand k.units k.maps k.of_units };
 
-    ghost inverse = { λ ks. record { of_units = padded ks; units = length ks } };
+    ghost inverse = { λ ks. record {
+      of_units = padded ks;
+      units = length ks;
+      maps = maps_among ks;
+    } };
 
     ghost use Rattle.mont_base.specs.Kinds.{inverse_of_view};
 
@@ -114,7 +121,7 @@ impl Model for Kinds {
 
 impl Kinds {
     ghost use Rattle.mont_base.specs.Layout.{IsKinds, letters_of, same_kind, units_from};
-    ghost use Rattle.mont_base.specs.Kinds.{old_kinds};
+    ghost use Rattle.mont_base.specs.Kinds.{maps_among, old_kinds};
 
     /// The kinds that letters spell, one letter for each unit.
     pub fn of_letters(letters: &[u8]) -> Result<Kinds, BadKinds>
@@ -132,7 +139,12 @@ impl Kinds {
                 None => return Err(BadKinds),
             }
         }
-        Ok(Kinds { of_units, units })
+        let maps = count_maps(&of_units[..units]);
+        Ok(Kinds {
+            of_units,
+            units,
+            maps,
+        })
     }
 
     /// So many maps, then a queue and a graph, which older images have.
@@ -141,13 +153,16 @@ impl Kinds {
         requires few { maps ≤ 8 }
         ensures { result ≡ old_kinds maps }
     {
-        let units = maps as usize;
+        let queue = maps as usize;
+        let units = queue + 2;
         let mut of_units = [UnitKind::Map; MOST_UNITS];
-        of_units[units] = UnitKind::Queue;
-        of_units[units + 1] = UnitKind::Graph;
+        of_units[queue] = UnitKind::Queue;
+        of_units[queue + 1] = UnitKind::Graph;
+        let maps = count_maps(&of_units[..units]);
         Kinds {
             of_units,
-            units: units + 2,
+            units,
+            maps,
         }
     }
 
@@ -159,6 +174,14 @@ impl Kinds {
         self.units as u64
     }
 
+    /// How many of the units are maps.
+    pub fn maps(&self) -> u64
+        ensures value { result ≡ maps_among self.now }
+        ensures kinds { IsKinds self.now }
+    {
+        self.maps
+    }
+
     /// The kinds in the order of the units.
     pub fn as_slice(&self) -> &[UnitKind]
         ensures value { result.now ≡ self.now }
@@ -168,6 +191,7 @@ impl Kinds {
     }
 
     /// The kind of a unit, if there is one of this number.
+    #[inline(always)]
     pub fn get(&self, unit: u64) -> Option<UnitKind>
         ensures { result ≡ slice_get self.now unit }
     {
@@ -177,4 +201,17 @@ impl Kinds {
             None
         }
     }
+}
+
+// How many of these kinds are maps.
+fn count_maps(kinds: &[UnitKind]) -> u64
+    ensures { result ≡ maps_among kinds.now }
+{
+    let mut maps = 0;
+    for kind in kinds {
+        if *kind == UnitKind::Map {
+            maps += 1;
+        }
+    }
+    maps
 }

@@ -116,13 +116,7 @@ impl Layout {
         ensures value { result ≡ length (map_units self.now) }
         ensures layout { IsLayout self.now }
     {
-        let mut maps = 0;
-        for kind in self.kinds.as_slice() {
-            if *kind == UnitKind::Map {
-                maps += 1;
-            }
-        }
-        maps
+        self.kinds.maps()
     }
 
     /// The map unit that keeps a key. The decimal digits of a number are kept by the map unit at
@@ -136,6 +130,7 @@ impl Layout {
     }
 
     // The map unit that keeps a key, if there is a map unit.
+    #[inline(always)]
     pub(crate) fn keeper(&self, key: &Text) -> Option<Unit>
         ensures { result ≡ unit_of_key self.now key.now }
     {
@@ -164,6 +159,7 @@ impl Layout {
     }
 
     /// A unit that is named as one of a kind, if it is one.
+    #[inline(always)]
     pub fn named(&self, kind: UnitKind, unit: Unit) -> Option<Unit>
         ensures { result ≡ unit_named self.now kind unit }
     {

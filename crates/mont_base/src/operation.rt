@@ -161,6 +161,7 @@ impl Op {
     ghost use Rattle.mont_base.specs.State.{aim_of, unit_of_op};
 
     /// Where the operation belongs. A range of no pairs, or of more than 16, belongs nowhere.
+    #[inline(always)]
     pub fn aim(&self) -> Aim
         ensures { result ≡ aim_of self.now }
     {
@@ -191,6 +192,7 @@ impl Op {
     /// The unit that the operation belongs to. There is none for a map operation where no unit is a
     /// map, for one that names a unit of another kind or a number of no unit, and for a range of no
     /// pairs or of more than 16.
+    #[inline(always)]
     pub fn unit(&self, layout: Layout) -> Option<Unit>
         ensures { result ≡ unit_of_op layout self.now }
     {

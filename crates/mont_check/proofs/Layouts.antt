@@ -7,7 +7,7 @@ use Rattle.mont_base.specs.declared.kinds.UnitKind.{UnitKind}
 use Rattle.mont_base.specs.declared.kinds.UnitKind.TheVariants.{Map, Queue, Graph, Ordered}
 use Rattle.mont_base.specs.contracts.kinds.UnitKindPartialEq.TheImpl as kinds
 use Rattle.mont_base.specs.contracts.layout.LayoutPartialEq.TheImpl as layouts
-use Rattle.mont_base.specs.Kinds.{padded}
+use Rattle.mont_base.specs.Kinds.{padded, maps_among}
 use Rattle.mont_base.specs.Layout.{Shape}
 
 kind_Decides : (a b : UnitKind) → Decides (kinds.eq-value.it a b) (a ≡ b)
@@ -40,11 +40,17 @@ same_shape a b same =
 
 pub layout_Decides : (a b : Shape) → Decides (layouts.eq-value.it a b) (a ≡ b)
 layout_Decides a b =
+    let units_told = Decides-and _ _ (Decides-eqb (length a.kinds) (length b.kinds))
+    (Decides-eqb (maps_among a.kinds) (maps_among b.kinds)) in
     let kinds_told =
-    Decides-and _ _ (slice_eq-Decides kind_Decides (padded a.kinds) (padded b.kinds) _ refl)
-    (Decides-eqb (length a.kinds) (length b.kinds)) in
+    Decides-and _ _ (slice_eq-Decides kind_Decides (padded a.kinds) (padded b.kinds) _ refl) units_told in
     let told = Decides-and _ _ kinds_told (Decides-eqb a.slots b.slots) in (
-      λ yes. same_shape a b (told.0 yes),
-      λ same. told.1
-          ((ap (λ s. padded s.kinds) same, ap (λ s. length s.kinds) same), ap (λ s. s.slots) same),
+      λ yes. same_shape a b (((told.0 yes).0.0, (told.0 yes).0.1.0), (told.0 yes).1),
+      λ same. told.1 (
+        (
+          ap (λ s. padded s.kinds) same,
+          (ap (λ s. length s.kinds) same, ap (λ s. maps_among s.kinds) same),
+        ),
+        ap (λ s. s.slots) same,
+      ),
     )

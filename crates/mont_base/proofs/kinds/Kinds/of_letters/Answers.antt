@@ -22,8 +22,8 @@ pub invariant_of-result : goal.invariant_of-result
 invariant_of-result c =
     let done : length c.args.letters.now ≡ c.loop-unit.unit = omega arith in
     let behind = c.loop-unit.invariant.behind ∙ ap (λ n. replicate (MOST_UNITS - n) kinds.Map) (sym done) in
-    filled c.loop-unit.of_units (length c.args.letters.now) (omega arith) (omega arith) c.loop-unit.invariant.long
-    (ap (λ n. drop n c.loop-unit.of_units) done ∙ behind)
+    filled c.loop-unit.of_units (length c.args.letters.now) c.count_maps-maps.result (omega arith) (omega arith)
+    c.loop-unit.invariant.long (ap (λ n. drop n c.loop-unit.of_units) done ∙ behind) c.count_maps-maps.ensures
 
 pub returns : goal.returns
 returns c =
