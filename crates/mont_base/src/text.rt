@@ -253,9 +253,15 @@ fn bytes_in(first: u64, second: u64, third: u64) -> [u8; TEXT_BYTES]
 fn are_zero_from(place: u64, first: u64, second: u64, third: u64) -> bool
     ensures { result ≡ are_zero (drop place (bytes_of_words first second third)) }
 {
-    is_zero_from(place, first)
-        & is_zero_from(place.saturating_sub(8), second)
-        & is_zero_from(place.saturating_sub(16), third)
+    if place <= 8 {
+        return is_zero_from(place, first) & is_zero_from(0, second) & is_zero_from(0, third);
+    }
+    if place <= 16 {
+        return is_zero_from(place, first)
+            & is_zero_from(place - 8, second)
+            & is_zero_from(0, third);
+    }
+    is_zero_from(place, first) & is_zero_from(place - 8, second) & is_zero_from(place - 16, third)
 }
 
 // Whether the bytes of a word are 0 from a place on, the lowest first.
