@@ -22,6 +22,10 @@ pub enum Op {
     DelE { unit: u64, from: u64, to: u64 },
     Vertex { unit: u64, vertex: u64 },
     Degree { unit: u64, vertex: u64 },
+    /// Of ordered units, which the twin hasn't. It is the largest operation: with it receipts are
+    /// as large as the store's.
+    #[allow(dead_code)]
+    ORange { unit: u64, from: Text, to: Text, most: u64 },
 }
 
 #[derive(Clone, Copy, Debug, PartialEq)]
@@ -50,7 +54,7 @@ pub struct Receipt {
     pub entry: Entry,
 }
 
-const _: () = assert!(size_of::<Receipt>() == 152);
+const _: () = assert!(size_of::<Receipt>() == 168);
 
 #[derive(Clone, Copy, PartialEq, Eq, Debug)]
 pub enum Kind {
@@ -169,7 +173,8 @@ impl Layout {
             | Op::AddE { unit, .. }
             | Op::DelE { unit, .. }
             | Op::Vertex { unit, .. }
-            | Op::Degree { unit, .. } => unit,
+            | Op::Degree { unit, .. }
+            | Op::ORange { unit, .. } => unit,
         }
     }
 }

@@ -35,6 +35,7 @@ impl<N: HeapName, I: Index> Store<N, I> {
 
     // Carries an operation of the unit out, under the unit's lock, and keeps the receipt in the
     // pass.
+    #[inline(always)]
     fn perform_locked<R: Wait, G: Gate>(
         &self,
         rt: &R,
