@@ -1,8 +1,8 @@
 -- An index stays one as vertices and edges come and go.
-use Rattle.std.proofs.Common.{◌≡◌, ℕ, ◌+◌, ◌-◌, ◌<◌, ◌≤◌, ◌^◌, ◌==◌, Bool, true, false, cond, List, [], ◌∷◌, length, refl, sym, ap, subst, ◌∙◌, arith, inl, inr, ◌⊎◌}
+use Rattle.std.proofs.Common.{◌≡◌, ℕ, ◌≤◌, ◌==◌, Bool, true, false, cond, List, [], ◌∷◌, length, refl, sym, ap, subst, ◌∙◌, arith, inl, inr, ◌⊎◌}
 use Rattle.std.specs.Prelude.{Option, Some, None, is_some, option_map, slice_get, ◌&&◌, ◌||◌, not}
 use Rattle.std.specs.declared.cmp.Ordering.{Ordering}
-use Rattle.std.specs.Cmp.{IsTotalOrder, eq_by_cmp_equiv, nat_cmp_total, unsigned_tied}
+use Rattle.std.specs.Cmp.{IsTotalOrder, eq_by_cmp_equiv, nat_cmp_total}
 use Rattle.std.specs.Ordering.{nat_cmp, eq_by_cmp}
 use Rattle.std.specs.List.{Contains}
 use Rattle.std.specs.FinMap as finite
@@ -11,9 +11,9 @@ use Rattle.std.proofs.lemmas.Option.{same_Some}
 use Rattle.mont_base.specs.State.{Ends, edge_cmp, touches}
 use Rattle.mont_laws.proofs.Keys.{both_true, one_number, one_edge, edges_total, edges_exact}
 use Rattle.pgraph.specs.declared.node.Node.{Node}
-use Rattle.pgraph.specs.GraphIndex.{Nodes, Incidence, IsIndex, joins, nodes_at, with_vertex, with_edge, without_edge, no_nodes, same_ends, AddsIncidences, RemovesIncidences, KeepsOthers, edge_name}
+use Rattle.pgraph.specs.GraphIndex.{Nodes, IsIndex, joins, nodes_at, with_vertex, with_edge, without_edge, no_nodes, same_ends, at_ends, KeepsOthers, edge_name}
 use Rattle.mont_laws.proofs.Members.{first_element, kept_element}
-use Rattle.pgraph.proofs.Passing.{entry_there, passing_new, passing_old, passing_set, passing_none, passing_some}
+use Rattle.pgraph.proofs.Passing.{entry_there, passing_none, passing_some}
 
 -- ---- what is there
 abbrev pub has_vertex : Nodes → ℕ → Bool
@@ -62,18 +62,16 @@ kept_joined n m e f g h =
     let q = both_true (has_vertex n e.0) (has_vertex n e.1) p.1 in
     rw (p.0, f q.0, g q.1) refl
 
-pub no_index : (d : ℕ → Option ℕ) → ((v : ℕ) → d v ≡ None) → IsIndex no_nodes d []
+pub no_index : (d : ℕ → Ends → Option Bool) → ((v : ℕ) (e : Ends) → d v e ≡ None) → IsIndex no_nodes d
 no_index d none = record {
   joined = λ e h. absurd (absent e h);
-  words = λ e h. absurd (absent e h);
-  listed = λ i. sym (ap (λ (o : Option Node). is_some o && touches i.0 i.1) (finite.get-empty edge_cmp i.1));
-  counted = λ v k h. let n = none v in absurd (cc);
+  listed = λ v e b h. let n = none v e in absurd (cc);
 }
   where
     absent : (e : Ends) → has_edge no_nodes e ≡ true → ⊥
     absent e h = let f : is_some (finite.get no_nodes.edges e) ≡ false = ap is_some (finite.get-empty edge_cmp e) in cc
 
-module _ (n : Nodes) (d : ℕ → Option ℕ) (is : List Incidence) (ix : IsIndex n d is) where
+module _ (n : Nodes) (d : ℕ → Ends → Option Bool) (ix : IsIndex n d) where
   -- no edge goes from or to what is no vertex
   pub none_at : (v : ℕ) → has_vertex n v ≡ false → length (nodes_at n v) ≡ 0
   none_at v none = passing_none edges_total edges_exact (touches v) n.edges (λ e there. by e there (touches v e) refl)
@@ -82,14 +80,34 @@ module _ (n : Nodes) (d : ℕ → Option ℕ) (is : List Incidence) (ix : IsInde
       by e there true t = let h = end_there n e v (ix.joined e there) t in absurd (cc)
       by e there false t = refl
 
-  -- a vertex has a node, and as many edges as it had
-  pub vertex_put : (v : ℕ) (x : Node) (count : ℕ) (c : ℕ → Option ℕ) → count ≡ length (nodes_at n v)
-      → ((q : ℕ) → c q ≡ cond (eq_by_cmp nat_cmp v q) (Some count) (d q)) → IsIndex (with_vertex n v x) c is
-  vertex_put v x count c counts sets = record {
+  pub no_edge_at : (v : ℕ) → has_vertex n v ≡ false → (e : Ends) → false ≡ (has_edge n e && touches v e)
+  no_edge_at v none e = by (has_edge n e) refl (touches v e) refl
+    where
+      by : (s : Bool) → has_edge n e ≡ s → (t : Bool) → touches v e ≡ t → false ≡ (s && t)
+      by true there true t = let h = end_there n e v (ix.joined e there) t in absurd (cc)
+      by true there false t = refl
+      by false there t f = refl
+
+  -- an edge that isn't there is behind no vertex
+  pub none_listed : (e : Ends) → finite.get n.edges e ≡ None → (v : ℕ) (b : Bool) → d v e ≡ Some b → b ≡ false
+  none_listed e none v b h = ix.listed v e b h ∙ ap (λ (o : Option Node). is_some o && touches v e) none
+
+  -- nothing is behind another vertex than before
+  pub index_same : (c : ℕ → Ends → Option Bool) → ((v : ℕ) (e : Ends) → c v e ≡ option_map (λ b. b) (d v e)) → IsIndex n c
+  index_same c same = record { joined = ix.joined; listed = λ v e b h. by v e b (d v e) refl (sym (same v e) ∙ h) }
+    where
+      by : (v : ℕ) (e : Ends) (b : Bool) (o : Option Bool) → d v e ≡ o → option_map (λ b. b) o ≡ Some b
+          → b ≡ (has_edge n e && touches v e)
+      by v e b None f h = absurd (cc)
+      by v e b (Some a) f h = ix.listed v e b (f ∙ h)
+
+  -- a vertex has a node, and behind it stand the edges at it
+  pub vertex_put : (v : ℕ) (x : Node) (held : Ends → Bool) (c : ℕ → Ends → Option Bool)
+      → ((e : Ends) → held e ≡ (has_edge n e && touches v e))
+      → ((q : ℕ) (e : Ends) → c q e ≡ cond (eq_by_cmp nat_cmp v q) (Some (held e)) (d q e)) → IsIndex (with_vertex n v x) c
+  vertex_put v x held c holds sets = record {
     joined = λ e there. kept_joined n (with_vertex n v x) e (more e.0) (more e.1) (ix.joined e there);
-    words = ix.words;
-    listed = ix.listed;
-    counted = λ w k e. by w k (eq_by_cmp nat_cmp v w) refl (sym (sets w) ∙ e);
+    listed = λ w e b h. by w e b (eq_by_cmp nat_cmp v w) refl (sym (sets w e) ∙ h);
   }
     where
       more : (w : ℕ) → has_vertex n w ≡ true → has_vertex (with_vertex n v x) w ≡ true
@@ -99,20 +117,20 @@ module _ (n : Nodes) (d : ℕ → Option ℕ) (is : List Incidence) (ix : IsInde
           or_true true = refl
           or_true false = refl
 
-      by : (w k : ℕ) → (t : Bool) → eq_by_cmp nat_cmp v w ≡ t → cond t (Some count) (d w) ≡ Some k → k ≡ length (nodes_at n w)
-      by w k true f e = sym (same_Some count k e) ∙ counts ∙ ap (λ (u : ℕ). length (nodes_at n u)) ((one_number v w).0 f)
-      by w k false f e = ix.counted w k e
+      by : (w : ℕ) (e : Ends) (b t : Bool) → eq_by_cmp nat_cmp v w ≡ t → cond t (Some (held e)) (d w e) ≡ Some b
+          → b ≡ (has_edge n e && touches w e)
+      by w e b true f h = sym (same_Some (held e) b h) ∙ holds e
+          ∙ ap (λ (u : ℕ). has_edge n e && touches u e) ((one_number v w).0 f)
+      by w e b false f h = ix.listed w e b h
 
   -- a vertex without edges goes
-  pub vertex_gone : (v : ℕ) (c : ℕ → Option ℕ) → length (nodes_at n v) ≡ 0
-      → ((q : ℕ) → c q ≡ cond (eq_by_cmp nat_cmp v q) None (d q))
-      → IsIndex (record { vertices = finite.remove n.vertices v; edges = n.edges }) c is
+  pub vertex_gone : (v : ℕ) (c : ℕ → Ends → Option Bool) → length (nodes_at n v) ≡ 0
+      → ((q : ℕ) (e : Ends) → c q e ≡ cond (eq_by_cmp nat_cmp v q) None (d q e))
+      → IsIndex (record { vertices = finite.remove n.vertices v; edges = n.edges }) c
   vertex_gone v c none sets = record {
     joined = λ e there. kept_joined n (record { vertices = finite.remove n.vertices v; edges = n.edges }) e
         (left e there e.0 (λ t. inl t)) (left e there e.1 (λ t. inr t)) (ix.joined e there);
-    words = ix.words;
-    listed = ix.listed;
-    counted = λ w k e. by w k (eq_by_cmp nat_cmp v w) (sym (sets w) ∙ e);
+    listed = λ w e b h. by w e b (eq_by_cmp nat_cmp v w) (sym (sets w e) ∙ h);
   }
     where
       touching : (e : Ends) → (e.0 ≡ v) ⊎ (e.1 ≡ v) → touches v e ≡ true
@@ -138,17 +156,15 @@ module _ (n : Nodes) (d : ℕ → Option ℕ) (is : List Incidence) (ix : IsInde
               (touching e (at ((one_number w v).0 f))) in absurd (omega arith)
           by false f = h
 
-      by : (w k : ℕ) → (t : Bool) → cond t None (d w) ≡ Some k → k ≡ length (nodes_at n w)
-      by w k true e = absurd (cc)
-      by w k false e = ix.counted w k e
+      by : (w : ℕ) (e : Ends) (b t : Bool) → cond t None (d w e) ≡ Some b → b ≡ (has_edge n e && touches w e)
+      by w e b true h = absurd (cc)
+      by w e b false h = ix.listed w e b h
 
   -- an edge that is there has another node
-  pub edge_put : (e : Ends) (x : Node) → has_edge n e ≡ true → IsIndex (with_edge n e x) d is
+  pub edge_put : (e : Ends) (x : Node) → has_edge n e ≡ true → IsIndex (with_edge n e x) d
   edge_put e x there = record {
     joined = λ q h. ix.joined q (sym (same q) ∙ h);
-    words = λ q h. ix.words q (sym (same q) ∙ h);
-    listed = λ i. ix.listed i ∙ ap (λ (b : Bool). b && touches i.0 i.1) (sym (same i.1));
-    counted = λ v k h. ix.counted v k h ∙ sym (passing_set edges_total edges_exact (touches v) n.edges e x there);
+    listed = λ v q b h. ix.listed v q b h ∙ ap (λ (t : Bool). t && touches v q) (sym (same q));
   }
     where
       same : (q : Ends) → has_edge (with_edge n e x) q ≡ has_edge n q
@@ -158,153 +174,72 @@ module _ (n : Nodes) (d : ℕ → Option ℕ) (is : List Incidence) (ix : IsInde
           by true f = sym (subst (λ (p : Ends). has_edge n p ≡ true) (sym ((one_edge q e).0 f)) there)
           by false f = refl
 
-  turned : (e q : Ends) → eq_by_cmp edge_cmp q e ≡ same_ends e q
-  turned e q = (eq_by_cmp_equiv edges_total).symm q e
+  turned : (e q : Ends) → same_ends e q ≡ eq_by_cmp edge_cmp q e
+  turned e q = (eq_by_cmp_equiv edges_total).symm e q
 
   -- an edge comes
-  pub edge_added : (e : Ends) (x : Node) (c : ℕ → Option ℕ) (js : List Incidence) → finite.get n.edges e ≡ None → joins n e ≡ true
-      → (e.0 < 2 ^ 64) × (e.1 < 2 ^ 64) → AddsIncidences is js e
-      → ((v : ℕ) → c v ≡ cond (touches v e) (option_map (λ k. k + 1) (d v)) (d v)) → IsIndex (with_edge n e x) c js
-  edge_added e x c js none joins-e words-e adds sets = record {
-    joined = λ q h. by q (λ p. joins n p ≡ true) joins-e (ix.joined q) (eq_by_cmp edge_cmp q e) refl (sym (has q) ∙ h);
-    words = λ q h. by q (λ p. (p.0 < 2 ^ 64) × (p.1 < 2 ^ 64)) words-e (ix.words q) (eq_by_cmp edge_cmp q e) refl (sym (has q) ∙ h);
-    listed = λ i. adds i ∙ ap (λ (b : Bool). b || (same_ends e i.1 && touches i.0 i.1)) (ix.listed i)
-        ∙ joined_tests (has_edge n i.1) (same_ends e i.1) (touches i.0 i.1)
-        ∙ ap (λ (b : Bool). b && touches i.0 i.1) (sym (has i.1 ∙ ap (λ (b : Bool). b || has_edge n i.1) (turned e i.1)));
-    counted = λ v k h. count v k (touches v e) refl (d v) refl (sym (sets v) ∙ h);
+  pub edge_added : (e : Ends) (x : Node) (c : ℕ → Ends → Option Bool) → joins n e ≡ true
+      → ((v : ℕ) (q : Ends) → c v q ≡ option_map (λ b. at_ends e v q || b) (d v q)) → IsIndex (with_edge n e x) c
+  edge_added e x c joins-e sets = record {
+    joined = λ q h. by q (eq_by_cmp edge_cmp q e) refl (sym (has q) ∙ h);
+    listed = λ v q b h. listed v q b (d v q) refl (sym (sets v q) ∙ h);
   }
     where
       has : (q : Ends) → has_edge (with_edge n e x) q ≡ (eq_by_cmp edge_cmp q e || has_edge n q)
       has q = has_inserted edges_total n.edges e q x
 
-      by : (q : Ends) (P : Ends → Type 0) → P e → (has_edge n q ≡ true → P q) → (t : Bool) → eq_by_cmp edge_cmp q e ≡ t
-          → (t || has_edge n q) ≡ true → P q
-      by q P here there true f h = subst P (sym ((one_edge q e).0 f)) here
-      by q P here there false f h = there h
+      by : (q : Ends) (t : Bool) → eq_by_cmp edge_cmp q e ≡ t → (t || has_edge n q) ≡ true → joins n q ≡ true
+      by q true f h = subst (λ (p : Ends). joins n p ≡ true) (sym ((one_edge q e).0 f)) joins-e
+      by q false f h = ix.joined q h
 
-      joined_tests : (a s t : Bool) → ((a && t) || (s && t)) ≡ ((s || a) && t)
-      joined_tests true true true = refl
-      joined_tests true true false = refl
-      joined_tests true false true = refl
-      joined_tests true false false = refl
-      joined_tests false true true = refl
-      joined_tests false true false = refl
-      joined_tests false false true = refl
-      joined_tests false false false = refl
+      tests : (a s t : Bool) → ((t && s) || (a && t)) ≡ ((s || a) && t)
+      tests true true true = refl
+      tests true true false = refl
+      tests true false true = refl
+      tests true false false = refl
+      tests false true true = refl
+      tests false true false = refl
+      tests false false true = refl
+      tests false false false = refl
 
-      new : (v : ℕ) → length (nodes_at (with_edge n e x) v) ≡ cond (touches v e) (length (nodes_at n v) + 1) (length (nodes_at n v))
-      new v = passing_new edges_total edges_exact (touches v) n.edges e x none
-
-      count : (v k : ℕ) (t : Bool) → touches v e ≡ t → (o : Option ℕ) → d v ≡ o → cond t (option_map (λ k. k + 1) o) o ≡ Some k
-          → k ≡ length (nodes_at (with_edge n e x) v)
-      count v k true f None g h = absurd (cc)
-      count v k true f (Some j) g h = sym (same_Some (j + 1) k h) ∙ ap (λ m. m + 1) (ix.counted v j g)
-          ∙ sym (new v ∙ ap (λ (b : Bool). cond b (length (nodes_at n v) + 1) (length (nodes_at n v))) f)
-      count v k false f o g h = ix.counted v k (g ∙ h)
-          ∙ sym (new v ∙ ap (λ (b : Bool). cond b (length (nodes_at n v) + 1) (length (nodes_at n v))) f)
+      listed : (v : ℕ) (q : Ends) (b : Bool) (o : Option Bool) → d v q ≡ o → option_map (λ b. at_ends e v q || b) o ≡ Some b
+          → b ≡ (has_edge (with_edge n e x) q && touches v q)
+      listed v q b None f h = absurd (cc)
+      listed v q b (Some a) f h = sym (same_Some (at_ends e v q || a) b h)
+          ∙ ap (λ (t : Bool). at_ends e v q || t) (ix.listed v q a f)
+          ∙ tests (has_edge n q) (same_ends e q) (touches v q)
+          ∙ ap (λ (t : Bool). (t || has_edge n q) && touches v q) (turned e q)
+          ∙ ap (λ (t : Bool). t && touches v q) (sym (has q))
 
   -- an edge goes
-  pub edge_gone : (e : Ends) (c : ℕ → Option ℕ) (js : List Incidence) → has_edge n e ≡ true → RemovesIncidences is js e
-      → ((v : ℕ) → c v ≡ cond (touches v e) (option_map (λ k. k - 1) (d v)) (d v)) → IsIndex (without_edge n e) c js
-  edge_gone e c js there removes sets = record {
-    joined = λ q h. ix.joined q (still q h);
-    words = λ q h. ix.words q (still q h);
-    listed = λ i. removes i ∙ ap (λ (b : Bool). b && not (same_ends e i.1 && touches i.0 i.1)) (ix.listed i)
-        ∙ left_tests (has_edge n i.1) (same_ends e i.1) (touches i.0 i.1)
-        ∙ ap (λ (b : Bool). b && touches i.0 i.1) (sym (has i.1 ∙ ap (λ (b : Bool). not b && has_edge n i.1) (turned e i.1)));
-    counted = λ v k h. count v k (touches v e) refl (d v) refl (sym (sets v) ∙ h);
+  pub edge_gone : (e : Ends) (c : ℕ → Ends → Option Bool)
+      → ((v : ℕ) (q : Ends) → c v q ≡ option_map (λ b. not (at_ends e v q) && b) (d v q)) → IsIndex (without_edge n e) c
+  edge_gone e c sets = record {
+    joined = λ q h. ix.joined q (both_true (not (eq_by_cmp edge_cmp q e)) (has_edge n q) (sym (has q) ∙ h)).1;
+    listed = λ v q b h. listed v q b (d v q) refl (sym (sets v q) ∙ h);
   }
     where
       has : (q : Ends) → has_edge (without_edge n e) q ≡ (not (eq_by_cmp edge_cmp q e) && has_edge n q)
       has q = has_removed edges_total n.edges e q
 
-      still : (q : Ends) → has_edge (without_edge n e) q ≡ true → has_edge n q ≡ true
-      still q h = (both_true (not (eq_by_cmp edge_cmp q e)) (has_edge n q) (sym (has q) ∙ h)).1
+      tests : (a s t : Bool) → (not (t && s) && (a && t)) ≡ ((not s && a) && t)
+      tests true true true = refl
+      tests true true false = refl
+      tests true false true = refl
+      tests true false false = refl
+      tests false true true = refl
+      tests false true false = refl
+      tests false false true = refl
+      tests false false false = refl
 
-      left_tests : (a s t : Bool) → ((a && t) && not (s && t)) ≡ ((not s && a) && t)
-      left_tests true true true = refl
-      left_tests true true false = refl
-      left_tests true false true = refl
-      left_tests true false false = refl
-      left_tests false true true = refl
-      left_tests false true false = refl
-      left_tests false false true = refl
-      left_tests false false false = refl
-
-      old : (v : ℕ) → length (nodes_at n v)
-          ≡ cond (touches v e) (length (nodes_at (without_edge n e) v) + 1) (length (nodes_at (without_edge n e) v))
-      old v = passing_old edges_total edges_exact (touches v) n.edges e there
-
-      count : (v k : ℕ) (t : Bool) → touches v e ≡ t → (o : Option ℕ) → d v ≡ o → cond t (option_map (λ k. k - 1) o) o ≡ Some k
-          → k ≡ length (nodes_at (without_edge n e) v)
-      count v k true f None g h = absurd (cc)
-      count v k true f (Some j) g h =
-          let one : j - 1 ≡ k = same_Some (j - 1) k h in
-          let all : j ≡ length (nodes_at (without_edge n e) v) + 1 = ix.counted v j g ∙ old v
-          ∙ ap (λ (b : Bool). cond b (length (nodes_at (without_edge n e) v) + 1) (length (nodes_at (without_edge n e) v))) f in
-          omega arith
-      count v k false f o g h = ix.counted v k (g ∙ h) ∙ old v
-          ∙ ap (λ (b : Bool). cond b (length (nodes_at (without_edge n e) v) + 1) (length (nodes_at (without_edge n e) v))) f
-
-no_loop : (n : Nodes) (e : Ends) → joins n e ≡ true → (e.0 == e.1) ≡ false
-no_loop n e h = by (e.0 == e.1) (both_true (not (e.0 == e.1)) (has_vertex n e.0 && has_vertex n e.1) h).0
-  where
-    by : (t : Bool) → not t ≡ true → t ≡ false
-    by true f = absurd (cc)
-    by false f = refl
-
--- degrees that change at one end of an edge and then at the other
-module _ (g : ℕ → ℕ) (n : Nodes) (e : Ends) (joined : joins n e ≡ true) (b c d : ℕ → Option ℕ)
-    (first : (q : ℕ) → c q ≡ cond (eq_by_cmp nat_cmp e.0 q) (option_map g (b e.0)) (b q)) where
-  pub other_end : c e.1 ≡ b e.1
-  other_end = first e.1 ∙ ap (λ (t : Bool). cond t (option_map g (b e.0)) (b e.1)) (unsigned_tied e.0 e.1 ∙ no_loop n e joined)
-
-  pub both_degrees : ((q : ℕ) → d q ≡ cond (eq_by_cmp nat_cmp e.1 q) (option_map g (c e.1)) (c q))
-      → (q : ℕ) → d q ≡ cond (touches q e) (option_map g (b q)) (b q)
-  both_degrees then q = then q ∙ ap (λ (t : Bool). cond t (option_map g (c e.1)) (c q)) (unsigned_tied e.1 q)
-      ∙ ap (λ (o : Option ℕ). cond (e.1 == q) (option_map g o) (c q)) other_end
-      ∙ ap (cond (e.1 == q) (option_map g (b e.1)))
-      (first q ∙ ap (λ (t : Bool). cond t (option_map g (b e.0)) (b q)) (unsigned_tied e.0 q))
-      ∙ by (e.0 == q) refl (e.1 == q) refl
-    where
-      by : (s : Bool) → (e.0 == q) ≡ s → (t : Bool) → (e.1 == q) ≡ t
-          → cond t (option_map g (b e.1)) (cond s (option_map g (b e.0)) (b q)) ≡ cond (s || t) (option_map g (b q)) (b q)
-      by true f true h = let same : e.1 ≡ q = grind (arith, nat_tests) in ap (λ (u : ℕ). option_map g (b u)) same
-      by false f true h = let same : e.1 ≡ q = grind (arith, nat_tests) in ap (λ (u : ℕ). option_map g (b u)) same
-      by true f false h = let same : e.0 ≡ q = grind (arith, nat_tests) in ap (λ (u : ℕ). option_map g (b u)) same
-      by false f false h = refl
-
-touches_first : (e : Ends) → touches e.0 e ≡ true
-touches_first e = rw (same e.0) refl
-  where
-    same : (v : ℕ) → (v == v) ≡ true
-    same v = grind (arith, nat_tests)
-
-touches_second : (e : Ends) → touches e.1 e ≡ true
-touches_second e = rw (same e.1) (by (e.0 == e.1))
-  where
-    same : (v : ℕ) → (v == v) ≡ true
-    same v = grind (arith, nat_tests)
-
-    by : (t : Bool) → (t || true) ≡ true
-    by true = refl
-    by false = refl
-
--- each end of an edge that is there has an edge
-pub some_at : (n : Nodes) (d : ℕ → Option ℕ) (is : List Incidence) → IsIndex n d is → (e : Ends) → has_edge n e ≡ true → (v k : ℕ)
-    → touches v e ≡ true → d v ≡ Some k → 1 ≤ k
-some_at n d is ix e there v k t h =
-    let some : 1 ≤ length (nodes_at n v) = passing_some edges_total edges_exact (touches v) n.edges e there t in
-    let count = ix.counted v k h in
-    omega arith
-
-pub some_at_first : (n : Nodes) (d : ℕ → Option ℕ) (is : List Incidence) → IsIndex n d is → (e : Ends) → has_edge n e ≡ true → (k : ℕ)
-    → d e.0 ≡ Some k → 1 ≤ k
-some_at_first n d is ix e there k h = some_at n d is ix e there e.0 k (touches_first e) h
-
-pub some_at_second : (n : Nodes) (d : ℕ → Option ℕ) (is : List Incidence) → IsIndex n d is → (e : Ends) → has_edge n e ≡ true → (k : ℕ)
-    → d e.1 ≡ Some k → 1 ≤ k
-some_at_second n d is ix e there k h = some_at n d is ix e there e.1 k (touches_second e) h
+      listed : (v : ℕ) (q : Ends) (b : Bool) (o : Option Bool) → d v q ≡ o → option_map (λ b. not (at_ends e v q) && b) o ≡ Some b
+          → b ≡ (has_edge (without_edge n e) q && touches v q)
+      listed v q b None f h = absurd (cc)
+      listed v q b (Some a) f h = sym (same_Some (not (at_ends e v q) && a) b h)
+          ∙ ap (λ (t : Bool). not (at_ends e v q) && t) (ix.listed v q a f)
+          ∙ tests (has_edge n q) (same_ends e q) (touches v q)
+          ∙ ap (λ (t : Bool). (not t && has_edge n q) && touches v q) (turned e q)
+          ∙ ap (λ (t : Bool). t && touches v q) (sym (has q))
 
 -- ---- a vertex goes with its edges
 abbrev pub first_at : Nodes → ℕ → Option (Ends × Node)

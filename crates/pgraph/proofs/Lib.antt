@@ -1,7 +1,7 @@
 mod Shelved
 mod Passing
 mod NodeMaps
-mod Incidences
+mod Relisted
 mod IndexKept
 mod EdgesInOrder
 mod Attributes

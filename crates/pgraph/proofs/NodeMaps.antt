@@ -1,20 +1,20 @@
 -- The finite maps of nodes that two shelves hold.
-use Rattle.std.proofs.Common.{◌≡◌, ℕ, suc, ◌+◌, ◌≤◌, Bool, true, false, cond, List, [], ◌∷◌, map, length, refl, sym, ap, ◌∙◌, arith}
+use Rattle.std.proofs.Common.{◌≡◌, ℕ, Bool, true, false, cond, List, [], ◌∷◌, map, length, refl, sym, ap, ◌∙◌}
 use Rattle.std.specs.Prelude.{Option, Some, None, is_some, option_map}
 use Rattle.std.specs.declared.cmp.Ordering.{Ordering}
-use Rattle.std.specs.Cmp.{IsTotalOrder, nat_cmp_total}
+use Rattle.std.specs.Cmp.{nat_cmp_total}
 use Rattle.std.specs.Ordering.{nat_cmp}
 use Rattle.std.specs.Map.{lookup}
 use Rattle.std.specs.BTreeMap.{is_at}
+use Rattle.std.specs.BTreeSet.{contains}
 use Rattle.std.specs.FinMap as finite
-use Rattle.std.specs.List.{filter}
-use Rattle.mont_base.specs.State.{Ends, edge_cmp, touches}
-use Rattle.mont_laws.proofs.Keys.{one_number, edges_total, edges_exact}
+use Rattle.mont_base.specs.State.{Ends, edge_cmp}
+use Rattle.mont_laws.proofs.Keys.{edges_total, edges_exact}
 use Rattle.plain.proofs.Maps.{get-lookup, kept_insert, kept_remove}
 use Rattle.pgraph.specs.declared.node.Node.{Node}
 use Rattle.pgraph.specs.declared.node.VertexNode.{VertexNode}
 use Rattle.pgraph.specs.Shelf.{value_of, SetsValue}
-use Rattle.pgraph.specs.GraphIndex.{Nodes, Incidence, IsIndex, nodes_in, degrees_in, nodes_at, degree_of}
+use Rattle.pgraph.specs.GraphIndex.{Nodes, nodes_in, nodes_at, degree_of, node_in, stands_behind}
 
 pub lookup_map : {K X Y : Type 0} (f : X → Y) (test : K → Bool) (es : List (K × X))
     → lookup test (map (λ (e : K × X). (e.0, f e.1)) es) ≡ option_map f (lookup test es)
@@ -95,82 +95,25 @@ module _ (vs : List (ℕ × VertexNode)) (es : List (Ends × Node)) (n : Nodes) 
   pub some_edge : (e : Ends) → finite.contains_key n.edges e ≡ true → is_some (value_of edge_cmp es e) ≡ true
   some_edge e h = ap is_some (seen_edge e (value_of edge_cmp es e) refl) ∙ h
 
-  pub seen_degree : (js : List Incidence) → IsIndex (nodes_in vs es) (degrees_in vs) js → (v : ℕ) (o : Option VertexNode)
-      → o ≡ value_of nat_cmp vs v → option_map (λ (x : VertexNode). x.degree) o ≡ degree_of n v
-  seen_degree js ix v None e = sym (ap (option_map (λ (x : Node). length (nodes_at n v))) (sym (seen_vertex v None e)))
-  seen_degree js ix v (Some x) e = ap Some (ix.counted v x.degree (ap (option_map (λ (x : VertexNode). x.degree)) (sym e))
-      ∙ ap (λ (m : Nodes). length (nodes_at m v)) is)
-      ∙ sym (ap (option_map (λ (x : Node). length (nodes_at n v))) (sym (seen_vertex v (Some x) e)))
-
--- degrees change where vertices do
-pub degrees_set : (vs ws : List (ℕ × VertexNode)) (v : ℕ) (w : Option VertexNode) → SetsValue nat_cmp vs ws v w → (q : ℕ)
-    → degrees_in ws q ≡ cond (is_at (nat_cmp v) q) (option_map (λ (n : VertexNode). n.degree) w) (degrees_in vs q)
-degrees_set vs ws v w h q = ap (option_map (λ (n : VertexNode). n.degree)) (h q) ∙ by (is_at (nat_cmp v) q)
-  where
-    by : (t : Bool) → option_map (λ (n : VertexNode). n.degree) (cond t w (value_of nat_cmp vs q))
-        ≡ cond t (option_map (λ (n : VertexNode). n.degree) w) (degrees_in vs q)
-    by true = refl
-    by false = refl
+  pub no_degree : (v : ℕ) → None ≡ value_of nat_cmp vs v → None ≡ degree_of n v
+  no_degree v e = ap (option_map (λ (x : Node). length (nodes_at n v))) (seen_vertex v None e)
 
 pub nodes_same : (n m : Nodes) → n.vertices ≡ m.vertices → n.edges ≡ m.edges → n ≡ m
 nodes_same n m p q = λ i. record { vertices = p i; edges = q i }
 
--- a vertex keeps its node
-pub turned_vertices : (f : VertexNode → VertexNode) → ((x : VertexNode) → (f x).node ≡ x.node) → (vs ws : List (ℕ × VertexNode))
-    → (es : List (Ends × Node)) (v : ℕ) → SetsValue nat_cmp vs ws v (option_map f (value_of nat_cmp vs v))
-    → (nodes_in ws es).vertices ≡ (nodes_in vs es).vertices
-turned_vertices f same vs ws es v h = finite.same_map nat_cmp_total finite.nat_cmp-IsAntisymmetric _ _ (λ q. vertex_in ws es q
-    ∙ ap (option_map (λ (x : VertexNode). x.node)) (h q) ∙ by q (is_at (nat_cmp v) q) refl ∙ sym (vertex_in vs es q))
+-- vertices that keep their nodes
+pub vertices_kept : (vs ws : List (ℕ × VertexNode)) (es fs : List (Ends × Node)) → ((v : ℕ) → node_in ws v ≡ node_in vs v)
+    → (nodes_in ws fs).vertices ≡ (nodes_in vs es).vertices
+vertices_kept vs ws es fs same = finite.same_map nat_cmp_total finite.nat_cmp-IsAntisymmetric _ _
+    (λ v. vertex_in ws fs v ∙ same v ∙ sym (vertex_in vs es v))
+
+-- what stands behind one vertex is set
+pub behind_set : (vs ws : List (ℕ × VertexNode)) (v : ℕ) (w : Option VertexNode) → SetsValue nat_cmp vs ws v w → (q : ℕ) (e : Ends)
+    → stands_behind ws q e
+    ≡ cond (is_at (nat_cmp v) q) (option_map (λ (n : VertexNode). contains edge_cmp n.ends e) w) (stands_behind vs q e)
+behind_set vs ws v w h q e = ap (option_map (λ (n : VertexNode). contains edge_cmp n.ends e)) (h q) ∙ by (is_at (nat_cmp v) q)
   where
-    here : (o : Option VertexNode) → option_map (λ (x : VertexNode). x.node) (option_map f o) ≡ option_map (λ (x : VertexNode). x.node) o
-    here None = refl
-    here (Some x) = ap Some (same x)
-
-    by : (q : ℕ) (t : Bool) → is_at (nat_cmp v) q ≡ t
-        → option_map (λ (x : VertexNode). x.node) (cond t (option_map f (value_of nat_cmp vs v)) (value_of nat_cmp vs q))
-        ≡ option_map (λ (x : VertexNode). x.node) (value_of nat_cmp vs q)
-    by q true e = here (value_of nat_cmp vs v)
-        ∙ ap (λ (u : ℕ). option_map (λ (x : VertexNode). x.node) (value_of nat_cmp vs u)) ((one_number v q).0 e)
-    by q false e = refl
-
--- its degree is another
-pub turned_degree : (f : VertexNode → VertexNode) (g : ℕ → ℕ) → ((x : VertexNode) → (f x).degree ≡ g x.degree)
-    → (vs ws : List (ℕ × VertexNode)) (v : ℕ) → SetsValue nat_cmp vs ws v (option_map f (value_of nat_cmp vs v)) → (q : ℕ)
-    → degrees_in ws q ≡ cond (is_at (nat_cmp v) q) (option_map g (degrees_in vs v)) (degrees_in vs q)
-turned_degree f g turns vs ws v h q = degrees_set vs ws v (option_map f (value_of nat_cmp vs v)) h q
-    ∙ ap (λ (o : Option ℕ). cond (is_at (nat_cmp v) q) o (degrees_in vs q)) (here (value_of nat_cmp vs v))
-  where
-    here : (o : Option VertexNode) → option_map (λ (x : VertexNode). x.degree) (option_map f o)
-        ≡ option_map g (option_map (λ (x : VertexNode). x.degree) o)
-    here None = refl
-    here (Some x) = ap Some (turns x)
-
--- a vertex has no more edges than there are
-entries_few : {K V : Type 0} {R : K → K → Ordering} → IsTotalOrder R → (es : List (K × V))
-    → finite.len (finite.from_entries {R = R} es) ≤ length es
-entries_few {V = V} {R = R} order [] = let e = finite.len-empty R V in omega arith
-entries_few {R = R} order (e ∷ es) =
-    by (finite.contains_key (finite.from_entries es) e.0) (finite.len-insert order (finite.from_entries es) e.0 e.1) (entries_few order es)
-  where
-    by : (t : Bool) → finite.len (finite.insert (finite.from_entries {R = R} es) e.0 e.1)
-        ≡ cond t (finite.len (finite.from_entries {R = R} es)) (finite.len (finite.from_entries {R = R} es) + 1)
-        → finite.len (finite.from_entries {R = R} es) ≤ length es
-        → finite.len (finite.insert (finite.from_entries {R = R} es) e.0 e.1) ≤ suc (length es)
-    by true h rest = omega arith
-    by false h rest = omega arith
-
-filter_few : {X : Type 0} (p : X → Bool) (xs : List X) → length (filter p xs) ≤ length xs
-filter_few p [] = omega arith
-filter_few p (x ∷ xs) = by (p x) (filter_few p xs)
-  where
-    by : (t : Bool) → length (filter p xs) ≤ length xs → length (cond t (x ∷ filter p xs) (filter p xs)) ≤ suc (length xs)
-    by true h = omega arith
-    by false h = omega arith
-
-pub few_at : (vs : List (ℕ × VertexNode)) (es : List (Ends × Node)) (v : ℕ) → length (nodes_at (nodes_in vs es) v) ≤ length es
-few_at vs es v =
-    let all = finite.len-entries (nodes_in vs es).edges in
-    let few = entries_few edges_total es in
-    let some : length (nodes_at (nodes_in vs es) v) ≤ length (finite.entries (nodes_in vs es).edges) =
-    filter_few (λ (e : Ends × Node). touches v e.0) (finite.entries (nodes_in vs es).edges) in
-    omega arith
+    by : (t : Bool) → option_map (λ (n : VertexNode). contains edge_cmp n.ends e) (cond t w (value_of nat_cmp vs q))
+        ≡ cond t (option_map (λ (n : VertexNode). contains edge_cmp n.ends e) w) (stands_behind vs q e)
+    by true = refl
+    by false = refl

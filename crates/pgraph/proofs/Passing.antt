@@ -102,20 +102,6 @@ module _ {K V : Type 0} {R : K → K → Ordering} (order : IsTotalOrder R) (exa
       ap (λ (n : finite.FinMap R V). length (passing p n)) (sym (insert_removed m k f.0 f.1))
       ∙ passing_new p (finite.remove m k) k f.0 (get_removed m k)
 
-  set_twice : (b : Bool) (v : V) (o : Option V) → cond b (Some v) (cond b None o) ≡ cond b (Some v) o
-  set_twice true v o = refl
-  set_twice false v o = refl
-
-  -- a new value under an old key counts the same
-  pub passing_set : (p : K → Bool) (m : finite.FinMap R V) (k : K) (v : V) → finite.contains_key m k ≡ true
-      → length (passing p (finite.insert m k v)) ≡ length (passing p m)
-  passing_set p m k v e =
-      let again : finite.insert m k v ≡ finite.insert (finite.remove m k) k v = finite.same_map order exact _ _ (λ q.
-      finite.get-insert order m k v q ∙ sym (finite.get-insert order (finite.remove m k) k v q
-      ∙ ap (cond (eq_by_cmp R q k) (Some v)) (finite.get-remove order m k q) ∙ set_twice (eq_by_cmp R q k) v (finite.get m q))) in
-      ap (λ (n : finite.FinMap R V). length (passing p n)) again ∙ passing_new p (finite.remove m k) k v (get_removed m k)
-      ∙ sym (passing_old p m k e)
-
   -- where no key passes none is counted
   pub passing_none : (p : K → Bool) (m : finite.FinMap R V) → ((q : K) → finite.contains_key m q ≡ true → p q ≡ false)
       → length (passing p m) ≡ 0

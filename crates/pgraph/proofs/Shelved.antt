@@ -1,15 +1,12 @@
 -- What a shelf has under a name, and how it changes.
-use Rattle.std.proofs.Common.{◌≡◌, ℕ, suc, length, Bool, true, false, cond, List, [], ◌∷◌, refl, sym, ap, ◌∙◌}
+use Rattle.std.proofs.Common.{◌≡◌, ℕ, Bool, true, false, cond, List, [], ◌∷◌, refl, sym, ap, ◌∙◌}
 use Rattle.std.specs.Prelude.{◌≢◌, Option, Some, None, is_some, IsSome}
 use Rattle.std.specs.declared.cmp.Ordering.{Ordering}
 use Rattle.std.specs.declared.cmp.Ordering.TheVariants.{Less, Equal, Greater}
-use Rattle.std.specs.Cmp.{IsTotalOrder, IsEquivalence}
+use Rattle.std.specs.Cmp.{IsTotalOrder}
 use Rattle.std.specs.Ordering.{is_eq}
-use Rattle.std.specs.List.{All, IsDistinct}
-use Rattle.std.specs.Map.{lookup, keys_of}
+use Rattle.std.specs.Map.{lookup}
 use Rattle.std.specs.BTreeMap.{is_at}
-use Rattle.std.proofs.lemmas.List.Elements.{All-head, All-tail, All-contains_itself}
-use Rattle.std.proofs.lemmas.Map.Views.{lookup-from_Contains}
 use Rattle.slab.specs.Slab.{Slab, get, with_value, Updates}
 use Rattle.slab.proofs.SlabLemmas.{Updates-with_value}
 use Rattle.pgraph.specs.Shelf.{named_first, shelved, value_of, SetsValue, AreShelved}
@@ -83,25 +80,6 @@ module _ {K V : Type 0} {cmp : K → K → Ordering} (values : Slab V) (es : Lis
       by : (t : Bool) → is_at (cmp name) q ≡ t → value_of cmp es q ≡ cond t (Some key) (value_of cmp es q)
       by true e = lookup_tied order name q e es ∙ has
       by false e = refl
-
--- there are as many values as names
-pub length_shelved : {K V : Type 0} (values : Slab V) (es : List (K × ℕ)) → All (λ (e : K × ℕ). IsSome (get values e.1)) es
-    → length es ≡ length (shelved values es)
-length_shelved values [] h = refl
-length_shelved {K} {V} values (e ∷ es) h = by (get values e.1) (All-head (λ (e : K × ℕ). IsSome (get values e.1)) e es h)
-    (length_shelved values es (All-tail (λ (e : K × ℕ). IsSome (get values e.1)) e es h))
-  where
-    by : (o : Option V) → is_some o ≡ true → length es ≡ length (shelved values es)
-        → length (e ∷ es) ≡ length (named_first e.0 o (shelved values es))
-    by None f g = absurd (cc)
-    by (Some v) f g = ap suc g
-
-pub each_there : {K V : Type 0} {eq : K → K → Bool} {cmp : K → K → Ordering} → IsEquivalence eq
-    → ((x y : K) → eq x y ≡ is_eq (cmp x y)) → (values : Slab V) (es : List (K × ℕ)) → AreShelved cmp values es
-    → IsDistinct eq (keys_of es) → length es ≡ length (shelved values es)
-each_there {eq = eq} {cmp = cmp} same matches values es are distinct = length_shelved values es
-    (λ i d l. are.there _ _ (sym (found_by_order eq cmp matches _ es)
-    ∙ lookup-from_Contains same _ _ es distinct (All-contains_itself es i d l)))
 
 -- room is no value
 pub shelved_with_room : {K V : Type 0} (values : Slab V) (n : ℕ) (es : List (K × ℕ))

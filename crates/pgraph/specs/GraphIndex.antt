@@ -1,10 +1,10 @@
 -- What contracts see of the index of a graph: where its vertices and edges are.
-use Rattle.std.specs.Prelude.{◌≡◌, ◌==◌, ℕ, ◌+◌, ◌-◌, ◌<◌, ◌^◌, Bool, true, false, ◌&&◌, ◌||◌, not, List, map, length, Option, Some, option_map, refl}
+use Rattle.std.specs.Prelude.{◌≡◌, ◌==◌, ℕ, Bool, true, false, ◌&&◌, ◌||◌, not, List, map, length, Option, Some, option_map, refl}
 use Rattle.std.specs.declared.cmp.Ordering.{Ordering}
 use Rattle.std.specs.Coded.{Coded, code_by, coded×, coded_ℕ}
-use Rattle.std.specs.Ordering.{nat_cmp, eq_by_cmp, ordering_then}
-use Rattle.std.specs.List.{filter, list_any}
-use Rattle.std.specs.BTreeMap.{is_at}
+use Rattle.std.specs.Ordering.{nat_cmp, eq_by_cmp}
+use Rattle.std.specs.List.{filter}
+use Rattle.std.specs.BTreeSet.{contains}
 use Rattle.std.specs.FinMap as finite
 use Rattle.mont_base.specs.State.{Ends, Graph, edge_cmp, touches}
 use Rattle.mont_laws.specs.Structures.{Part, AtVertex, AtEdge}
@@ -126,56 +126,50 @@ nodes_in vertices edges = record {
   edges = finite.from_entries edges;
 }
 
-abbrev pub degrees_in : List (ℕ × VertexNode) → ℕ → Option ℕ
-degrees_in vertices vertex =
-    option_map (λ (n : VertexNode). n.degree) (value_of nat_cmp vertices vertex)
+-- the node of a vertex
+abbrev pub node_in : List (ℕ × VertexNode) → ℕ → Option Node
+node_in vertices vertex =
+    option_map (λ (n : VertexNode). n.node) (value_of nat_cmp vertices vertex)
 
--- an edge behind a vertex that it goes from or to
-abbrev pub Incidence : Type 0
-Incidence = ℕ × Ends
-
--- by the vertex, and then by the ends
-abbrev pub incidence_cmp : Incidence → Incidence → Ordering
-incidence_cmp i j = ordering_then (nat_cmp i.0 j.0) (edge_cmp i.1 j.1)
-
-abbrev pub has_incidence : List Incidence → Incidence → Bool
-has_incidence incidences i = list_any (is_at (incidence_cmp i)) incidences
-
--- one edge more, or fewer
-abbrev pub raised : VertexNode → VertexNode
-raised n = record { node = n.node; degree = n.degree + 1 }
-
-abbrev pub lowered : VertexNode → VertexNode
-lowered n = record { node = n.node; degree = n.degree - 1 }
+-- whether an edge stands behind a vertex, where there is such a vertex
+abbrev pub stands_behind : List (ℕ × VertexNode) → ℕ → Ends → Option Bool
+stands_behind vertices vertex e =
+    option_map (λ (n : VertexNode). contains edge_cmp n.ends e) (value_of nat_cmp vertices vertex)
 
 abbrev pub same_ends : Ends → Ends → Bool
 same_ends e f = eq_by_cmp edge_cmp e f
 
--- an edge is behind neither of its ends
-abbrev pub IsUnlisted : List Incidence → Ends → Type 0
-IsUnlisted incidences e = (i : Incidence) → same_ends e i.1 ≡ true → has_incidence incidences i
-    ≡ false
+-- this edge behind this vertex
+abbrev pub at_vertex : ℕ → Ends → ℕ → Ends → Bool
+at_vertex vertex e v f = (vertex == v) && same_ends e f
 
-abbrev pub SameIncidences : List Incidence → List Incidence → Type 0
-SameIncidences old new = (i : Incidence) → has_incidence new i ≡ has_incidence old i
+-- this edge behind either of its ends
+abbrev pub at_ends : Ends → ℕ → Ends → Bool
+at_ends e v f = touches v f && same_ends e f
 
--- an edge is put behind its ends, or taken from behind them
-abbrev pub AddsIncidences : List Incidence → List Incidence → Ends → Type 0
-AddsIncidences old new e = (i : Incidence) → has_incidence new i
-    ≡ (has_incidence old i || (same_ends e i.1 && touches i.0 i.1))
-
-abbrev pub RemovesIncidences : List Incidence → List Incidence → Ends → Type 0
-RemovesIncidences old new e = (i : Incidence) → has_incidence new i
-    ≡ (has_incidence old i && not (same_ends e i.1 && touches i.0 i.1))
-
--- Each edge goes from one vertex to another and stands behind both, and the degree of a vertex is
--- the count of its edges.
-pub record IsIndex (nodes : Nodes) (degrees : ℕ → Option ℕ) (incidences : List Incidence)
+-- vertices keep their nodes, and whether an edge stands behind one changes so
+pub record Relists (change : ℕ → Ends → Bool → Bool) (old new : List (ℕ × VertexNode))
     : Type 0 where
+  pub nodes : (v : ℕ) → node_in new v ≡ node_in old v
+  pub behind : (v : ℕ) (f : Ends)
+      → stands_behind new v f ≡ option_map (change v f) (stands_behind old v f)
+
+-- an edge is put behind vertices, taken from behind them, or neither
+abbrev pub Lists : (ℕ → Ends → Bool) → List (ℕ × VertexNode) → List (ℕ × VertexNode) → Type 0
+Lists places old new = Relists (λ v f b. places v f || b) old new
+
+abbrev pub Unlists : (ℕ → Ends → Bool) → List (ℕ × VertexNode) → List (ℕ × VertexNode) → Type 0
+Unlists places old new = Relists (λ v f b. not (places v f) && b) old new
+
+abbrev pub KeepsListed : List (ℕ × VertexNode) → List (ℕ × VertexNode) → Type 0
+KeepsListed old new = Relists (λ v f b. b) old new
+
+-- an edge is behind no vertex
+abbrev pub IsUnlisted : List (ℕ × VertexNode) → Ends → Type 0
+IsUnlisted vertices e = (v : ℕ) (b : Bool) → stands_behind vertices v e ≡ Some b → b ≡ false
+
+-- Each edge goes from one vertex to another, and behind each vertex stand the edges from or to it.
+pub record IsIndex (nodes : Nodes) (behind : ℕ → Ends → Option Bool) : Type 0 where
   pub joined : (e : Ends) → finite.contains_key nodes.edges e ≡ true → joins nodes e ≡ true
-  pub words : (e : Ends) → finite.contains_key nodes.edges e ≡ true
-      → (e.0 < 2 ^ 64) × (e.1 < 2 ^ 64)
-  pub listed : (i : Incidence) → has_incidence incidences i
-      ≡ (finite.contains_key nodes.edges i.1 && touches i.0 i.1)
-  pub counted : (vertex degree : ℕ) → degrees vertex ≡ Some degree
-      → degree ≡ length (nodes_at nodes vertex)
+  pub listed : (v : ℕ) (e : Ends) (b : Bool) → behind v e ≡ Some b
+      → b ≡ (finite.contains_key nodes.edges e && touches v e)

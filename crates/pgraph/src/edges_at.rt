@@ -5,13 +5,13 @@ ghost use Rattle.pgraph.specs.EdgesAt.{AreThere, edges_behind};
 
 use crate::node::{Ends, Node};
 use crate::shelf::Shelf;
-use std::collections::btree_set::Range;
+use std::collections::btree_set::Iter;
 use std::marker::Model;
 
 // Each edge with its node. Contracts see those that are still to come.
 #[derive(Drop)]
 pub(crate) struct EdgesAt<'a> {
-    incidences: Range<'a, (u64, Ends)>,
+    ends: Option<Iter<'a, Ends>>,
     edges: &'a Shelf<Ends, Node>,
 }
 
@@ -23,21 +23,18 @@ impl<'a> Model for EdgesAt<'a> {
 
     ghost Value = { List (Ends × Node) };
 
-    ghost view = { λ s. edges_behind s.edges.now s.incidences };
+    ghost view = { λ s. edges_behind s.edges.now s.ends };
 
-    ghost invariant = { λ s. AreThere s.edges.now s.incidences };
+    ghost invariant = { λ s. AreThere s.edges.now s.ends };
 }
 
 impl<'a> EdgesAt<'a> {
     // The edges that stand behind a vertex.
-    pub(crate) fn new(
-        incidences: Range<'a, (u64, Ends)>,
-        edges: &'a Shelf<Ends, Node>,
-    ) -> EdgesAt<'a>
-        requires { AreThere edges.now incidences }
-        ensures { result ≡ edges_behind edges.now incidences.entry }
+    pub(crate) fn new(ends: Option<Iter<'a, Ends>>, edges: &'a Shelf<Ends, Node>) -> EdgesAt<'a>
+        requires { AreThere edges.now ends }
+        ensures { result ≡ edges_behind edges.now ends.entry }
     {
-        EdgesAt { incidences, edges }
+        EdgesAt { ends, edges }
     }
 }
 
@@ -49,8 +46,8 @@ impl<'a> Iterator for EdgesAt<'a> {
     ghost remaining = { item_count (λ s. s) };
 
     fn next(&mut self) -> Option<(Ends, Node)> {
-        let (_, ends) = *self.incidences.next()?;
-        let node = self.edges.get(ends)?;
+        let ends = *self.ends.as_mut()?.next()?;
+        let node = *self.edges.get(ends)?;
         Some((ends, node))
     }
 }

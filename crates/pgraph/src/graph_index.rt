@@ -1,9 +1,7 @@
 // The index of a graph: its vertices and edges in memory, each by its name.
-ghost use Rattle.std.specs.Prelude.{◌≡◌, ℕ, ◌+◌, ◌<◌, ◌≤◌, ◌^◌, true, None, Some, OnOk, OnErr, option_map, slice_get};
-ghost use Rattle.std.specs.Ordering.{nat_cmp};
+ghost use Rattle.std.specs.Prelude.{◌≡◌, true, None, OnOk, OnErr, option_map, slice_get};
 ghost use Rattle.std.specs.FinMap as finite;
-ghost use Rattle.pgraph.specs.GraphIndex.{no_nodes, nodes_at, edge_name, degree_of, degrees_in, joins, with_vertex, with_edge, without_edge, without_vertex, raised, lowered, IsUnlisted, AddsIncidences, RemovesIncidences, SameIncidences};
-ghost use Rattle.pgraph.specs.Shelf.{value_of, SetsValue};
+ghost use Rattle.pgraph.specs.GraphIndex.{no_nodes, nodes_at, edge_name, degree_of, joins, with_vertex, with_edge, without_edge, without_vertex, at_vertex, at_ends, IsUnlisted, Lists, Unlists, KeepsListed};
 
 use crate::edges_at::EdgesAt;
 use crate::node::{Ends, Node, VertexNode};
@@ -15,14 +13,13 @@ use std::marker::Model;
 // Contracts see the nodes by their names.
 #[derive(Drop)]
 pub(crate) struct GraphIndex {
+    alloc: Global,
     vertices: Shelf<u64, VertexNode>,
     edges: Shelf<Ends, Node>,
-    // Each edge behind the vertex that it leaves, and behind the one that it reaches.
-    incidences: BTreeSet<(u64, Ends)>,
 }
 
 impl Model for GraphIndex {
-    ghost use Rattle.pgraph.specs.GraphIndex.{Nodes, nodes_code, nodes_in, degrees_in, IsIndex};
+    ghost use Rattle.pgraph.specs.GraphIndex.{Nodes, nodes_code, nodes_in, stands_behind, IsIndex};
 
     ghost Value = { Nodes };
 
@@ -30,8 +27,7 @@ impl Model for GraphIndex {
 
     ghost view = { λ s. nodes_in s.vertices s.edges };
 
-    ghost invariant = { λ s. IsIndex (nodes_in s.vertices s.edges) (degrees_in s.vertices)
-        s.incidences.keys };
+    ghost invariant = { λ s. IsIndex (nodes_in s.vertices s.edges) (stands_behind s.vertices) };
 }
 
 impl GraphIndex {
@@ -40,9 +36,9 @@ impl GraphIndex {
         ensures { result ≡ no_nodes }
     {
         GraphIndex {
+            alloc,
             vertices: Shelf::new(alloc),
             edges: Shelf::new(alloc),
-            incidences: BTreeSet::new(alloc),
         }
     }
 
@@ -57,23 +53,25 @@ impl GraphIndex {
     pub(crate) fn edge(&self, ends: Ends) -> Option<Node>
         ensures { result ≡ finite.get self.now.edges ends }
     {
-        self.edges.get(ends)
+        self.edges.get(ends).copied()
     }
 
     // How many edges go from or to a vertex.
     pub(crate) fn degree(&self, vertex: u64) -> Option<u64>
         ensures { result ≡ degree_of self.now vertex }
     {
-        Some(self.vertices.get(vertex)?.degree)
+        Some(self.vertices.get(vertex)?.ends.len() as u64)
     }
 
     // The edges from or to a vertex, by rising ends.
     pub(crate) fn edges_at(&self, vertex: u64) -> EdgesAt<'_>
         ensures { result ≡ nodes_at self.now vertex }
     {
-        let first = (vertex, (0, 0));
-        let last = (vertex, (u64::MAX, u64::MAX));
-        EdgesAt::new(self.incidences.range(first..=last), &self.edges)
+        let ends = match self.vertices.get(vertex) {
+            Some(there) => Some(there.ends.iter()),
+            None => None,
+        };
+        EdgesAt::new(ends, &self.edges)
     }
 
     // Adds a vertex.
@@ -82,8 +80,8 @@ impl GraphIndex {
         ensures ok { OnOk result (self.new ≡ with_vertex self.old vertex node) }
         ensures err { OnErr result (self.new ≡ self.old) }
     {
-        let degree = 0;
-        self.vertices.insert(vertex, VertexNode { node, degree })?;
+        let ends = BTreeSet::new(self.alloc);
+        self.vertices.insert(vertex, VertexNode { node, ends })?;
         Ok(())
     }
 
@@ -105,15 +103,11 @@ impl GraphIndex {
         ensures ok { OnOk result (self.new ≡ with_edge self.old (from, to) node) }
         ensures err { OnErr result (self.new ≡ self.old) }
     {
-        // So many edges fit in a word, and no degree is above their count.
-        let _edges = self.edges.len();
-        list_edge(&mut self.incidences, from, to)?;
+        list_edge(&mut self.vertices, (from, to))?;
         if let Err(refused) = self.edges.insert((from, to), node) {
-            unlist_edge(&mut self.incidences, from, to);
+            unlist_edge(&mut self.vertices, (from, to));
             return Err(refused);
         }
-        raise_degree(&mut self.vertices, from);
-        raise_degree(&mut self.vertices, to);
         Ok(())
     }
 
@@ -151,55 +145,51 @@ impl GraphIndex {
         requires { finite.contains_key self.old.edges ends ≡ true }
         ensures { self.new ≡ without_edge self.old ends }
     {
-        let (from, to) = ends;
         self.edges.remove(ends);
-        unlist_edge(&mut self.incidences, from, to);
-        lower_degree(&mut self.vertices, from);
-        lower_degree(&mut self.vertices, to);
+        unlist_edge(&mut self.vertices, ends);
     }
 }
 
 // Puts an edge behind both of its ends, or behind none.
-fn list_edge(incidences: &mut BTreeSet<(u64, Ends)>, from: u64, to: u64) -> Result<(), AllocError>
-    requires { IsUnlisted incidences.old.keys (from, to) }
-    ensures ok { OnOk result
-        (AddsIncidences incidences.old.keys incidences.new.keys (from, to)) }
-    ensures err { OnErr result (SameIncidences incidences.old.keys incidences.new.keys) }
+fn list_edge(vertices: &mut Shelf<u64, VertexNode>, ends: Ends) -> Result<(), AllocError>
+    requires { IsUnlisted vertices.old ends }
+    ensures ok { OnOk result (Lists (at_ends ends) vertices.old vertices.new) }
+    ensures err { OnErr result (KeepsListed vertices.old vertices.new) }
 {
-    incidences.insert((from, (from, to)))?;
-    if incidences.insert((to, (from, to))).is_err() {
-        incidences.remove(&(from, (from, to)));
-        return Err(AllocError);
+    let (from, to) = ends;
+    list_at(vertices, from, ends)?;
+    if let Err(refused) = list_at(vertices, to, ends) {
+        unlist_at(vertices, from, ends);
+        return Err(refused);
     }
     Ok(())
 }
 
 // Takes an edge from behind its ends.
-fn unlist_edge(incidences: &mut BTreeSet<(u64, Ends)>, from: u64, to: u64)
-    ensures { RemovesIncidences incidences.old.keys incidences.new.keys (from, to) }
+fn unlist_edge(vertices: &mut Shelf<u64, VertexNode>, ends: Ends)
+    ensures { Unlists (at_ends ends) vertices.old vertices.new }
 {
-    incidences.remove(&(from, (from, to)));
-    incidences.remove(&(to, (from, to)));
+    let (from, to) = ends;
+    unlist_at(vertices, from, ends);
+    unlist_at(vertices, to, ends);
 }
 
-// One edge more goes from or to a vertex.
-fn raise_degree(vertices: &mut Shelf<u64, VertexNode>, vertex: u64)
-    requires { (d : ℕ) → degrees_in vertices.old vertex ≡ Some d → d + 1 < 2 ^ 64 }
-    ensures { SetsValue nat_cmp vertices.old vertices.new vertex
-        (option_map raised (value_of nat_cmp vertices.old vertex)) }
+// Puts an edge behind a vertex.
+fn list_at(vertices: &mut Shelf<u64, VertexNode>, vertex: u64, ends: Ends) -> Result<(), AllocError>
+    ensures ok { OnOk result (Lists (at_vertex vertex ends) vertices.old vertices.new) }
+    ensures err { OnErr result (KeepsListed vertices.old vertices.new) }
 {
     if let Some(there) = vertices.get_mut(vertex) {
-        there.degree += 1;
+        there.ends.insert(ends)?;
     }
+    Ok(())
 }
 
-// One edge fewer goes from or to a vertex.
-fn lower_degree(vertices: &mut Shelf<u64, VertexNode>, vertex: u64)
-    requires { (d : ℕ) → degrees_in vertices.old vertex ≡ Some d → 1 ≤ d }
-    ensures { SetsValue nat_cmp vertices.old vertices.new vertex
-        (option_map lowered (value_of nat_cmp vertices.old vertex)) }
+// Takes an edge from behind a vertex.
+fn unlist_at(vertices: &mut Shelf<u64, VertexNode>, vertex: u64, ends: Ends)
+    ensures { Unlists (at_vertex vertex ends) vertices.old vertices.new }
 {
     if let Some(there) = vertices.get_mut(vertex) {
-        there.degree -= 1;
+        there.ends.remove(&ends);
     }
 }

@@ -1,6 +1,7 @@
 // The vertices and edges of a graph by their names, and where they are.
 
 use mont_base::Slot;
+use std::collections::BTreeSet;
 
 /// Where a vertex or an edge is: what its live record holds, and which record that is.
 #[derive(Clone, Copy, Debug, PartialEq, Eq)]
@@ -20,9 +21,9 @@ pub(crate) enum Name {
     Edge(Ends),
 }
 
-// A vertex, with how many edges go from or to it.
-#[derive(Clone, Copy)]
+// A vertex, with the edges that go from or to it.
+#[derive(Drop)]
 pub(crate) struct VertexNode {
     pub(crate) node: Node,
-    pub(crate) degree: u64,
+    pub(crate) ends: BTreeSet<Ends>,
 }

@@ -1,7 +1,7 @@
 // Values in a slab, each found by its name in a hash map.
-ghost use Rattle.std.specs.Prelude.{◌≡◌, ◌<◌, ◌^◌, length, [], Some, None, OnOk, OnErr};
+ghost use Rattle.std.specs.Prelude.{◌≡◌, [], Some, None, OnOk, OnErr};
 ghost use Rattle.std.specs.Borrow.{sem};
-ghost use Rattle.std.specs.Option.{option_copied_mut};
+ghost use Rattle.std.specs.Option.{option_copied, option_copied_mut};
 ghost use Rattle.pgraph.specs.Shelf.{value_of, SetsValue};
 ghost use Rattle.pgraph.specs.Lending.{LendsValue};
 
@@ -29,7 +29,7 @@ impl<K: Ord + Hash, V> Model for Shelf<K, V> {
     ghost invariant = { λ s. AreShelved K.cmp s.values s.keys.entries };
 }
 
-impl<K: Ord + Hash + Copy, V: Copy> Shelf<K, V> {
+impl<K: Ord + Hash + Copy, V: Drop> Shelf<K, V> {
     // No values. It allocates nothing.
     pub(crate) fn new(alloc: Global) -> Shelf<K, V>
         ensures { result ≡ [] }
@@ -41,11 +41,11 @@ impl<K: Ord + Hash + Copy, V: Copy> Shelf<K, V> {
     }
 
     // The value of a name, if it has one.
-    pub(crate) fn get(&self, name: K) -> Option<V>
-        ensures { result ≡ value_of K.cmp self.now name }
+    pub(crate) fn get(&self, name: K) -> Option<&V>
+        ensures { option_copied result ≡ value_of K.cmp self.now name }
     {
         let key = *self.keys.get(&name)?;
-        self.values.get(key).copied()
+        self.values.get(key)
     }
 
     // The value of a name, if it has one, to be changed there.
@@ -55,14 +55,6 @@ impl<K: Ord + Hash + Copy, V: Copy> Shelf<K, V> {
     {
         let key = *self.keys.get(&name)?;
         self.values.get_mut(key)
-    }
-
-    // How many values there are.
-    pub(crate) fn len(&self) -> usize
-        ensures value { result ≡ length self.now }
-        ensures few { result < 2 ^ 63 }
-    {
-        self.keys.len()
     }
 
     // Gives a name its value.

@@ -25,6 +25,7 @@ use Rattle.slots.specs.contracts.books.Books as books
 use Rattle.shard_map.specs.contracts.map_shard.MapShard as shard
 use Rattle.order_index.specs.contracts.order_index.OrderIndex as order
 use Rattle.pqueue.specs.contracts.pqueue.PQueue as queue
+use Rattle.pgraph.specs.contracts.node.VertexNode as vertex
 use Rattle.pgraph.specs.contracts.graph_index.GraphIndex as graph_index
 use Rattle.pgraph.specs.contracts.pgraph.PGraph as graph
 use Rattle.pordered.specs.contracts.pordered.POrdered as ordered
@@ -52,8 +53,11 @@ shard_sent I asks s = search (sendable, crosses, region_sent) depth 40
 queue_sent : IsSend queue.the_row
 queue_sent = search (sendable, crosses, region_sent) depth 40
 
+vertex_sent : IsSend vertex.the_row
+vertex_sent = search (sendable, crosses, maps.crosses) depth 80
+
 index_sent : IsSend graph_index.the_row
-index_sent = search (sendable, crosses, maps.crosses) depth 80
+index_sent = search (sendable, crosses, maps.crosses, vertex_sent) depth 80 fits 2000
 
 graph_sent : IsSend graph.the_row
 graph_sent = search (sendable, crosses, index_sent, region_sent) depth 80

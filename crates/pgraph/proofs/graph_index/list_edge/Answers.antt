@@ -1,9 +1,15 @@
-use Rattle.std.proofs.Common.{sym, ◌∙◌}
-use Rattle.pgraph.proofs.Incidences.{added_behind, where_ok}
+use Rattle.std.specs.Prelude.{◌||◌}
+use Rattle.pgraph.specs.GraphIndex.{at_vertex}
+use Rattle.pgraph.proofs.Relisted.{lists_both, list_undone, then_keeps}
 use Rattle.pgraph.proofs.graph_index.list_edge.Goals as goal
 
+pub returns-in-Err-clause-err : goal.returns-in-Err-clause-err
+returns-in-Err-clause-err c =
+    list_undone c.args.ends c.args.vertices.now c.list_at-2.new.vertices c.unlist_at.new.vertices c.requires
+    (then_keeps (λ v q b. at_vertex c.args.ends.0 c.args.ends v q || b) c.args.vertices.now c.list_at.new.vertices c.list_at-2.new.vertices
+    c.in_ok-list_at.ensures.ok c.in-Err.ensures.err)
+    c.unlist_at.ensures
+
 pub returns-clause-ok : goal.returns-clause-ok
-returns-clause-ok c =
-    added_behind (c.args.from, c.args.to) c.args.incidences.now.keys c.insert.new.self.keys c.insert-2.new.self.keys
-    c.in_ok-insert.ensures.updates.0
-    (where_ok c.insert-2.result _ (sym c.is_err.ensures.value ∙ c.if-is_err.false) c.insert-2.ensures.updates).0
+returns-clause-ok c = lists_both c.args.ends c.args.vertices.now c.list_at.new.vertices c.list_at-2.new.vertices
+    c.in_ok-list_at.ensures.ok c.in_default.ensures.ok

@@ -1,7 +1,7 @@
 use Rattle.std.proofs.Common.{[], refl}
-use Rattle.pgraph.specs.GraphIndex.{degrees_in}
+use Rattle.pgraph.specs.GraphIndex.{stands_behind}
 use Rattle.pgraph.proofs.IndexKept.{no_index}
 use Rattle.pgraph.proofs.graph_index.GraphIndex.new.Goals as goal
 
 pub invariant_of-result : goal.invariant_of-result
-invariant_of-result c = rw (c.new.ensures, c.new-2.ensures, c.new-3.ensures.empty) (no_index (degrees_in []) (λ v. refl))
+invariant_of-result c = rw (c.new.ensures, c.new-2.ensures) (no_index (stands_behind []) (λ v e. refl))

@@ -1,9 +1,9 @@
 use Rattle.std.proofs.Common.{None, length, ap, sym, refl, subst, ◌∙◌, arith}
 use Rattle.std.specs.FinMap as finite
 use Rattle.mont_laws.proofs.Keys.{edges_total, edges_exact}
-use Rattle.pgraph.specs.GraphIndex.{Nodes, IsIndex, nodes_in, nodes_at, degrees_in, without_vertex}
+use Rattle.pgraph.specs.GraphIndex.{Nodes, IsIndex, nodes_in, nodes_at, stands_behind, without_vertex}
 use Rattle.pgraph.proofs.Passing.{len_removed}
-use Rattle.pgraph.proofs.NodeMaps.{vertex_removed, degrees_set, nodes_same}
+use Rattle.pgraph.proofs.NodeMaps.{vertex_removed, behind_set, nodes_same}
 use Rattle.pgraph.proofs.IndexKept.{named_there, none_named, others_kept, edges_elsewhere, vertex_gone}
 use Rattle.pgraph.proofs.graph_index.GraphIndex.remove_vertex.Goals as goal
 
@@ -28,15 +28,14 @@ invariant_of-self c =
     let vs = c.self.inside.vertices in
     let es = c.self.inside.edges in
     let ws = c.remove.new.self in
-    let js = c.self.inside.incidences.keys in
     let v = c.args.vertex in
     let n = nodes_in vs es in
     let none = none_named c.loop-ends.self v (sym c.first_edge_at.ensures ∙ c.in_default.is) in
     let none_inside = ap (λ (m : Nodes). length (nodes_at m v)) c.self.view_is ∙ none in
     let gone : Nodes = record { vertices = finite.remove n.vertices v; edges = n.edges } in
-    subst (λ (m : Nodes). IsIndex m (degrees_in ws) js)
+    subst (λ (m : Nodes). IsIndex m (stands_behind ws))
     (sym (nodes_same (nodes_in ws es) gone (vertex_removed vs es ws v c.remove.ensures.taken) refl))
-    (vertex_gone n (degrees_in vs) js c.self.invariant v (degrees_in ws) none_inside (degrees_set vs ws v None c.remove.ensures.taken))
+    (vertex_gone n (stands_behind vs) c.self.invariant v (stands_behind ws) none_inside (behind_set vs ws v None c.remove.ensures.taken))
 
 pub returns : goal.returns
 returns c =

@@ -2,7 +2,7 @@ use Rattle.std.proofs.Common.{Some, ◌≡◌, true, false, ap, sym, refl, subst
 use Rattle.std.specs.Prelude.{is_some}
 use Rattle.std.specs.FinMap as finite
 use Rattle.mont_base.specs.State.{edge_cmp}
-use Rattle.pgraph.specs.GraphIndex.{Nodes, IsIndex, nodes_in, degrees_in, with_edge}
+use Rattle.pgraph.specs.GraphIndex.{Nodes, IsIndex, nodes_in, stands_behind, with_edge}
 use Rattle.pgraph.specs.Shelf.{SetsValue}
 use Rattle.pgraph.proofs.NodeMaps.{some_edge, edge_inserted, nodes_same}
 use Rattle.pgraph.proofs.IndexKept.{edge_put}
@@ -13,12 +13,11 @@ invariant_of-self-2 c =
     let vs = c.self.inside.vertices in
     let es = c.self.inside.edges in
     let fs = c.get_mut.follows.lender c.args.node in
-    let js = c.self.inside.incidences.keys in
     let sets : SetsValue edge_cmp es fs c.args.ends (Some c.args.node) = rw c.in-Some.is at c.get_mut.follows.holds c.args.node in
     let n = nodes_in vs es in
-    subst (λ (m : Nodes). IsIndex m (degrees_in vs) js)
+    subst (λ (m : Nodes). IsIndex m (stands_behind vs))
     (sym (nodes_same (nodes_in vs fs) (with_edge n c.args.ends c.args.node) refl (edge_inserted vs es fs c.args.ends c.args.node sets)))
-    (edge_put n (degrees_in vs) js c.self.invariant c.args.ends c.args.node
+    (edge_put n (stands_behind vs) c.self.invariant c.args.ends c.args.node
     (ap (λ (m : Nodes). finite.contains_key m.edges c.args.ends) c.self.view_is ∙ c.requires))
 
 pub returns : goal.returns
