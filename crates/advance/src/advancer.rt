@@ -1,5 +1,5 @@
 // The advancer: its seat, and how far its advance is.
-ghost use Rattle.std.specs.Prelude.{◌≡◌, ◌≢◌, ◌<◌, ◌≤◌, ◌↔◌, true, false, length, IsTrue, IfSome, IfNone, IfOk, IfErr, OnOk, OnErr, Err};
+ghost use Rattle.std.specs.Prelude.{◌≡◌, ◌≢◌, ◌<◌, ◌≤◌, ◌↔◌, true, false, length, IsTrue, IfSome, IfNone, IfOk, IfErr, OnOk, OnErr, Err, is_err};
 ghost use Rattle.mont_base.specs.declared.constants.TheConstants.{LAST};
 ghost use Rattle.mont_base.specs.Image.{clock_of};
 ghost use Rattle.mont_base.specs.Layout.{units_of};
@@ -8,7 +8,7 @@ ghost use Rattle.core_steps.specs.Advancing.{can_check, unit_at_hand, lets_pass,
 ghost use Rattle.heap_rule.specs.Views.{are_clean, advancer_shown, caller_heard, note_of_advancer};
 ghost use Rattle.heap.specs.GateAsked.{IsAskedOften};
 ghost use Rattle.heap_pass.specs.OfLayout.{IsOfLayout};
-ghost use Rattle.advance.specs.declared.advance_refusal.AdvanceRefusal.TheVariants.{Cut, ClockEnd};
+ghost use Rattle.advance.specs.declared.advance_refusal.AdvanceRefusal.TheVariants.{ClockEnd};
 ghost use Rattle.advance.specs.Stage.{stage_of, IsAtRest, IsWaitingAt, has_passed, IsReady};
 ghost use Rattle.advance.specs.Advance.{IsSameSeat, HasChecked, IsAdvanced, IsUnderWay, HasReason, IsAtEnd, was_cut};
 
@@ -16,7 +16,7 @@ use crate::advance_refusal::AdvanceRefusal;
 use crate::stage::AdvStage;
 use heap::{AdvSeat, Heap, Ticket};
 use heap_pass::OfHeap;
-use mont_base::{Epoch, Gate, LAST, Layout, Unit};
+use mont_base::{Cut, Epoch, Gate, LAST, Layout, Unit};
 use std::marker::Model;
 use write_back::Flush;
 
@@ -145,9 +145,7 @@ impl Advancer {
             return Err(AdvanceRefusal::ClockEnd);
         }
         self.pass_units(heap, gate)?;
-        self.write_back(heap, gate)?;
-        self.move_clock(heap, gate)?;
-        self.persist_clock(heap, gate)
+        Ok(self.settle(heap, gate)?)
     }
 
     // Whether no clock is ahead.
@@ -232,15 +230,31 @@ impl Advancer {
         Ok(())
     }
 
-    // Writes back what the units have listed, unless it is written back.
-    fn write_back<G: Gate>(&mut self, heap: &Heap, gate: &mut G) -> Result<(), AdvanceRefusal>
+    // Behind all units: writes back what they have listed, moves the clock, makes it durable and
+    // answers it.
+    fn settle<G: Gate>(&mut self, heap: &Heap, gate: &mut G) -> Result<Epoch, Cut>
         requires heap { self.old.table ≡ heap.now.table }
         requires layout { IsOfLayout heap.now.opening.layout self.old.known }
         requires passed { has_passed self.old.known.part ≡ true }
-        ensures gate { IsAskedOften G.cuts G.endless gate.old gate.new (was_cut result) }
+        ensures gate { IsAskedOften G.cuts G.endless gate.old gate.new (is_err result) }
+        ensures same { IsSameSeat self.old self.new }
+        ensures ok { IfOk result (λ clock. IsAdvanced self.old.known clock self.new.known) }
+        ensures begun { IfOk result (λ clock. clock_of heap.now.opening.words < clock) }
+        ensures refused { OnErr result (IsUnderWay self.old.known self.new.known) }
+    {
+        self.write_back(heap, gate)?;
+        self.move_clock(heap, gate)?;
+        self.persist_clock(heap, gate)
+    }
+
+    // Writes back what the units have listed, unless it is written back.
+    fn write_back<G: Gate>(&mut self, heap: &Heap, gate: &mut G) -> Result<(), Cut>
+        requires heap { self.old.table ≡ heap.now.table }
+        requires layout { IsOfLayout heap.now.opening.layout self.old.known }
+        requires passed { has_passed self.old.known.part ≡ true }
+        ensures gate { IsAskedOften G.cuts G.endless gate.old gate.new (is_err result) }
         ensures same { IsSameSeat self.old self.new }
         ensures way { IsUnderWay self.old.known self.new.known }
-        ensures reason { IfErr result (λ why. why ≡ Cut) }
         ensures ok { OnOk result (IsReady self.new.known) }
     {
         match self.stage {
@@ -253,13 +267,12 @@ impl Advancer {
     }
 
     // Moves the clock, unless it has moved.
-    fn move_clock<G: Gate>(&mut self, heap: &Heap, gate: &mut G) -> Result<(), AdvanceRefusal>
+    fn move_clock<G: Gate>(&mut self, heap: &Heap, gate: &mut G) -> Result<(), Cut>
         requires heap { self.old.table ≡ heap.now.table }
         requires ready { IsReady self.old.known }
-        ensures gate { IsAskedOften G.cuts G.endless gate.old gate.new (was_cut result) }
+        ensures gate { IsAskedOften G.cuts G.endless gate.old gate.new (is_err result) }
         ensures same { IsSameSeat self.old self.new }
         ensures way { IsUnderWay self.old.known self.new.known }
-        ensures reason { IfErr result (λ why. why ≡ Cut) }
         ensures ok { OnOk result (is_clocked self.new.known.part ≡ true) }
     {
         match self.stage {
@@ -274,15 +287,14 @@ impl Advancer {
     }
 
     // Makes the clock durable.
-    fn persist_clock<G: Gate>(&mut self, heap: &Heap, gate: &mut G) -> Result<Epoch, AdvanceRefusal>
+    fn persist_clock<G: Gate>(&mut self, heap: &Heap, gate: &mut G) -> Result<Epoch, Cut>
         requires heap { self.old.table ≡ heap.now.table }
         requires moved { is_clocked self.old.known.part ≡ true }
-        ensures gate { IsAskedOften G.cuts G.endless gate.old gate.new (was_cut result) }
+        ensures gate { IsAskedOften G.cuts G.endless gate.old gate.new (is_err result) }
         ensures same { IsSameSeat self.old self.new }
         ensures ok { IfOk result (λ clock. IsAdvanced self.old.known clock self.new.known) }
         ensures begun { IfOk result (λ clock. clock_of heap.now.opening.words < clock) }
         ensures refused { OnErr result (self.new ≡ self.old) }
-        ensures reason { IfErr result (λ why. why ≡ Cut) }
     {
         heap.persist_clock(&mut self.seat, gate)?;
         self.stage = AdvStage::Rest;
