@@ -11,3 +11,4 @@ pub mod StoppedCores
 pub mod StoppedCuts
 pub mod AllSeats
 pub mod FlushedWords
+pub mod PushedSlots

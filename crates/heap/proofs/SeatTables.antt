@@ -18,6 +18,7 @@ use Rattle.core_steps.proofs.Decisions.{both, le_true}
 use Rattle.heap_rule.specs.declared.views.AdvKnown.{AdvKnown}
 use Rattle.heap_rule.specs.declared.views.CallerKnown.{CallerKnown}
 use Rattle.heap_rule.specs.declared.views.UnitKnown.{UnitKnown}
+use Rattle.heap_rule.specs.declared.views.UnitTurn.{UnitTurn}
 use Rattle.heap_rule.specs.declared.views.View.{View}
 use Rattle.heap_rule.specs.Views.{Cell, Seated, home_turn, listing, list_place, listed_in, list_at, unit_view, advancer_view, the_unit, the_advancer, unit_took, advancer_took, slot_at_hand, field_at_hand, odd_announcement, caller_view, pair_view, with_callers}
 use Rattle.heap_rule.specs.TableWords.{announcement_place, durable_place, word_count}
@@ -154,6 +155,30 @@ module _ (t : TableId) (unit epoch entries newest durable : ℕ) (m : Seated) (k
       → n ≡ (unit_view (the_unit m.0), (list_place (the_unit m.0).unit (epoch_of (the_unit m.0).part.stage), Some l) ∷ [])
   gave_slot i n l away at is =
       is ∙ (λ j. ((k.whole j).0, ((at ∙ (λ j. list_place (k.number j) (k.epoch_is j))) j, Some l) ∷ rest (one_out away j)))
+
+  -- nothing is out with a unit's seat whose list is at home
+  none_out : (the_unit m.0).turn ≡ home_turn → m.1 ≡ []
+  none_out home = let h : UnitKnown = the_unit m.0 in
+      ap (λ (x : Seated). x.1) k.whole
+      ∙ ap (λ (t : UnitTurn). cond t.out ((list_place h.unit (epoch_of h.part.stage), None) ∷ []) []) home
+
+  -- the seat once its list was taken and pushed to where it stands
+  pub pushed_slot : (i : ℕ) (n : Seated) (l : Roomy) → (the_unit m.0).turn ≡ home_turn → i ≡ list_place unit epoch
+      → n ≡ (
+        unit_view (unit_took (the_unit m.0)),
+        (
+          list_place (the_unit m.0).unit (epoch_of (the_unit m.0).part.stage),
+          listing (the_unit m.0).room (listed_in (the_unit m.0) ++ (the_unit m.0).turn.pushed),
+        ) ∷ m.1,
+      )
+      → ◌≡◌ {A = Seated} (n.0, (i, Some l) ∷ rest n.1) (
+        unit_view (unit_took (the_unit m.0)),
+        (list_place (the_unit m.0).unit (epoch_of (the_unit m.0).part.stage), Some l) ∷ [],
+      )
+  pushed_slot i n l home at is = λ j. (
+    (is j).0,
+    ((at ∙ (λ j. list_place (k.number j) (k.epoch_is j))) j, Some l) ∷ (ap (λ (x : Seated). rest x.1) is ∙ none_out home) j,
+  )
 
   pub out_slot : (i : ℕ) → (the_unit m.0).turn.out ≡ true → i ≡ list_place unit epoch → (x : Cell) × (m.1 ≡ (i, x) ∷ rest m.1)
   out_slot i away at =

@@ -10,6 +10,7 @@ mod dealing;
 mod flush_calls;
 mod fresh_heap;
 mod heap;
+mod in_slot;
 mod list_calls;
 mod news;
 mod next_answer;
@@ -21,6 +22,7 @@ mod store_calls;
 mod unit_calls;
 
 pub use heap::Heap;
+pub use in_slot::InSlot;
 pub use news::News;
 pub use next_answer::NextAnswer;
 pub use opening::Seats;

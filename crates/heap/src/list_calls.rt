@@ -1,11 +1,12 @@
 // Lists of slots, moved out of the table and back into it. No word changes, and no gate is asked.
-ghost use Rattle.std.specs.Prelude.{◌≡◌, ◌<◌, ◌++◌, [], true, false, IsTrue};
+ghost use Rattle.std.specs.Prelude.{◌≡◌, ◌<◌, ◌≤◌, ◌+◌, ◌++◌, [], length, map, true, false, IsTrue};
 ghost use Rattle.mont_base.specs.declared.constants.TheConstants.{MOST_UNITS};
 ghost use Rattle.core_steps.specs.Stages.{is_within, passed_of};
 ghost use Rattle.heap_rule.specs.Plays.{HasRoom, AreSlots};
-ghost use Rattle.heap_rule.specs.Views.{list_place, listed_in, slots_written, list_at, unit_took, unit_gave, advancer_took, advancer_gave};
+ghost use Rattle.heap_rule.specs.Views.{home_turn, list_place, listed_in, slots_written, list_at, unit_took, unit_gave, advancer_took, advancer_gave};
 
 use crate::heap::Heap;
+use crate::in_slot::InSlot;
 use crate::seats::{AdvSeat, UnitSeat};
 use heap_rule::{GivesEmpty, GivesList, TakesFull, TakesList};
 use mont_base::{Epoch, SlotList, Unit};
@@ -46,6 +47,24 @@ impl Heap {
     {
         let home = place(seat.unit, seat.epoch);
         let _ = self.table.shared.exchange(&mut seat.seat, home, Some(list));
+        self.table.shared.load::<GivesList>(&mut seat.seat, 0);
+    }
+
+    /// Pushes the slots of all that the unit has written behind its list of its epoch, where that
+    /// stands: `take_list`, a push for each, and `give_list`, without a copy of the list.
+    pub fn list_written<W: InSlot>(&self, seat: &mut UnitSeat, written: &[W])
+        requires heap { seat.old.table ≡ self.now.table }
+        requires may { IsTrue (is_within seat.old.known.part.stage) }
+        requires home { seat.old.known.turn ≡ home_turn }
+        requires written { map W.in_slot written.now ≡ slots_written seat.old.known.part }
+        ensures { seat.new ≡ record { table = seat.old.table; known = unit_gave seat.old.known } }
+    {
+        let place = place(seat.unit, seat.epoch);
+        self.table.shared.load::<TakesList>(&mut seat.seat, 0);
+        match seat.seat.slot_mut(&self.table.shared, place) {
+            Some(list) => push_slots(list, written),
+            None => unreachable!(),
+        }
         self.table.shared.load::<GivesList>(&mut seat.seat, 0);
     }
 
@@ -95,4 +114,17 @@ fn place(unit: Unit, epoch: Epoch) -> usize
     ensures { result ≡ list_place unit epoch }
 {
     (2 * unit + epoch % 2) as usize
+}
+
+// Pushes the slots of what was written, in their order.
+fn push_slots<W: InSlot>(list: &mut SlotList, written: &[W])
+    requires { length list.old.slots + length written.now ≤ list.old.room }
+    ensures { list.new ≡ record {
+      slots = list.old.slots ++ map W.in_slot written.now;
+      room = list.old.room;
+    } }
+{
+    for one in written {
+        list.push(one.slot());
+    }
 }

@@ -1,5 +1,4 @@
 pub mod Halts
 pub mod Room
 pub mod Begins
-pub mod Lists
 pub mod Committed

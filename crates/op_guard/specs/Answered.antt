@@ -1,5 +1,5 @@
 -- What an answer leaves of a region and of the caller.
-use Rattle.std.specs.Prelude.{◌≡◌, ℕ, max, List, map}
+use Rattle.std.specs.Prelude.{◌≡◌, ℕ, max}
 use Rattle.mont_base.specs.declared.operation.Op.{Op}
 use Rattle.mont_base.specs.declared.operation.Receipt.{Receipt}
 use Rattle.mont_base.specs.declared.operation.Reply.{Reply}
@@ -8,7 +8,6 @@ use Rattle.heap.specs.HeapShown.{HeapShown, CallerShown}
 use Rattle.heap.specs.Receipts.{receipt_of}
 use Rattle.heap_rule.specs.Plays.{IsClock, IsNotBeyond, answer_of}
 use Rattle.heap_rule.specs.Views.{caller_answered}
-use Rattle.slots.specs.declared.books.Written.{Written}
 use Rattle.slots.specs.Books.{RegionShown, books_showing}
 use Rattle.slots.specs.Reclaiming.{IsSound}
 use Rattle.op_guard.specs.Regions.{IsReady}
@@ -28,10 +27,6 @@ pub record HasAnswered
   pub ready : IsReady heap new
   pub sound_before : IsSound heap old
   pub sound : IsSound heap new
-
--- the slots of records that were written, in their order
-abbrev pub slots_of_written : List Written → List ℕ
-slots_of_written ws = map (λ (w : Written). w.held.slot) ws
 
 -- what was written became records
 pub record HasCommitted

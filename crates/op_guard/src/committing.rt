@@ -1,21 +1,19 @@
 // How an operation ends: its slots are listed for the advancer, and the unit leaves with one entry.
-ghost use Rattle.std.specs.Prelude.{◌≡◌, ◌≤◌, ◌+◌, [], ◌∷◌, ◌++◌, IfOk, OnOk, OnErr, IsTrue, is_err, length};
+ghost use Rattle.std.specs.Prelude.{◌≡◌, ◌≤◌, ◌+◌, [], ◌∷◌, ◌++◌, IfOk, OnOk, OnErr, is_err};
 ghost use Rattle.core_steps.specs.CallAnswers.{CanLeave};
-ghost use Rattle.core_steps.specs.Stages.{is_within};
 ghost use Rattle.heap.specs.GateAsked.{IsAskedOften};
 ghost use Rattle.heap_pass.specs.KeptReceipt.{KeepsReceipt};
 ghost use Rattle.heap_pass.specs.Spare.{spare_of};
-ghost use Rattle.heap_rule.specs.Views.{home_turn, unit_gave};
-ghost use Rattle.op_guard.specs.Answered.{HasCommitted, slots_of_written};
-ghost use Rattle.op_guard.specs.Regions.{IsUnderWay, IsRunning, KeepsStage, WasHalted};
+ghost use Rattle.op_guard.specs.Answered.{HasCommitted};
+ghost use Rattle.op_guard.specs.Regions.{IsUnderWay, KeepsStage, WasHalted};
 
 use crate::answer_place::{answer_place, keep};
 use crate::guard::Guard;
 use crate::halting::or_halt;
 use heap::Heap;
 use heap_pass::{Pass, last_receipt};
-use mont_base::{Cut, Gate, Op, Receipt, Reply, SlotList};
-use slots::{Region, Written};
+use mont_base::{Cut, Gate, Op, Receipt, Reply};
+use slots::Region;
 
 /// Ends an operation whose changes are all written: the unit leaves its epoch with one entry, and
 /// the pass keeps the receipt.
@@ -52,7 +50,7 @@ pub fn keep_commit<G: Gate>(
         written: _,
     } = guard;
     let place = answer_place(region, &pass.ticket);
-    list_written(heap, region);
+    region.list_written(heap);
     let left = heap.leave_epoch(
         region.seat_mut(),
         &mut pass.ticket,
@@ -94,33 +92,4 @@ pub fn commit<G: Gate>(
 {
     keep_commit(guard, heap, region, pass, op, reply)?;
     Ok(last_receipt(&pass.receipts))
-}
-
-// Pushes the written slots behind the unit's list of its epoch.
-fn list_written(heap: &Heap, region: &mut Region)
-    requires runs { IsRunning heap.now region.old }
-    requires within { IsTrue (is_within region.old.seat.known.part.stage) }
-    requires home { region.old.seat.known.turn ≡ home_turn }
-    ensures books { region.new.books ≡ region.old.books }
-    ensures seat { region.new.seat ≡ record {
-      table = region.old.seat.table;
-      known = unit_gave region.old.seat.known;
-    } }
-{
-    let mut list = heap.take_list(region.seat_mut());
-    push_slots(&mut list, region.written());
-    heap.give_list(region.seat_mut(), list);
-}
-
-// Pushes the slots of written records, in their order.
-fn push_slots(list: &mut SlotList, written: &[Written])
-    requires { length list.old.slots + length written.now ≤ list.old.room }
-    ensures { list.new ≡ record {
-      slots = list.old.slots ++ slots_of_written written.now;
-      room = list.old.room;
-    } }
-{
-    for one in written {
-        list.push(one.held.slot);
-    }
 }

@@ -16,3 +16,4 @@ mod VersionSorts
 mod Findings
 mod Recoverings
 mod Seen
+mod Listed

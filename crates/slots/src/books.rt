@@ -13,6 +13,7 @@ ghost use Rattle.slots.specs.WrittenRecords.{is_insert, has_serial, serial_in, i
 ghost use Rattle.slots.specs.Reclaiming.{first_due};
 ghost use Rattle.slots.specs.Rooms.{first_slot, placed, retired_with, at_front, settled, IsOwnSlot, IsInRows};
 
+use heap::InSlot;
 use mont_base::{Change, Epoch, Held, Kind, Layout, Slot, Unit, UnitKind};
 use mont_laws::Retired;
 use std::alloc::{AllocError, Global};
@@ -25,6 +26,14 @@ use std::marker::Model;
 pub struct Written {
     pub held: Held,
     pub before: Option<Slot>,
+}
+
+impl InSlot for Written {
+    ghost in_slot = { λ w. w.held.slot };
+
+    fn slot(&self) -> Slot {
+        self.held.slot
+    }
 }
 
 // All lists have room for as many slots as the unit has.
@@ -101,6 +110,13 @@ impl Books {
             sweeping: false,
             halted: None,
         })
+    }
+
+    // What was written in the epoch that the unit hasn't left.
+    pub(crate) fn written(&self) -> &[Written]
+        ensures { result.now ≡ self.now.written }
+    {
+        &self.written
     }
 
     // The record of a slot's row; none where the slot is another unit's.

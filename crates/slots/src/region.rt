@@ -3,7 +3,8 @@ ghost use Rattle.std.specs.Prelude.{◌≡◌, length, Some, None, IsTrue};
 ghost use Rattle.std.specs.Borrow.{sem};
 ghost use Rattle.std.specs.Option.{option_copied};
 ghost use Rattle.mont_base.specs.Layout.{units_of};
-ghost use Rattle.heap_rule.specs.Views.{are_clean, unit_frozen, caller_cut};
+ghost use Rattle.core_steps.specs.Stages.{is_within};
+ghost use Rattle.heap_rule.specs.Views.{are_clean, home_turn, unit_frozen, unit_gave, caller_cut};
 ghost use Rattle.slots.specs.Books.{Agrees, IsRegionOf, record_in};
 ghost use Rattle.slots.specs.Lending.{LendsSeat};
 
@@ -85,7 +86,7 @@ impl Region {
     pub fn written(&self) -> &[Written]
         ensures { result.now ≡ self.now.books.written }
     {
-        &self.books.written
+        self.books.written()
     }
 
     /// The record that stands in a slot.
@@ -102,6 +103,21 @@ impl Region {
         ensures value { result.now ≡ self.old.seat }
     {
         &mut self.seat
+    }
+
+    /// Pushes the slots of what was written behind the unit's list of its epoch, in their order.
+    pub fn list_written(&mut self, heap: &Heap)
+        requires heap { IsRegionOf heap.now self.old }
+        requires agrees { Agrees self.old }
+        requires within { IsTrue (is_within self.old.seat.known.part.stage) }
+        requires home { self.old.seat.known.turn ≡ home_turn }
+        ensures books { self.new.books ≡ self.old.books }
+        ensures seat { self.new.seat ≡ record {
+          table = self.old.seat.table;
+          known = unit_gave self.old.seat.known;
+        } }
+    {
+        heap.list_written(&mut self.seat, self.books.written());
     }
 
     /// Halts the unit for good, as one in which the caller was cut. No gate is asked.

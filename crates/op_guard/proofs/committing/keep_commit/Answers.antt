@@ -19,7 +19,7 @@ returns-clause-committed g c =
     let left = c.leave_epoch-left.new in
     let is = sym c.or_halt.ensures.same ∙ c.in_ok-epoch.was in
     let seat : lent ≡ seat_gave old = c.seat_mut.ensures.value ∙ c.list_written.ensures.seat in
-    let kept = subst (λ z. OnOk z ((c.or_halt.new.region ≡ record { seat = left.seat; books = c.list_written.new.region.books })
+    let kept = subst (λ z. OnOk z ((c.or_halt.new.region ≡ record { seat = left.seat; books = c.list_written.new.self.books })
     × (c.or_halt.new.ticket ≡ left.ticket))) is c.or_halt.ensures.ok in
     let epoch = IfOk-at_ok (λ (x : ℕ). x ≡ epoch_of lent.known.part.stage) is given.epoch in
     let front = subst (λ z. OnOk z (IsNotBeyond q.known lent.known)) is given.front in
