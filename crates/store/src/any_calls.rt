@@ -28,6 +28,7 @@ impl<N: HeapName, I: Index> Store<N, I> {
     }
 
     // The unit of an operation that has one.
+    #[inline(always)]
     fn unit_of(&self, op: &Op) -> Unit
         requires { IsSome (unit_of_op N.heap.opening.layout op.now) }
         ensures { IsOpOf N.heap.opening.layout result op.now }

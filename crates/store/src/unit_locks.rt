@@ -87,6 +87,7 @@ impl<N: HeapName, I: Index> Store<N, I> {
 
 // Carries an operation of the unit with this number out, under its lock, and keeps the receipt in
 // the pass.
+#[inline(always)]
 fn call_at<const UNIT: u64, R: Wait, N: HeapName, I: Index, G: Gate>(
     rt: &R,
     heap: &Heap,
