@@ -1,10 +1,9 @@
 -- A store that was never used opens with the fresh core.
-use Rattle.std.proofs.Common.{◌≡◌, ℕ, zero, suc, ◌+◌, ◌*◌, ◌<◌, Bool, true, false, cond, List, [], ◌∷◌, map, replicate, ap, refl, ◌∙◌, subst, arith, eq-eqb}
-use Rattle.std.specs.Prelude.{filter, nat_lt, ◌==◌, ◌||◌, ◌&&◌, slice_set}
+use Rattle.std.proofs.Common.{◌≡◌, ℕ, zero, suc, ◌+◌, ◌<◌, Bool, true, false, cond, List, [], ◌∷◌, map, replicate, ap, refl, ◌∙◌, subst, arith, eq-eqb}
+use Rattle.std.specs.Prelude.{filter, nat_lt, ◌==◌, ◌||◌, ◌&&◌}
 use Rattle.std.specs.List.{range_with_len}
-use Rattle.mont_base.specs.declared.constants.TheConstants.{FIELDS, FIRST_CLOCK}
 use Rattle.mont_base.specs.declared.record.Held.{Held}
-use Rattle.mont_base.specs.Layout.{Shape, IsLayout, units_of, total_of, words_of}
+use Rattle.mont_base.specs.Layout.{Shape, IsLayout, units_of}
 use Rattle.mont_base.specs.Image.{cut_of, epoch_at, slots_of}
 use Rattle.mont_laws.specs.Records.{AreSameRecords}
 use Rattle.mont_laws.specs.Retiring.{retired_among}
@@ -101,8 +100,3 @@ module _ (s : Shape) (layout : IsLayout s) where
     each_unit = λ u low. nothing_recovered u;
     clean = all_clean callers;
   }
-
--- zeros with the first clock before them
-pub first_words : (s : Shape) (ws : List ℕ) (n : ℕ) → n ≡ words_of s → ws ≡ slice_set (replicate n 0) 0 FIRST_CLOCK → ws ≡ fresh_words s
-first_words s ws n e is =
-    let more : n ≡ suc (FIELDS * total_of s) = omega (arith, e) in is ∙ ap (λ (k : ℕ). slice_set (replicate k 0) 0 FIRST_CLOCK) more

@@ -1,6 +1,6 @@
 -- Slots that are pushed behind a list.
 use Rattle.std.proofs.Common.{◌≡◌, ◌<◌, ◌≤◌, ◌+◌, ℕ, List, [], ◌∷◌, ◌++◌, append-nil, length, length-append, map, None, Some, sym, ap, ◌∙◌, arith}
-use Rattle.std.proofs.lemmas.List.{length-map}
+use Rattle.std.proofs.lemmas.List.{length-map, nil_from_length}
 use Rattle.mont_base.specs.declared.record.Held.{Held}
 use Rattle.mont_base.specs.SlotLists.{Roomy}
 use Rattle.heap_rule.specs.declared.views.UnitKnown.{UnitKnown}
@@ -33,6 +33,11 @@ pub found_list : (cells others behind : List (ℕ × Cell)) (i place : ℕ) (x :
 unfolding first_list list_or
 found_list cells others behind i place x l m found is lies =
     sym (ap (first_list l) (found ∙ (λ j. (i, is j) ∷ others))) ∙ ap (first_list l) lies
+
+-- one without slots is the empty one of its room
+pub none_found : (l : Roomy) (slots : List ℕ) (room : ℕ) → l ≡ record { slots = slots; room = room } → length l.slots ≡ 0
+    → l ≡ record { slots = []; room = room }
+none_found l slots room is none = λ j. record { slots = nil_from_length l.slots none j; room = (ap (λ (l : Roomy). l.room) is) j }
 
 -- the list with all slots that were written behind it
 pub list_due : {W : Type 0} (slot : W → ℕ) (h : UnitKnown) (written : List W) (l n : Roomy) → h.turn ≡ home_turn

@@ -215,6 +215,32 @@ module _ (t : TableId) (part : AdvPart) (clock durable emptied : ℕ) (m : Seate
   empty_slot i u n l away at next is list =
       is ∙ (λ j. ((k.whole j).0, ((at ∙ (λ j. list_place (next j) (k.clock_is j + 1))) j, Some (list j)) ∷ rest (one_full away j)))
 
+  -- nothing is out with the seat while each list is at home
+  none_full : (the_advancer m.0).turn.out ≡ false → m.1 ≡ []
+  none_full home = let a : AdvKnown = the_advancer m.0 in
+      ap (λ (x : Seated). x.1) k.whole ∙ ap (λ b. cond b ((list_place a.turn.emptied (a.clock + 1), None) ∷ []) []) home
+
+  -- the seat once an empty list was taken and stands where it did
+  pub stood_slot : (i u : ℕ) (n : Seated) (l : Roomy) → (the_advancer m.0).turn.out ≡ false → i ≡ list_place u (clock + 1)
+      → u ≡ (the_advancer m.0).turn.emptied
+      → n ≡ (
+        advancer_view (advancer_took (the_advancer m.0)),
+        (
+          list_place (the_advancer m.0).turn.emptied ((the_advancer m.0).clock + 1),
+          listing (the_advancer m.0).room (list_at (the_advancer m.0).lists (the_advancer m.0).turn.emptied),
+        ) ∷ m.1,
+      )
+      → l ≡ record { slots = []; room = (the_advancer m.0).room }
+      → ◌≡◌ {A = Seated} (n.0, (i, Some l) ∷ rest n.1) (
+        advancer_view (advancer_took (the_advancer m.0)),
+        (list_place (the_advancer m.0).turn.emptied ((the_advancer m.0).clock + 1), listing (the_advancer m.0).room []) ∷ [],
+      )
+  stood_slot i u n l home at next is list = λ j. (
+    (is j).0,
+    ((at ∙ (λ j. list_place (next j) (k.clock_is j + 1))) j, Some (list j))
+        ∷ (ap (λ (x : Seated). rest x.1) is ∙ none_full home) j,
+  )
+
   pub out_full : (i u : ℕ) → (the_advancer m.0).turn.out ≡ true → i ≡ list_place u (clock + 1) → u ≡ (the_advancer m.0).turn.emptied
       → (x : Cell) × (m.1 ≡ (i, x) ∷ rest m.1)
   out_full i u away at next =

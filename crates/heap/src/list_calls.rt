@@ -1,5 +1,5 @@
 // Lists of slots, moved out of the table and back into it. No word changes, and no gate is asked.
-ghost use Rattle.std.specs.Prelude.{◌≡◌, ◌<◌, ◌≤◌, ◌+◌, ◌++◌, [], length, map, true, false, IsTrue};
+ghost use Rattle.std.specs.Prelude.{◌≡◌, ◌<◌, ◌≤◌, ◌+◌, ◌++◌, [], length, map, true, false, IsTrue, IfSome, IfNone, OnSome};
 ghost use Rattle.mont_base.specs.declared.constants.TheConstants.{MOST_UNITS};
 ghost use Rattle.core_steps.specs.Stages.{is_within, passed_of};
 ghost use Rattle.heap_rule.specs.Plays.{HasRoom, AreSlots};
@@ -83,12 +83,48 @@ impl Heap {
         ensures out { seat.new
             ≡ record { table = seat.old.table; known = advancer_took seat.old.known } }
     {
-        let place = place(unit, seat.clock + 1);
+        let home = place(unit, seat.clock + 1);
         self.table.shared.load::<TakesFull>(&mut seat.seat, 0);
-        match self.table.shared.exchange(&mut seat.seat, place, None) {
+        match self.table.shared.exchange(&mut seat.seat, home, None) {
             Some(list) => list,
             None => unreachable!(),
         }
+    }
+
+    /// Takes the full list of the next unit, which was passed, out where it has slots. An empty one
+    /// is given back where it stands: `take_full` and `give_empty`, and nothing is moved.
+    pub fn take_listed(&self, seat: &mut AdvSeat, unit: Unit) -> Option<SlotList>
+        requires heap { seat.old.table ≡ self.now.table }
+        requires next { unit ≡ seat.old.known.turn.emptied }
+        requires inside { unit < seat.old.known.units }
+        requires passed { unit < passed_of seat.old.known.units seat.old.known.part }
+        requires home { seat.old.known.turn.out ≡ false }
+        ensures list { IfSome result (λ list. list ≡ record {
+          slots = list_at seat.old.known.lists unit;
+          room = seat.old.known.room;
+        }) }
+        ensures some { IfSome result (λ list. 0 < length list.slots) }
+        ensures slots { AreSlots seat.old.known (list_at seat.old.known.lists unit) }
+        ensures out { OnSome result (seat.new
+            ≡ record { table = seat.old.table; known = advancer_took seat.old.known }) }
+        ensures none { IfNone result (list_at seat.old.known.lists unit ≡ []) }
+        ensures back { IfNone result (seat.new ≡ record {
+          table = seat.old.table;
+          known = advancer_gave (advancer_took seat.old.known);
+        }) }
+    {
+        let place = place(unit, seat.clock + 1);
+        self.table.shared.load::<TakesFull>(&mut seat.seat, 0);
+        let empty = match seat.seat.slot_mut(&self.table.shared, place) {
+            Some(list) => list.is_empty(),
+            None => unreachable!(),
+        };
+        if !empty {
+            return self.table.shared.exchange(&mut seat.seat, place, None);
+        }
+        self.table.shared.load::<GivesEmpty>(&mut seat.seat, 0);
+        seat.emptied += 1;
+        None
     }
 
     /// Gives it back empty.

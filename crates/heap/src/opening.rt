@@ -12,7 +12,7 @@ use crate::heap::Heap;
 use crate::seats::{AdvSeat, Ticket, UnitSeat};
 use atomic_table::{Refused, Seat, Table};
 use core_steps::AdvPart;
-use heap_rule::{Cell, Opening, Rule, View};
+use heap_rule::{Cell, Opening, OpeningWords, Rule, View};
 use mont_base::{Epoch, Layout, Sequence, SlotList};
 use std::alloc::{AllocError, Global};
 
@@ -38,28 +38,33 @@ impl Heap {
             (record { layout = layout; words = words.now; callers = callers })
             r.0 r.1.units.items r.1.advancer r.1.callers.items) }
     {
-        let words = Sequence::from_vec(Vec::from_slice(alloc, words)?);
-        Heap::opened(
-            alloc,
-            Opening {
-                layout,
-                words,
-                callers,
-            },
-        )
+        let all = table_words(alloc, layout, words)?;
+        let given = Sequence::from_vec(Vec::from_slice(alloc, words)?);
+        let opening = Opening {
+            layout,
+            words: OpeningWords::given(layout, given),
+            callers,
+        };
+        Heap::opened(alloc, opening, &all)
     }
 
-    // The heap that opens so, and its seats.
-    pub(crate) fn opened(alloc: Global, opening: Opening) -> Result<(Heap, Seats), AllocError>
+    // The heap that opens so, with these words of its table, and its seats.
+    pub(crate) fn opened(
+        alloc: Global,
+        opening: Opening,
+        words: &[u64],
+    ) -> Result<(Heap, Seats), AllocError>
         requires callers { (1 ≤ opening.callers) × (opening.callers ≤ 8) }
         requires words { IsWellFormed opening.layout opening.words }
+        requires laid { words.now
+            ≡ laid_out opening.words opening.words (replicate (units_of opening.layout) 0) }
         ensures { IfOk result (λ r. Opens opening
             r.0 r.1.units.items r.1.advancer r.1.callers.items) }
     {
-        let (heap, mut all) = table_of(alloc, &opening)?;
+        let (heap, mut all) = table_of(alloc, &opening, words)?;
         let units = heap.deal_units(alloc, &mut all)?;
         let callers = heap.deal_callers(alloc, &mut all, opening.callers)?;
-        let clock = opening.words.as_slice()[0];
+        let clock = words[0];
         let advancer = heap.advancer_left(all, clock);
         let seats = Seats {
             units,
@@ -95,15 +100,20 @@ impl Heap {
 }
 
 // The heap, and a seat that knows all.
-fn table_of(alloc: Global, opening: &Opening) -> Result<(Heap, Seat<Cell, View>), AllocError>
-    requires { IsWellFormed opening.now.layout opening.now.words }
+fn table_of(
+    alloc: Global,
+    opening: &Opening,
+    words: &[u64],
+) -> Result<(Heap, Seat<Cell, View>), AllocError>
+    requires well_formed { IsWellFormed opening.now.layout opening.now.words }
+    requires laid { words.now ≡ laid_out opening.now.words opening.now.words
+        (replicate (units_of opening.now.layout) 0) }
     ensures { IfOk result (λ r. (r.0.opening ≡ opening.now)
         × (r.1.table_id ≡ r.0.table) × (r.1.me ≡ (view_without r.0.opening 0 0, []))) }
 {
     let layout = opening.layout;
-    let words = table_words(alloc, layout, opening.words.as_slice())?;
     let lists = empty_lists(alloc, 2 * layout.units(), layout.slots())?;
-    match Table::<Cell, View, Opening, Rule, Global>::new(alloc, words.as_slice(), lists, opening) {
+    match Table::<Cell, View, Opening, Rule, Global>::new(alloc, words, lists, opening) {
         Ok((table, all)) => Ok((Heap { table, layout }, all)),
         Err(Refused { slots: _ }) => Err(AllocError),
     }

@@ -129,7 +129,7 @@ fn words_from(
 {
     let mut words = Vec::with_capacity(alloc, count as usize)?;
     for place in 0..count {
-        words.push(closed.word((first + place) as usize))?;
+        words.push_reserved(closed.word((first + place) as usize));
     }
     Ok(Sequence::from_vec(words))
 }

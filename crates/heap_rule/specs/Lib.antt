@@ -4,4 +4,5 @@ pub mod HomeLists
 pub mod Rule
 pub mod SoundUnits
 pub mod SeenEntries
+pub mod OpeningWords
 pub mod Plays

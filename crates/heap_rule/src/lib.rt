@@ -7,11 +7,13 @@
 //! layer above makes the steps. Its proofs cite the lemmas in `proofs/`.
 #![tactic(auto)]
 
+mod opening_words;
 mod plays;
 mod rule;
 mod seat_moves;
 mod views;
 
+pub use opening_words::OpeningWords;
 pub use plays::{
     Answer, Checks, ClosesLabel, Confirms, Freezes, GivesEmpty, GivesList, HearsNews, HearsUnit,
     Leaves, LoadsDurable, LoadsWord, Looks, Opened, PersistsClock, PersistsClose, PersistsWord,

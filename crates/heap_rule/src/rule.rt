@@ -1,14 +1,15 @@
 // The rule of the table.
+use crate::opening_words::OpeningWords;
 use crate::views::{Cell, View};
 use atomic_table::TableRule;
-use mont_base::{Layout, Sequence};
+use mont_base::Layout;
 
 /// What a table is told when it is made: the words with which the store opens, and how many callers
 /// it has.
 #[derive(Drop)]
 pub struct Opening {
     pub layout: Layout,
-    pub words: Sequence<u64>,
+    pub words: OpeningWords,
     pub callers: u64,
 }
 

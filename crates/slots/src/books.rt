@@ -239,11 +239,11 @@ fn all_slots(alloc: Global, layout: Layout, unit: Unit) -> Result<VecDeque<Slot>
 {
     let slots = layout.slots();
     let first = unit * slots;
-    let mut all = VecDeque::with_capacity(alloc, slots as usize)?;
+    let mut all = Vec::with_capacity(alloc, slots as usize)?;
     for place in 0..slots {
-        all.push_back_reserved(first + place);
+        all.push_reserved(first + place);
     }
-    Ok(all)
+    Ok(VecDeque::from_vec(all))
 }
 
 // Puts each written record into the row of its slot.

@@ -100,8 +100,11 @@ fn time_tick<R: Wait + Clock, N: HeapName, I: Index>(
 {
     tick(rt, store, pass)?;
     let begin = Instant::now(rt)?;
-    tick(rt, store, pass)?;
+    let ticked = store.tick(rt, pass);
     let nanos = nanos_since(rt, begin)?;
+    if let Err(why) = ticked {
+        return Err(StoreRefusal::from(why).into());
+    }
     tick(rt, store, pass)?;
     Ok(nanos)
 }
@@ -127,8 +130,12 @@ fn time_sync<R: Wait + Clock, N: HeapName, I: Index>(
     ensures { IsSamePass pass.old pass.new }
 {
     let begin = Instant::now(rt)?;
-    sync(rt, store, pass)?;
-    nanos_since(rt, begin)
+    let synced = store.sync(rt, pass);
+    let nanos = nanos_since(rt, begin)?;
+    match synced {
+        Ok(_clock) => Ok(nanos),
+        Err(why) => Err(StoreRefusal::from(why).into()),
+    }
 }
 
 pub(crate) fn sync<R: Wait, N: HeapName, I: Index>(

@@ -11,6 +11,7 @@ use store::{Store, StoreRefusal};
 
 // Makes each of these calls once, in their order. Where a unit is full, the caller syncs and calls
 // again.
+#[inline(never)]
 pub(crate) fn call_all<R: Wait, N: HeapName, I: Index>(
     rt: &R,
     store: &Store<N, I>,

@@ -1,14 +1,15 @@
 -- A flush that stands where the seat stands, and each of its moves.
 use Rattle.std.proofs.Common.{◌≡◌, ℕ, ◌+◌, ◌*◌, ◌<◌, Bool, true, false, List, [], length, cond, refl, sym, ap, ◌∙◌, subst, arith}
-use Rattle.std.specs.Prelude.{slice_get, slice_index, Some, None}
+use Rattle.std.specs.Prelude.{slice_get, slice_index, is_some, Some, None}
 use Rattle.std.proofs.lemmas.Bool.{lt-ltb}
 use Rattle.std.proofs.lemmas.List.Elements.{All-nil, All-get_or}
 use Rattle.std.proofs.lemmas.Option.{get_or_from_slice_get, slice_get_within}
+use Rattle.mont_base.specs.SlotLists.{Roomy}
 use Rattle.mont_base.specs.Layout.{Shape, total_of}
 use Rattle.core_steps.specs.declared.parts.AdvPart.TheVariants.{Flushing, Holding}
 use Rattle.core_steps.specs.Flushing.{can_load_word}
 use Rattle.heap_rule.specs.declared.views.AdvKnown.{AdvKnown}
-use Rattle.heap_rule.specs.Views.{joined, list_at, place_at_hand, slot_at_hand, advancer_gave}
+use Rattle.heap_rule.specs.Views.{joined, list_at, place_at_hand, slot_at_hand, advancer_took, advancer_gave}
 use Rattle.write_back.specs.declared.flush.Flush.{Flush}
 use Rattle.heap_pass.specs.OfLayout.{IsOfLayout}
 use Rattle.write_back.specs.Flush.{StandsAt, slots_out, lists_taken, slots_given}
@@ -45,6 +46,37 @@ module _ (f : Flush) (a : AdvKnown) (s : StandsAt f a) where
         place = omega arith;
         field = s.field;
         none_left = λ _. s.none_left end;
+      }
+
+  -- without a list the seat has none out
+  pub is_home : is_some f.list ≡ false → a.turn.out ≡ false
+  is_home none = by a.turn.out (sym (ap is_some s.list) ∙ none)
+    where
+      by : (b : Bool)
+          → is_some {T = Roomy} (cond b (Some (record { slots = list_at a.lists a.turn.emptied; room = a.room })) None) ≡ false
+          → b ≡ false
+      by true e = e
+      by false e = refl
+
+  -- ---- a unit that listed nothing is behind
+  pub skipped : a.turn.out ≡ false → a.turn.emptied < a.units → list_at a.lists a.turn.emptied ≡ []
+      → StandsAt (record f { unit = f.unit + 1 }) (advancer_gave (advancer_took a))
+  skipped home inside none =
+      let long : length (slots_out a) ≡ 0 = ap (λ (b : Bool). length (cond b (list_at a.lists a.turn.emptied) [])) home in
+      let empty : length (list_at a.lists a.turn.emptied) ≡ 0 = ap length none in
+      let more = joined_next a.lists a.turn.emptied in
+      let given : slots_given a + f.at ≡ slots_given (advancer_gave (advancer_took a)) + f.at = omega arith in
+      let place = s.place in record {
+        part = s.part
+            ∙ ap (λ (n : ℕ). cond f.held (Holding n f.field a.loaded) (Flushing n f.field)) given;
+        unit = ap (λ (n : ℕ). n + 1) s.unit;
+        units = omega arith;
+        list = s.list
+            ∙ ap (λ (b : Bool). cond b (Some (record { slots = list_at a.lists a.turn.emptied; room = a.room })) None) home;
+        slots = All-nil (λ (slot : ℕ). slot < a.units * a.room);
+        place = omega arith;
+        field = s.field;
+        none_left = λ _. s.none_left (omega arith);
       }
 
   -- ---- the word at hand

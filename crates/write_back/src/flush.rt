@@ -1,5 +1,5 @@
 // A flush: where it stands, and how it goes on through the lists of all units.
-ghost use Rattle.std.specs.Prelude.{◌≡◌, ◌+◌, ◌*◌, ◌^◌, ◌<◌, true, false, is_err, length, slice_get, OnOk, OnErr, Some};
+ghost use Rattle.std.specs.Prelude.{◌≡◌, ◌+◌, ◌*◌, ◌^◌, ◌<◌, true, false, is_err, IsTrue, IsFalse, length, slice_get, OnOk, OnErr, Some};
 ghost use Rattle.write_back.specs.Flush.{StandsAt, IsFlushed, flush_start, slots_out, slot_in, words_done, behind_word, waiting_at, with_flush_of};
 ghost use Rattle.mont_base.specs.declared.constants.TheConstants.{FIELDS};
 ghost use Rattle.mont_base.specs.Layout.{IsLayout};
@@ -61,16 +61,20 @@ impl Flush {
         ensures left { OnErr result (seat.new.known.turn.emptied < seat.new.known.units) }
     {
         for _unit in self.unit..heap.layout().units() {
-            self.take(heap, seat);
-            self.flush_list(heap, seat, gate)?;
-            self.give(heap, seat);
+            if self.take(heap, seat) {
+                self.flush_list(heap, seat, gate)?;
+                self.give(heap, seat);
+            }
         }
         Ok(())
     }
 
-    // Takes the list of the unit out, unless it is out.
-    fn take(&mut self, heap: &Heap, seat: &mut AdvSeat)
+    // Takes the list of the unit out, unless it is out, and tells whether one is. A unit that
+    // listed nothing is behind at once.
+    fn take(&mut self, heap: &Heap, seat: &mut AdvSeat) -> bool
         requires heap { seat.old.table ≡ heap.now.table }
+        requires layout { IsOfLayout heap.now.opening.layout seat.old.known }
+        requires range { IsLayout heap.now.opening.layout }
         requires stands { StandsAt self.old seat.old.known }
         requires unit { seat.old.known.turn.emptied < seat.old.known.units }
         ensures stands { StandsAt self.new seat.new.known }
@@ -78,13 +82,24 @@ impl Flush {
           table = seat.old.table;
           known = with_flush_of seat.old.known seat.new.known;
         } }
-        ensures out { seat.new.known.turn
+        ensures out { IsTrue result → seat.new.known.turn
             ≡ record { emptied = seat.old.known.turn.emptied; out = true } }
+        ensures behind { IsFalse result → seat.new.known.turn
+            ≡ record { emptied = seat.old.known.turn.emptied + 1; out = false } }
     {
         if self.list.is_some() {
-            return;
+            return true;
         }
-        self.list = Some(heap.take_full(seat, self.unit));
+        match heap.take_listed(seat, self.unit) {
+            Some(list) => {
+                self.list = Some(list);
+                true
+            }
+            None => {
+                self.unit += 1;
+                false
+            }
+        }
     }
 
     // Makes the slots of that list durable, from the word at hand on.

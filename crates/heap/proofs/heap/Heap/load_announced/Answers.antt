@@ -1,6 +1,5 @@
-use Rattle.std.proofs.Common.{◌≡◌, ap, sym, ◌∙◌, true}
+use Rattle.std.proofs.Common.{ap, sym, ◌∙◌}
 use Rattle.mont_base.specs.Layout.{units_of}
-use Rattle.core_steps.specs.declared.parts.AdvPart.TheVariants.{Rest}
 use Rattle.core_steps.specs.Advancing.{unit_at_hand}
 use Rattle.heap_rule.specs.TableWords.{announcement_place}
 use Rattle.heap_rule.specs.Views.{the_advancer, are_clean}

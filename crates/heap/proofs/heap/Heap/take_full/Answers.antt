@@ -23,12 +23,12 @@ load-requires c =
 pub exchange-requires : goal.exchange-requires
 exchange-requires c = (
   c.load.ensures.0 ∙ advancer_table _ _ _ _ c.seat.view_is c.requires.heap c.self.view_is,
-  full_slot _ _ _ _ _ c.seat.inside.seat.me c.seat.invariant _ _ _ c.place-place.ensures
+  full_slot _ _ _ _ _ c.seat.inside.seat.me c.seat.invariant _ _ _ c.place-home.ensures
       (c.requires.next ∙ sym (ap (λ (x : AdvShown). x.known.turn.emptied) c.seat.view_is)) c.load.ensures.2.0,
 )
 
-pub place-place-requires : goal.place-place-requires
-place-place-requires c =
+pub place-home-requires : goal.place-home-requires
+place-home-requires c =
     let inside = c.requires.inside in
     let few = c.seat.invariant.few in
     let same = ap (λ (x : AdvShown). x.known.units) c.seat.view_is in
