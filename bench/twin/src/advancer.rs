@@ -94,17 +94,16 @@ impl Advancer {
     /// The words of the slots that the units listed in the epoch before the clock get durable.
     fn write_back(&mut self, heap: &Heap, gate: &mut Fuel) -> Result<(), Cut> {
         while self.unit < heap.layout.units() {
-            let list = match self.list.take() {
-                Some(list) => list,
-                None => heap.take_full(self.unit, self.clock - 1),
-            };
-            let flushed = self.flush(heap, &list, gate);
-            if flushed.is_err() {
-                self.list = Some(list);
-                return flushed;
+            let listed = self.list.take().or_else(|| heap.take_listed(self.unit, self.clock - 1));
+            if let Some(list) = listed {
+                let flushed = self.flush(heap, &list, gate);
+                if flushed.is_err() {
+                    self.list = Some(list);
+                    return flushed;
+                }
+                heap.give_empty(self.unit, self.clock - 1, list);
+                self.at = 0;
             }
-            heap.give_empty(self.unit, self.clock - 1, list);
-            self.at = 0;
             self.unit += 1;
         }
         self.unit = 0;

@@ -63,12 +63,28 @@ const APART: usize = 8;
 impl Heap {
     /// The heap that opens with these words; they are durable.
     pub fn of_words(layout: Layout, words: &[u64]) -> Heap {
+        let told = APART * layout.units() as usize;
+        let mut row = Vec::with_capacity(2 * words.len() + told);
+        row.extend(words.iter().map(|word| AtomicU64::new(*word)));
+        row.extend(words.iter().map(|word| AtomicU64::new(*word)));
+        row.extend((0..told).map(|_| AtomicU64::new(0)));
+        Heap::of_row(layout, row)
+    }
+
+    /// The heap of a store that was never used. Its clock is 2.
+    pub fn fresh(layout: Layout) -> Heap {
+        let words = layout.words();
+        let told = APART * layout.units() as usize;
+        let mut row: Vec<_> = (0..2 * words + told).map(|_| AtomicU64::new(0)).collect();
+        for clock in [0, words] {
+            *row[clock].get_mut() = 2;
+        }
+        Heap::of_row(layout, row)
+    }
+
+    fn of_row(layout: Layout, row: Vec<AtomicU64>) -> Heap {
         let units = layout.units() as usize;
         let room = layout.slots as usize;
-        let mut row = Vec::with_capacity(2 * words.len() + APART * units);
-        row.extend(words.iter().map(|word| AtomicU64::new(*word)));
-        row.extend(words.iter().map(|word| AtomicU64::new(*word)));
-        row.extend((0..APART * units).map(|_| AtomicU64::new(0)));
         let lists = (0..2 * units)
             .map(|_| UnsafeCell::new(Vec::with_capacity(room)))
             .collect();
@@ -77,13 +93,6 @@ impl Heap {
             words: Words(row),
             lists,
         }
-    }
-
-    /// The heap of a store that was never used. Its clock is 2.
-    pub fn fresh(layout: Layout) -> Heap {
-        let mut words = vec![0; layout.words()];
-        words[0] = 2;
-        Heap::of_words(layout, &words)
     }
 
     #[inline]
@@ -134,32 +143,20 @@ impl Heap {
         Ok(())
     }
 
-    /// Listing, first step: the unit's list of its epoch is taken out.
+    /// A unit's list for an epoch, where it stands. Its turn is the caller's.
     #[inline]
-    fn take_list(&self, unit: u64, epoch: u64) -> Vec<u64> {
-        self.words.load(0);
-        unsafe { std::mem::take(&mut *self.lists[(2 * unit + epoch % 2) as usize].get()) }
+    #[allow(clippy::mut_from_ref)]
+    unsafe fn list_at(&self, unit: u64, epoch: u64) -> &mut Vec<u64> {
+        unsafe { &mut *self.lists[(2 * unit + epoch % 2) as usize].get() }
     }
 
-    /// Listing, second step: it is given back.
-    #[inline]
-    fn give_list(&self, unit: u64, epoch: u64, list: Vec<u64>) {
-        unsafe {
-            // what stands there is the empty list that was left, which owns nothing
-            std::mem::forget(std::mem::replace(
-                &mut *self.lists[(2 * unit + epoch % 2) as usize].get(),
-                list,
-            ));
-        }
-        self.words.load(0);
-    }
-
-    /// The slots that were written are listed for the advancer.
+    /// Listing: the unit's list of its epoch is taken, first step, the slots that were written are
+    /// pushed where it stands, and it is given back, second step.
     #[inline]
     pub fn list(&self, unit: u64, epoch: u64, slots: impl Iterator<Item = u64>) {
-        let mut list = self.take_list(unit, epoch);
-        list.extend(slots);
-        self.give_list(unit, epoch, list);
+        self.words.load(0);
+        unsafe { self.list_at(unit, epoch) }.extend(slots);
+        self.words.load(0);
     }
 
     /// Leaving: the announcement is withdrawn, and the call has its entry.
@@ -217,17 +214,26 @@ impl Heap {
         Ok(self.words.load(self.announcement(unit)))
     }
 
-    /// Writing back, before the first slot of a unit: its full list is taken out.
+    /// Writing back, before the first slot of a unit: its full list is taken out. An empty one is
+    /// given back where it stands.
     #[inline]
-    pub fn take_full(&self, unit: u64, epoch: u64) -> Vec<u64> {
-        self.take_list(unit, epoch)
+    pub fn take_listed(&self, unit: u64, epoch: u64) -> Option<Vec<u64>> {
+        self.words.load(0);
+        let list = unsafe { self.list_at(unit, epoch) };
+        if list.is_empty() {
+            self.words.load(0);
+            return None;
+        }
+        Some(std::mem::take(list))
     }
 
     /// Writing back, behind the last slot: the list is given back empty.
     #[inline]
     pub fn give_empty(&self, unit: u64, epoch: u64, mut list: Vec<u64>) {
         list.clear();
-        self.give_list(unit, epoch, list);
+        // what stands there is the empty list that was left, which owns nothing
+        std::mem::forget(std::mem::replace(unsafe { self.list_at(unit, epoch) }, list));
+        self.words.load(0);
     }
 
     /// Writing back a word, first step: it is loaded.
