@@ -42,6 +42,7 @@ pub(crate) fn plan(index: &GraphIndex, op: &Op) -> GraphPlan
 }
 
 // What an operation is answered that sets and removes nothing.
+#[inline(always)]
 pub(crate) fn look_up(index: &GraphIndex, op: &Op) -> Reply
     ensures { result ≡ looked_up index.now op.now }
 {

@@ -38,10 +38,11 @@ as_list None xs h = h
 as_list (Some x) xs h = h
 
 -- what a plan changes is live
-pub plan_names : (r : RegionShown) (op : Op) (reply : Reply) (changes given : List Change) → IsPlan r op reply changes → given ≡ changes
-    → All (NamesLive r.seat.known.part.records) given
-plan_names r op reply changes given plan is = subst (All (NamesLive r.seat.known.part.records)) (sym is)
-    (all_live r.books r.seat.known.part.records (step plan.state op).effects changes plan.makes)
+pub plan_names : (first r : RegionShown) (op : Op) (reply : Reply) (changes given : List Change) → r ≡ first
+    → IsPlan first op reply changes → given ≡ changes → All (NamesLive r.seat.known.part.records) given
+plan_names first r op reply changes given same plan is =
+    subst (λ (x : RegionShown × List Change). All (NamesLive x.0.seat.known.part.records) x.1) (λ i. (sym same i, sym is i))
+    (all_live first.books first.seat.known.part.records (step plan.state op).effects changes plan.makes)
 
 -- ---- the unit is a queue still
 kind_kept : (heap : HeapShown) (old new : RegionShown) → IsRegionOf heap old → IsRegionOf heap new → new.books.unit ≡ old.books.unit
@@ -110,14 +111,13 @@ module _ (heap : HeapShown) (held new : RegionShown) (items : List Queued) (chan
 
   pub answered_unit : (mid old : RegionShown) (q r : CallerShown) (k : CallerPart) (op : Op) (receipt : Receipt) (slot : Option ℕ)
       (asked given : List Change) (before after : List Queued) → mid ≡ held → old ≡ held → asked ≡ option_to_list change
-      → given ≡ option_to_list change → ChangesQueue mid.books.serial items change → first_at_end k mid asked ≡ None
+      → given ≡ option_to_list change → ChangesQueue held.books.serial items change → first_at_end k mid asked ≡ None
       → HasAnsweredCall heap old new q r op receipt → HasCarried old new given receipt slot → before ≡ items
       → after ≡ items_behind before change (option_and_then (queued_at new.seat.known.part.records) slot) → IsQueueUnit new after
   answered_unit mid old q r k op receipt slot asked given before after mid_is old_is asks gives is none answered carried kept follows =
       subst (IsQueueUnit new)
       (sym (follows ∙ ap (λ (l : List Queued). items_behind l change (option_and_then (queued_at new.seat.known.part.records) slot)) kept))
-      (answered_at q r k op receipt slot
-      (subst (λ (x : RegionShown). ChangesQueue x.books.serial items change) mid_is is)
+      (answered_at q r k op receipt slot is
       (subst (λ (x : RegionShown × List Change). first_at_end k x.0 x.1 ≡ None) (λ i. (mid_is i, asks i)) none)
       (subst (λ (x : RegionShown). HasAnsweredCall heap x new q r op receipt) old_is answered)
       (subst (λ (x : RegionShown × List Change). HasCarried x.0 new x.1 receipt slot) (λ i. (old_is i, gives i)) carried))

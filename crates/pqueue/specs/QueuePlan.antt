@@ -1,22 +1,31 @@
 -- What an operation on a queue is answered, and what it changes.
-use Rattle.std.specs.Prelude.{◌≡◌, ℕ, Bool, true, false, List, [], ◌∷◌, ◌++◌, drop, Option, Some, None, option_to_list}
-use Rattle.mont_base.specs.declared.operation.Reply.TheVariants.{Nothing, Was}
+use Rattle.std.specs.Prelude.{◌≡◌, ℕ, Bool, true, false, List, [], ◌∷◌, ◌++◌, drop, length, Option, Some, None, option_to_list}
+use Rattle.mont_base.specs.declared.operation.Op.{Op}
+use Rattle.mont_base.specs.declared.operation.Op.TheVariants as ops
+use Rattle.mont_base.specs.declared.operation.Reply.{Reply}
+use Rattle.mont_base.specs.declared.operation.Reply.TheVariants.{Nothing, Count}
 use Rattle.mont_base.specs.declared.record.Change.{Change}
 use Rattle.mont_base.specs.declared.record.Change.TheVariants.{Insert, Replace, Remove}
 use Rattle.mont_base.specs.Bodies.{item_body}
-use Rattle.pqueue.specs.declared.queue_plan.QueuePlan.{QueuePlan}
 use Rattle.pqueue.specs.declared.queued.Queued.{Queued}
 
+-- ---- operations
+abbrev pub IsEnq : Op → ℕ → Type 0
+IsEnq op item = (unit : ℕ) × (op ≡ ops.Enq unit item)
+
+-- the operation changes nothing of a queue of these items
+abbrev pub ChangesNothing : List Queued → Op → Type 0
+ChangesNothing items (ops.Enq unit item) = ⊥
+ChangesNothing items (ops.Deq unit) = items ≡ []
+ChangesNothing items _ = Unit {0}
+
+-- the reply of an operation that changes nothing
+abbrev pub looked_up : List Queued → Op → Reply
+looked_up items (ops.Len unit) = Count (length items)
+looked_up items _ = Nothing
+
+-- ---- changes
 -- an item comes in
-abbrev pub enq_plan : ℕ → ℕ → QueuePlan
-enq_plan serial item =
-    record { reply = Nothing; change = Some (Insert (item_body serial item)) }
-
--- the first item goes, if there is one
-abbrev pub deq_plan : Option Queued → QueuePlan
-deq_plan None = record { reply = Nothing; change = None }
-deq_plan (Some q) = record { reply = Was q.item; change = Some (Remove q.slot q.identity) }
-
 abbrev pub adds_item : Option Change → Bool
 adds_item (Some (Insert body)) = true
 adds_item _ = false

@@ -1,22 +1,26 @@
 // A queue as a unit of a store.
-ghost use Rattle.std.specs.Prelude.{◌≡◌, ◌+◌, ◌<◌, ◌≤◌, [], ◌∷◌, ◌++◌, true, false, IsTrue, IfOk, OnOk, IfErr, OnErr};
+ghost use Rattle.std.specs.Prelude.{◌≡◌, ◌+◌, ◌<◌, ◌≤◌, [], ◌∷◌, ◌++◌, true, false, None, Some, option_to_list, slice_get, if◌then◌else◌, IsTrue, IfOk, OnOk, IfErr, OnErr};
 ghost use Rattle.std.specs.VecDeque.{deque_len, deque_capacity};
-ghost use Rattle.mont_base.specs.declared.refusal.CallRefusal.TheVariants.{Memory};
+ghost use Rattle.mont_base.specs.declared.operation.Reply.TheVariants.{Was};
+ghost use Rattle.mont_base.specs.declared.record.Change.TheVariants.{Remove};
 ghost use Rattle.mont_laws.specs.Effects.{IsOpOf};
 ghost use Rattle.heap.specs.GateAsked.{IsAskedOften};
 ghost use Rattle.heap_pass.specs.Spare.{spare_of};
 ghost use Rattle.slots.specs.Books.{Agrees};
+ghost use Rattle.structure_call.specs.Planning.{IsPlan};
 ghost use Rattle.structure_call.specs.Standing.{IsStanding};
 ghost use Rattle.structure_call.specs.Checking.{MayBeCalled};
 ghost use Rattle.structure_call.specs.Calling.{HasAnsweredCall, LeavesCall, was_asked, was_checked, was_cut};
 ghost use Rattle.heap_pass.specs.KeptReceipt.{KeepsReceipt};
 ghost use Rattle.pqueue.specs.PQueue.{IsOfQueue, HasNoneLive, HoldsItems, serials_taken};
+ghost use Rattle.pqueue.specs.QueuePlan.{ChangesNothing, ChangesQueue, IsEnq, adds_item};
 
-use crate::queue_plan::{QueuePlan, adds_item, follow, plan};
+use crate::queue_plan::{adds_item, first_of, follow, look_up};
 use crate::queued::Queued;
 use heap::Heap;
 use heap_pass::{OfHeap, Pass, last_receipt};
-use mont_base::{CallRefusal, Gate, Op, Receipt};
+use mont_base::{CallRefusal, Change, Gate, Op, Receipt, Reply};
+use payload::item_body;
 use slots::Region;
 use std::alloc::{AllocError, Global};
 use std::collections::VecDeque;
@@ -96,14 +100,166 @@ impl PQueue {
         ensures serial { OnOk result (self.new.region.books.serial
             ≡ self.old.region.books.serial + serials_taken op.now) }
     {
+        match *op {
+            Op::Enq { item, .. } => self.enq(rt, heap, pass, op, item),
+            Op::Deq { .. } => match first_of(&self.items) {
+                Some(first) => self.deq(rt, heap, pass, op, first),
+                None => self.look(rt, heap, pass, op),
+            },
+            _ => self.look(rt, heap, pass, op),
+        }
+    }
+
+    // An item comes in behind the others.
+    fn enq<R: Wait, G: Gate>(
+        &mut self,
+        rt: &R,
+        heap: &Heap,
+        pass: &mut Pass<G>,
+        op: &Op,
+        item: u64,
+    ) -> Result<(), CallRefusal>
+        requires stands { IsStanding heap.now self.old.region }
+        requires pass { pass.old.ticket.table ≡ heap.now.table }
+        requires op { IsOpOf heap.now.opening.layout self.old.region.books.unit op.now }
+        requires enq { IsEnq op.now item }
+        ensures gate { IsAskedOften G.cuts G.endless pass.old.gate pass.new.gate
+            (was_cut result) }
+        ensures unasked { was_asked result ≡ false → pass.new.gate ≡ pass.old.gate }
+        ensures answered { OnOk result (KeepsReceipt pass.old.receipts.items
+            pass.new.receipts.items (HasAnsweredCall heap.now self.old.region self.new.region
+            pass.old.ticket pass.new.ticket op.now)) }
+        ensures kept { OnErr result (pass.new.receipts.items ≡ pass.old.receipts.items) }
+        ensures refused { IfErr result (λ why. LeavesCall heap.now self.old.region
+            self.new.region pass.old.ticket pass.new.ticket op.now why) }
+        ensures checked { was_checked result ≡ true
+            → MayBeCalled pass.old.ticket self.old.region op.now }
+        ensures stands { IsStanding heap.now self.new.region }
+        ensures items { HoldsItems self.new.region self.new.items }
+        ensures serial { OnOk result (self.new.region.books.serial
+            ≡ self.old.region.books.serial + serials_taken op.now) }
+    {
+        let body = item_body(self.region.next_serial(), item);
+        let change = Some(Change::Insert { body });
+        self.carry(rt, heap, pass, op, &Reply::Nothing, &change)
+    }
+
+    // The first item goes, which is this one.
+    fn deq<R: Wait, G: Gate>(
+        &mut self,
+        rt: &R,
+        heap: &Heap,
+        pass: &mut Pass<G>,
+        op: &Op,
+        first: Queued,
+    ) -> Result<(), CallRefusal>
+        requires stands { IsStanding heap.now self.old.region }
+        requires pass { pass.old.ticket.table ≡ heap.now.table }
+        requires first { slice_get self.old.items 0 ≡ Some first }
+        requires plan { self.old.region.books.halted ≡ None → IsPlan self.old.region op.now
+            (Was first.item) (Remove first.slot first.identity ∷ []) }
+        requires takes { serials_taken op.now ≡ 0 }
+        ensures gate { IsAskedOften G.cuts G.endless pass.old.gate pass.new.gate
+            (was_cut result) }
+        ensures unasked { was_asked result ≡ false → pass.new.gate ≡ pass.old.gate }
+        ensures answered { OnOk result (KeepsReceipt pass.old.receipts.items
+            pass.new.receipts.items (HasAnsweredCall heap.now self.old.region self.new.region
+            pass.old.ticket pass.new.ticket op.now)) }
+        ensures kept { OnErr result (pass.new.receipts.items ≡ pass.old.receipts.items) }
+        ensures refused { IfErr result (λ why. LeavesCall heap.now self.old.region
+            self.new.region pass.old.ticket pass.new.ticket op.now why) }
+        ensures checked { was_checked result ≡ true
+            → MayBeCalled pass.old.ticket self.old.region op.now }
+        ensures stands { IsStanding heap.now self.new.region }
+        ensures items { HoldsItems self.new.region self.new.items }
+        ensures serial { OnOk result (self.new.region.books.serial
+            ≡ self.old.region.books.serial + serials_taken op.now) }
+    {
+        let Queued {
+            slot,
+            identity,
+            item,
+            ..
+        } = first;
+        let change = Some(Change::Remove { slot, identity });
+        self.carry(rt, heap, pass, op, &Reply::Was { value: item }, &change)
+    }
+
+    // Nothing changes.
+    #[inline(never)]
+    fn look<R: Wait, G: Gate>(
+        &mut self,
+        rt: &R,
+        heap: &Heap,
+        pass: &mut Pass<G>,
+        op: &Op,
+    ) -> Result<(), CallRefusal>
+        requires stands { IsStanding heap.now self.old.region }
+        requires pass { pass.old.ticket.table ≡ heap.now.table }
+        requires op { IsOpOf heap.now.opening.layout self.old.region.books.unit op.now }
+        requires looks { ChangesNothing self.old.items op.now }
+        ensures gate { IsAskedOften G.cuts G.endless pass.old.gate pass.new.gate
+            (was_cut result) }
+        ensures unasked { was_asked result ≡ false → pass.new.gate ≡ pass.old.gate }
+        ensures answered { OnOk result (KeepsReceipt pass.old.receipts.items
+            pass.new.receipts.items (HasAnsweredCall heap.now self.old.region self.new.region
+            pass.old.ticket pass.new.ticket op.now)) }
+        ensures kept { OnErr result (pass.new.receipts.items ≡ pass.old.receipts.items) }
+        ensures refused { IfErr result (λ why. LeavesCall heap.now self.old.region
+            self.new.region pass.old.ticket pass.new.ticket op.now why) }
+        ensures checked { was_checked result ≡ true
+            → MayBeCalled pass.old.ticket self.old.region op.now }
+        ensures stands { IsStanding heap.now self.new.region }
+        ensures items { HoldsItems self.new.region self.new.items }
+        ensures serial { OnOk result (self.new.region.books.serial
+            ≡ self.old.region.books.serial + serials_taken op.now) }
+    {
+        let reply = look_up(&self.items, op);
+        self.carry(rt, heap, pass, op, &reply, &None)
+    }
+
+    // Carries an operation out that is planned so where no caller was cut in the unit.
+    #[inline(always)]
+    fn carry<R: Wait, G: Gate>(
+        &mut self,
+        rt: &R,
+        heap: &Heap,
+        pass: &mut Pass<G>,
+        op: &Op,
+        reply: &Reply,
+        change: &Option<Change>,
+    ) -> Result<(), CallRefusal>
+        requires stands { IsStanding heap.now self.old.region }
+        requires pass { pass.old.ticket.table ≡ heap.now.table }
+        requires plan { self.old.region.books.halted ≡ None → IsPlan self.old.region op.now
+            reply.now (option_to_list change.now) }
+        requires change { ChangesQueue self.old.region.books.serial self.old.items change.now }
+        requires takes { serials_taken op.now ≡ (if adds_item change.now then 1 else 0) }
+        ensures gate { IsAskedOften G.cuts G.endless pass.old.gate pass.new.gate
+            (was_cut result) }
+        ensures unasked { was_asked result ≡ false → pass.new.gate ≡ pass.old.gate }
+        ensures answered { OnOk result (KeepsReceipt pass.old.receipts.items
+            pass.new.receipts.items (HasAnsweredCall heap.now self.old.region self.new.region
+            pass.old.ticket pass.new.ticket op.now)) }
+        ensures kept { OnErr result (pass.new.receipts.items ≡ pass.old.receipts.items) }
+        ensures refused { IfErr result (λ why. LeavesCall heap.now self.old.region
+            self.new.region pass.old.ticket pass.new.ticket op.now why) }
+        ensures checked { was_checked result ≡ true
+            → MayBeCalled pass.old.ticket self.old.region op.now }
+        ensures stands { IsStanding heap.now self.new.region }
+        ensures items { HoldsItems self.new.region self.new.items }
+        ensures serial { OnOk result (self.new.region.books.serial
+            ≡ self.old.region.books.serial + serials_taken op.now) }
+    {
         check_running(heap, &mut self.region, pass)?;
-        let QueuePlan { reply, change } = plan(&self.region, &self.items, op);
-        let adds = adds_item(&change);
+        let adds = adds_item(change);
         let changes = change.as_slice();
         check_numbers(heap, &mut self.region, pass, changes, adds)?;
-        reserve(adds, &mut self.items, pass)?;
-        let slot = carry_out(rt, heap, &mut self.region, pass, op, &reply, changes)?;
-        follow(&self.region, &mut self.items, &change, slot);
+        let Ok(()) = make_room(adds, &mut self.items, pass) else {
+            return Err(CallRefusal::Memory);
+        };
+        let slot = carry_out(rt, heap, &mut self.region, pass, op, reply, changes)?;
+        follow(&self.region, &mut self.items, change, slot);
         Ok(())
     }
 
@@ -157,12 +313,12 @@ impl PQueue {
     }
 }
 
-// Takes the memory of a call: room for one more item where one comes in, and for a receipt.
-fn reserve<G: Gate>(
+// Makes room for the receipt, and for one more item where one comes in.
+fn make_room<G: Gate>(
     adds: bool,
     items: &mut VecDeque<Queued>,
     pass: &mut Pass<G>,
-) -> Result<(), CallRefusal>
+) -> Result<(), AllocError>
     ensures items { items.new.items ≡ items.old.items }
     ensures ticket { pass.new.ticket ≡ pass.old.ticket }
     ensures gate { pass.new.gate ≡ pass.old.gate }
@@ -170,13 +326,10 @@ fn reserve<G: Gate>(
     ensures room { IsTrue adds
         → OnOk result (deque_len items.new < deque_capacity items.new) }
     ensures spare { OnOk result (1 ≤ spare_of pass.new.receipts) }
-    ensures memory { IfErr result (λ why. why ≡ Memory) }
 {
-    if adds && items.reserve(1).is_err() {
-        return Err(CallRefusal::Memory);
+    if adds {
+        items.reserve(1)?;
     }
-    if pass.reserve().is_err() {
-        return Err(CallRefusal::Memory);
-    }
+    pass.reserve()?;
     Ok(())
 }
