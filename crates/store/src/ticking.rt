@@ -37,7 +37,11 @@ impl<N: HeapName, I: Index> Store<N, I> {
         named.part.show(&self.heap, &mut pass.ticket);
         let answer = named.part.advance(&self.heap, &mut pass.gate);
         take_note(&self.heap, &mut named.part, pass);
-        answer
+        // What is looked at before the lock is left is not copied whole.
+        match answer {
+            Ok(clock) => Ok(clock),
+            Err(why) => Err(why),
+        }
     }
 
     /// Waits until all that the caller has seen is durable, and answers the durable clock that

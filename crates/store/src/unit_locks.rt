@@ -107,5 +107,18 @@ fn call_at<const UNIT: u64, R: Wait, N: HeapName, I: Index, G: Gate>(
         G.cuts G.endless pass.old pass.new op.now (Err why))) }
 {
     let _unit = unit;
-    lock.lock(rt).perform(rt, heap, pass, op)
+    let mut guard = lock.lock(rt);
+    match guard.perform(rt, heap, pass, op) {
+        Ok(()) => Ok(()),
+        Err(why) => Err(refused(why)),
+    }
+}
+
+// A refusal as it is. It is moved by a call of its own, so that an answered call copies nothing of
+// one.
+#[cold]
+fn refused(why: CallRefusal) -> CallRefusal
+    ensures { result ≡ why }
+{
+    why
 }

@@ -52,11 +52,17 @@ pub(crate) fn lend<R: Threads + Sync, W: Work<R, Fuel> + Drop + Send>(
         return Err(StoreRefusal::Memory);
     }
     let gates = endless_gates(alloc, works.len())?;
+    let indexes = empty_indexes(alloc, layout)?;
+    Ok(with_fresh(rt, alloc, layout, gates, indexes, works)?)
+}
+
+// An index for each map unit.
+pub(crate) fn empty_indexes(alloc: Global, layout: Layout) -> Result<Vec<ProbeIndex>, AllocError> {
     let mut indexes = Vec::new(alloc);
     for _map in 0..layout.maps() {
         indexes.push(ProbeIndex::new(alloc))?;
     }
-    Ok(with_fresh(rt, alloc, layout, gates, indexes, works)?)
+    Ok(indexes)
 }
 
 // Lends a store to these, and gives them back when it was stopped.
@@ -73,7 +79,7 @@ pub(crate) fn lend_to<R: Threads + Sync, W: Work<R, Fuel> + Drop + Send>(
 }
 
 // So many gates, none of which ever cuts.
-fn endless_gates(alloc: Global, many: usize) -> Result<Vec<Fuel>, AllocError>
+pub(crate) fn endless_gates(alloc: Global, many: usize) -> Result<Vec<Fuel>, AllocError>
     ensures { IfOk result (λ gates. vec_len gates ≡ many) }
 {
     vec![in alloc; Fuel::endless(); many]

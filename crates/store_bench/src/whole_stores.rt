@@ -1,19 +1,22 @@
 // How stores open, stop, and open again from an image.
-ghost use Rattle.std.specs.Prelude.{◌≡◌, false, IfOk};
+ghost use Rattle.std.specs.Prelude.{vec_len, ◌≡◌, false, IfOk};
+ghost use Rattle.store.specs.FreshStore.{IsFreshHeap};
 ghost use Rattle.store.specs.StoreCalls.{IsSamePass};
 ghost use Rattle.store_bench.specs.StoppedRuns.{WasStopped};
 
 use crate::clock_ends::sync;
 use crate::course::Course;
-use crate::lent_store::{Kind, layout_of, lend, lend_to};
+use crate::lent_store::{Kind, empty_indexes, endless_gates, layout_of, lend};
 use crate::timed_rounds::{nanos_since, time_calls};
 use crate::timing_trouble::Trouble;
+use heap::{Heap, Seats};
 use heap_pass::{HeapName, Pass};
-use index_kit::Index;
+use index_kit::{Index, ProbeIndex};
 use mont_base::{Fuel, Layout, Op};
 use mont_image::{Image, pick};
 use recover::recover;
 use std::alloc::Global;
+use std::marker::Brand;
 use std::sync::Wait;
 use std::thread::Threads;
 use std::time::{Clock, Instant};
@@ -25,22 +28,6 @@ const SLOTS: u64 = 4096;
 
 // Over how many keys the puts go that a stopped store was asked.
 const KEYS: u64 = 16;
-
-// Looks at the time as soon as the store is open.
-#[derive(Drop)]
-struct Opens {
-    begin: Instant,
-    // The nanoseconds until then.
-    came: Result<u64, Trouble>,
-}
-
-impl<R: Clock> Work<R, Fuel> for Opens {
-    ghost did = { λ _ _ _ _. Unit {0} };
-
-    fn work<N: HeapName, I: Index>(&mut self, rt: &R, store: &Store<N, I>, pass: &mut Pass<Fuel>) {
-        self.came = nanos_since(rt, self.begin);
-    }
-}
 
 // Makes so many calls, syncs, and looks at the time.
 #[derive(Drop)]
@@ -78,7 +65,7 @@ fn fill<R: Wait + Clock, N: HeapName, I: Index>(
 }
 
 // The nanoseconds of so many openings of a map of so many slots.
-pub(crate) fn time_openings<R: AllocGlobal + Threads + Wait + Clock + Sync>(
+pub(crate) fn time_openings<R: AllocGlobal + Clock>(
     rt: &R,
     slots: u64,
     openings: u64,
@@ -92,18 +79,33 @@ pub(crate) fn time_openings<R: AllocGlobal + Threads + Wait + Clock + Sync>(
     Ok(nanos)
 }
 
-fn time_opening<R: Threads + Clock + Sync>(
+// An opening for one caller, with what it is handed.
+fn time_opening<R: Clock>(rt: &R, alloc: Global, layout: Layout) -> Result<u64, Trouble> {
+    let begin = Instant::now(rt)?;
+    let gates = endless_gates(alloc, 1)?;
+    let indexes = empty_indexes(alloc, layout)?;
+    let (heap, seats) = Heap::fresh(alloc, layout, 1)?;
+    open_on::<R, Brand>(rt, alloc, begin, heap, seats, gates, indexes)
+}
+
+// Opens a store on the heap that N names, and answers the nanoseconds since then. The store is let
+// go behind.
+fn open_on<R: Clock, N: HeapName>(
     rt: &R,
     alloc: Global,
-    layout: Layout,
-) -> Result<u64, Trouble> {
-    let opens = Opens {
-        begin: Instant::now(rt)?,
-        came: Ok(0),
-    };
-    match lend_to(rt, alloc, layout, vec![in alloc; opens]?)?.pop() {
-        Some(opens) => opens.came,
-        None => Ok(0),
+    begin: Instant,
+    heap: Heap,
+    seats: Seats,
+    gates: Vec<Fuel>,
+    indexes: Vec<ProbeIndex>,
+) -> Result<u64, Trouble>
+    requires named { heap ≡ N.heap }
+    requires opens { IsFreshHeap N.heap seats.units.items seats.advancer seats.callers.items }
+    requires gates { vec_len gates ≡ N.heap.opening.callers }
+{
+    match Store::<N, ProbeIndex>::fresh(alloc, heap, seats, gates, indexes) {
+        Ok(_opened) => nanos_since(rt, begin),
+        Err(why) => Err(StoreRefusal::from(why).into()),
     }
 }
 

@@ -4,7 +4,11 @@ use Rattle.mont_base.specs.Image.{clock_of}
 use Rattle.heap_rule.specs.Views.{note_of_advancer}
 use Rattle.heap.specs.HeapShown.{HeapShown, AdvShown, CallerShown}
 use Rattle.heap_pass.specs.OfHeap.{IsAdvancerOf}
+use Rattle.store.specs.StoreCalls.{IsSamePass}
+use Rattle.store.specs.Ticking.{HasTicked}
 use Rattle.store.proofs.Ticks.{heard_same, shown_fits, same_fits, ticked_by}
+use Rattle.store.proofs.store.Store.tick.Given.{Over}
+use Rattle.store.proofs.store.Store.tick.Goals.{After-take_note}
 use Rattle.store.proofs.store.Store.tick.Goals as goal
 
 pub advance-answer-requires-clause-heap : goal.advance-answer-requires-clause-heap
@@ -51,8 +55,10 @@ invariant_of-named g c =
           c.advance-answer.ensures.same);
     }
 
-pub returns-clause-ticked : goal.returns-clause-ticked
-returns-clause-ticked g c =
+-- what the caller has of the advance's own answer
+ticked : (g : Over) (c : After-take_note g)
+    → HasTicked g.N.HeapName.heap c.args.pass.now.ticket c.take_note.new.pass.ticket c.advance-answer.result
+ticked g c =
     let named = c.deref_mut-named.result.now in
     let e = c.advance-answer.ensures in
     ticked_by g.N.HeapName.heap named.part c.show.new.self c.advance-answer.new.self c.args.pass.now.ticket c.show.new.ticket
@@ -61,8 +67,24 @@ returns-clause-ticked g c =
     (subst (λ (h : HeapShown). IfOk c.advance-answer.result (λ clock. clock_of h.opening.words < clock))
     c.self.invariant.of_heap e.begun)
 
-pub returns-clause-same : goal.returns-clause-same
-returns-clause-same g c =
-    let ticked = returns-clause-ticked g c in
+same : (g : Over) (c : After-take_note g) → IsSamePass c.args.pass.now c.take_note.new.pass
+same g c =
+    let t = ticked g c in
     heard_same c.args.pass.now c.take_note.new.pass c.take_note.ensures.receipts
-    (note_of_advancer (length c.args.pass.now.ticket.known.part.fronts) ticked.behind.known) ticked.noted
+    (note_of_advancer (length c.args.pass.now.ticket.known.part.fronts) t.behind.known) t.noted
+
+pub returns-in-Ok-clause-ticked : goal.returns-in-Ok-clause-ticked
+returns-in-Ok-clause-ticked g c =
+    subst (HasTicked g.N.HeapName.heap c.args.pass.now.ticket c.take_note.new.pass.ticket) c.in-Ok.is
+    (ticked g (goal.at.returns-in-Ok-clause-ticked g c).After-take_note)
+
+pub returns-in-Ok-clause-same : goal.returns-in-Ok-clause-same
+returns-in-Ok-clause-same g c = same g (goal.at.returns-in-Ok-clause-same g c).After-take_note
+
+pub returns-clause-ticked : goal.returns-clause-ticked
+returns-clause-ticked g c =
+    subst (HasTicked g.N.HeapName.heap c.args.pass.now.ticket c.take_note.new.pass.ticket) c.in-Err.is
+    (ticked g (goal.at.returns-clause-ticked g c).After-take_note)
+
+pub returns-clause-same : goal.returns-clause-same
+returns-clause-same g c = same g (goal.at.returns-clause-same g c).After-take_note
