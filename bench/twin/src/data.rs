@@ -10,22 +10,63 @@ pub const LAST: u64 = 1 << 62;
 
 #[derive(Clone, Copy, Debug)]
 pub enum Op {
-    Put { key: Text, value: Text },
-    Get { key: Text },
-    Del { key: Text },
-    Enq { unit: u64, item: u64 },
-    Deq { unit: u64 },
-    Len { unit: u64 },
-    AddV { unit: u64, vertex: u64, attr: u64 },
-    DelV { unit: u64, vertex: u64 },
-    AddE { unit: u64, from: u64, to: u64, attr: u64 },
-    DelE { unit: u64, from: u64, to: u64 },
-    Vertex { unit: u64, vertex: u64 },
-    Degree { unit: u64, vertex: u64 },
+    Put {
+        key: Text,
+        value: Text,
+    },
+    Get {
+        key: Text,
+    },
+    Del {
+        key: Text,
+    },
+    Enq {
+        unit: u64,
+        item: u64,
+    },
+    Deq {
+        unit: u64,
+    },
+    Len {
+        unit: u64,
+    },
+    AddV {
+        unit: u64,
+        vertex: u64,
+        attr: u64,
+    },
+    DelV {
+        unit: u64,
+        vertex: u64,
+    },
+    AddE {
+        unit: u64,
+        from: u64,
+        to: u64,
+        attr: u64,
+    },
+    DelE {
+        unit: u64,
+        from: u64,
+        to: u64,
+    },
+    Vertex {
+        unit: u64,
+        vertex: u64,
+    },
+    Degree {
+        unit: u64,
+        vertex: u64,
+    },
     /// Of ordered units, which the twin hasn't. It is the largest operation: with it receipts are
     /// as large as the store's.
     #[allow(dead_code)]
-    ORange { unit: u64, from: Text, to: Text, most: u64 },
+    ORange {
+        unit: u64,
+        from: Text,
+        to: Text,
+        most: u64,
+    },
 }
 
 #[derive(Clone, Copy, Debug, PartialEq)]

@@ -303,7 +303,11 @@ fn tell_entry(report: &mut Report, place: u64, entry: &Entry) {
         Op::DelE { unit, from, to } => report.numbers("dele", &[*unit, *from, *to]),
         Op::Vertex { unit, vertex } => report.numbers("vertex", &[*unit, *vertex]),
         Op::Degree { unit, vertex } => report.numbers("degree", &[*unit, *vertex]),
-        Op::ORange { unit, from, to, most } => report.numbers("orange", &[*unit]).text(from).text(to).numbers("", &[*most]),
+        Op::ORange { unit, from, to, most } => report
+            .numbers("orange", &[*unit])
+            .text(from)
+            .text(to)
+            .numbers("", &[*most]),
     };
     report.word(" = ");
     match &entry.reply {

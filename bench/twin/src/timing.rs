@@ -32,19 +32,33 @@ fn nanos_since(begin: Instant) -> u64 {
     begin.elapsed().as_nanos() as u64
 }
 
+/// How often a caller syncs where a unit is full, since others may fill it again meanwhile.
+const TRIES: u64 = 1000;
+
 /// Makes each of these calls once. Where a unit is full, the caller syncs and calls again.
 #[inline(never)]
 fn call_all(store: &Store, pass: &mut Pass, ops: &[Op]) {
     for op in ops {
         match store.call(pass, op) {
             Ok(_) => {}
-            Err(CallRefusal::Full { .. }) => {
-                store.sync(pass).unwrap();
-                store.call(pass, op).unwrap();
-            }
+            Err(CallRefusal::Full { .. }) => call_when_free(store, pass, op),
             Err(why) => panic!("{why:?}"),
         }
     }
+}
+
+/// Syncs and calls again, until the unit has room or the tries are at their end.
+#[cold]
+fn call_when_free(store: &Store, pass: &mut Pass, op: &Op) {
+    for _again in 0..TRIES {
+        store.sync(pass).unwrap();
+        match store.call(pass, op) {
+            Ok(_) => return,
+            Err(CallRefusal::Full { .. }) => {}
+            Err(why) => panic!("{why:?}"),
+        }
+    }
+    panic!("the unit stays full")
 }
 
 /// Goes through a course, until so many of its timed calls are made.
