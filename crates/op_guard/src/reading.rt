@@ -16,6 +16,7 @@ use slots::Region;
 
 /// Answers a caller with what changes nothing, and keeps the receipt in the pass. The entry's epoch
 /// is the clock.
+#[inline(always)]
 pub fn keep_read<G: Gate>(
     heap: &Heap,
     region: &mut Region,
