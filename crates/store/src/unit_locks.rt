@@ -11,7 +11,8 @@ use heap::Heap;
 use heap_pass::{HeapName, Pass, last_receipt};
 use index_kit::Index;
 use mont_base::{CallRefusal, Gate, Op, Receipt, Unit};
-use std::sync::{Mutex, Wait};
+use std::hint::spin_loop;
+use std::sync::{Mutex, MutexGuard, Wait};
 
 impl<N: HeapName, I: Index> Store<N, I> {
     // Carries an operation of the unit out, and copies the receipt from the pass. What holds of a
@@ -107,11 +108,39 @@ fn call_at<const UNIT: u64, R: Wait, N: HeapName, I: Index, G: Gate>(
         G.cuts G.endless pass.old pass.new op.now (Err why))) }
 {
     let _unit = unit;
-    let mut guard = lock.lock(rt);
+    let mut guard = lock_soon(rt, lock);
     match guard.perform(rt, heap, pass, op) {
         Ok(()) => Ok(()),
         Err(why) => Err(refused(why)),
     }
+}
+
+// How often a caller tries a lock that another has before it waits, and how long it rests between.
+const TRIES: u64 = 200;
+
+const RESTS: u64 = 2;
+
+// The guard of a lock. Who waits sleeps until it is woken, which takes longer than a call; so a
+// caller tries a while before.
+#[inline(always)]
+fn lock_soon<'a, T, R: Wait>(rt: &R, lock: &'a Mutex<T>) -> MutexGuard<'a, T> {
+    match lock.try_lock() {
+        Some(guard) => guard,
+        None => lock_late(rt, lock),
+    }
+}
+
+#[cold]
+fn lock_late<'a, T, R: Wait>(rt: &R, lock: &'a Mutex<T>) -> MutexGuard<'a, T> {
+    for _try in 0..TRIES {
+        for _rest in 0..RESTS {
+            spin_loop();
+        }
+        if let Some(guard) = lock.try_lock() {
+            return guard;
+        }
+    }
+    lock.lock(rt)
 }
 
 // A refusal as it is. It is moved by a call of its own, so that an answered call copies nothing of
