@@ -1,3 +1,4 @@
 pub mod Staging
 pub mod Passing
 pub mod Ways
+pub mod Attempted

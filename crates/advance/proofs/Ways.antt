@@ -82,6 +82,7 @@ pub rested_advanced : (o : Opening) (a b : AdvKnown) (n : ℕ) → b ≡ advance
     → a.turn ≡ full_rest → IsAhead o a → IsAdvanced a n b
 rested_advanced o a b n made now moved turn h =
     subst (λ (z : ℕ × AdvKnown). IsAdvanced a z.0 z.1) (λ i. (sym now i, sym made i)) (record {
+      steps = grind arith;
       ahead = sym (ahead_moved a moved);
       current = refl;
       durable = refl;

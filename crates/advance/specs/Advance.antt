@@ -35,6 +35,8 @@ clock_ahead a = if is_clocked a.part then a.clock else a.clock + 1
 
 -- ---- an advance at its end
 pub record IsAdvanced (old : AdvKnown) (answer : ℕ) (new : AdvKnown) : Type 0 where
+  -- it made a step, that of the durable clock at least
+  pub steps : old.steps < new.steps
   pub ahead : answer ≡ clock_ahead old
   pub current : new.clock ≡ answer
   pub durable : new.durable ≡ answer

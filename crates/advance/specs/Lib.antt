@@ -1,2 +1,3 @@
 pub mod Stage
 pub mod Advance
+pub mod Attempts

@@ -8,6 +8,7 @@ ghost use Rattle.core_steps.specs.Advancing.{can_check, unit_at_hand, lets_pass,
 ghost use Rattle.heap_rule.specs.Views.{are_clean, advancer_shown, caller_heard, note_of_advancer};
 ghost use Rattle.heap.specs.GateAsked.{IsAskedOften};
 ghost use Rattle.heap_pass.specs.OfLayout.{IsOfLayout};
+ghost use Rattle.write_back.specs.AskedSteps.{AsksEachStep};
 ghost use Rattle.advance.specs.declared.advance_refusal.AdvanceRefusal.TheVariants.{ClockEnd};
 ghost use Rattle.advance.specs.Stage.{stage_of, IsAtRest, IsWaitingAt, has_passed, IsReady};
 ghost use Rattle.advance.specs.Advance.{IsSameSeat, HasChecked, IsAdvanced, IsUnderWay, HasReason, IsAtEnd, was_cut};
@@ -134,6 +135,8 @@ impl Advancer {
         requires clean { self.old.known.part ≡ Rest
             → IsTrue (are_clean (units_of heap.now.opening.layout) self.old.known.clean) }
         ensures gate { IsAskedOften G.cuts G.endless gate.old gate.new (was_cut result) }
+        ensures asked { AsksEachStep G.asked self.old.known.steps self.new.known.steps
+            gate.old gate.new (was_cut result) }
         ensures same { IsSameSeat self.old self.new }
         ensures ok { IfOk result (λ clock. IsAdvanced self.old.known clock self.new.known) }
         ensures begun { IfOk result (λ clock. clock_of heap.now.opening.words < clock) }
@@ -169,6 +172,8 @@ impl Advancer {
             → IsTrue (are_clean (units_of heap.now.opening.layout) self.old.known.clean) }
         requires ahead { self.old.known.part ≡ Rest → self.old.known.clock < LAST }
         ensures gate { IsAskedOften G.cuts G.endless gate.old gate.new (was_cut result) }
+        ensures asked { AsksEachStep G.asked self.old.known.steps self.new.known.steps
+            gate.old gate.new (was_cut result) }
         ensures same { IsSameSeat self.old self.new }
         ensures way { IsUnderWay self.old.known self.new.known }
         ensures reason { IfErr result (λ why. HasReason why self.old.known self.new.known) }
@@ -211,6 +216,8 @@ impl Advancer {
         requires may { IsTrue (can_check self.old.known.clock self.old.known.part) }
         requires unit { unit ≡ unit_at_hand self.old.known.part }
         ensures gate { IsAskedOften G.cuts G.endless gate.old gate.new (was_cut result) }
+        ensures asked { AsksEachStep G.asked self.old.known.steps self.new.known.steps
+            gate.old gate.new (was_cut result) }
         ensures same { IsSameSeat self.old self.new }
         ensures checked { HasChecked self.old.known self.new.known }
         ensures reason { IfErr result (λ why. HasReason why self.old.known self.new.known) }
@@ -237,6 +244,8 @@ impl Advancer {
         requires layout { IsOfLayout heap.now.opening.layout self.old.known }
         requires passed { has_passed self.old.known.part ≡ true }
         ensures gate { IsAskedOften G.cuts G.endless gate.old gate.new (is_err result) }
+        ensures asked { AsksEachStep G.asked self.old.known.steps self.new.known.steps
+            gate.old gate.new (is_err result) }
         ensures same { IsSameSeat self.old self.new }
         ensures ok { IfOk result (λ clock. IsAdvanced self.old.known clock self.new.known) }
         ensures begun { IfOk result (λ clock. clock_of heap.now.opening.words < clock) }
@@ -253,6 +262,8 @@ impl Advancer {
         requires layout { IsOfLayout heap.now.opening.layout self.old.known }
         requires passed { has_passed self.old.known.part ≡ true }
         ensures gate { IsAskedOften G.cuts G.endless gate.old gate.new (is_err result) }
+        ensures asked { AsksEachStep G.asked self.old.known.steps self.new.known.steps
+            gate.old gate.new (is_err result) }
         ensures same { IsSameSeat self.old self.new }
         ensures way { IsUnderWay self.old.known self.new.known }
         ensures ok { OnOk result (IsReady self.new.known) }
@@ -271,6 +282,8 @@ impl Advancer {
         requires heap { self.old.table ≡ heap.now.table }
         requires ready { IsReady self.old.known }
         ensures gate { IsAskedOften G.cuts G.endless gate.old gate.new (is_err result) }
+        ensures asked { AsksEachStep G.asked self.old.known.steps self.new.known.steps
+            gate.old gate.new (is_err result) }
         ensures same { IsSameSeat self.old self.new }
         ensures way { IsUnderWay self.old.known self.new.known }
         ensures ok { OnOk result (is_clocked self.new.known.part ≡ true) }
@@ -291,6 +304,8 @@ impl Advancer {
         requires heap { self.old.table ≡ heap.now.table }
         requires moved { is_clocked self.old.known.part ≡ true }
         ensures gate { IsAskedOften G.cuts G.endless gate.old gate.new (is_err result) }
+        ensures asked { AsksEachStep G.asked self.old.known.steps self.new.known.steps
+            gate.old gate.new (is_err result) }
         ensures same { IsSameSeat self.old self.new }
         ensures ok { IfOk result (λ clock. IsAdvanced self.old.known clock self.new.known) }
         ensures begun { IfOk result (λ clock. clock_of heap.now.opening.words < clock) }

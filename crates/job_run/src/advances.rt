@@ -3,8 +3,8 @@ ghost use Rattle.std.specs.Prelude.{◌≡◌, ℕ, Bool};
 ghost use Rattle.std.specs.declared.result.Result.{Result};
 ghost use Rattle.advance.specs.declared.advance_refusal.AdvanceRefusal.{AdvanceRefusal};
 ghost use Rattle.heap.specs.GateAsked.{IsAskedOften};
-ghost use Rattle.job_worker.specs.Asking.{advance_was_cut};
-ghost use Rattle.job_run.specs.Tries.{HasTried};
+ghost use Rattle.advance.specs.Advance.{was_cut};
+ghost use Rattle.advance.specs.Attempts.{HasTried};
 
 use advance::AdvanceRefusal;
 use mont_base::Epoch;
@@ -25,11 +25,11 @@ pub trait Advances<A> {
     /// Moves the clock on by one, or goes on with that.
     fn attempt<R: Wait>(&self, rt: &R, gate: &mut A) -> Result<Epoch, AdvanceRefusal>
         ensures gate { IsAskedOften gate_cuts gate_endless gate.old gate.new
-            (advance_was_cut result) }
+            (was_cut result) }
         ensures tried { tried self.now gate.old gate.new result };
 }
 
-// Tries so many advances, and says whether the gate cut one. None is tried behind it.
+// Tries so many advances, and says whether the gate cut one. None is tried after it.
 pub(crate) fn make_attempts<R: Wait, A, S: Advances<A>>(
     rt: &R,
     store: &S,

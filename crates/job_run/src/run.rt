@@ -2,13 +2,13 @@
 ghost use Rattle.std.specs.Prelude.{◌≡◌, ◌⊎◌, Bool, List, Option, Some, All, map, IfOk, OnErr};
 ghost use Rattle.std.specs.Thread.{IsSync, IsSend};
 ghost use Rattle.heap.specs.GateAsked.{IsAskedOften};
+ghost use Rattle.advance.specs.Attempts.{HasTried};
 ghost use Rattle.job_text.specs.declared.job.Line.{Line as LineModel};
 ghost use Rattle.job_text.specs.declared.outcome.Outcome.{Outcome as OutcomeModel};
 ghost use Rattle.job_text.specs.Report.{lines_of};
 ghost use Rattle.job_worker.specs.Ending.{MayBeAsked};
 ghost use Rattle.job_run.specs.Desks.{AreLeft};
 ghost use Rattle.job_run.specs.Run.{IsFresh, IsWorked, AreWorked};
-ghost use Rattle.job_run.specs.Tries.{HasTried};
 
 use crate::advances::{Advances, make_attempts};
 use crate::desks::{Desk, clear_away, set_out, work_at};

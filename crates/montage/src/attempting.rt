@@ -12,9 +12,9 @@ impl<'a, N: HeapName, I: Index, A: Gate> Advances<A> for AskedStore<'a, N, I> {
 
     ghost gate_endless = { A.endless };
 
-    ghost use Rattle.montage.specs.Attempting.{HasAdvanced};
+    ghost use Rattle.advance.specs.Attempts.{HasAdvanced};
 
-    ghost tried = { λ _ _ _ answer. HasAdvanced N.heap answer };
+    ghost tried = { λ _. HasAdvanced A.asked N.heap };
 
     #[tactic(auto, using(crate::proofs::Attempted::attempted))]
     fn attempt<R: Wait>(&self, rt: &R, gate: &mut A) -> Result<Epoch, AdvanceRefusal> {

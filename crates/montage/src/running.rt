@@ -2,12 +2,11 @@
 ghost use Rattle.std.specs.Prelude.{◌≡◌, ◌⊎◌, Bool, List, Option, Some, All, map, IfOk, OnErr};
 ghost use Rattle.heap.specs.GateAsked.{IsAskedOften};
 ghost use Rattle.heap_pass.specs.Kept.{IsWhole};
+ghost use Rattle.advance.specs.Attempts.{HasAdvanced, HasTried};
 ghost use Rattle.job_text.specs.declared.job.Line.{Line as LineModel};
 ghost use Rattle.job_text.specs.declared.outcome.Outcome.{Outcome as OutcomeModel};
 ghost use Rattle.job_worker.specs.Ending.{MayBeAsked};
 ghost use Rattle.job_run.specs.Run.{AreWorked};
-ghost use Rattle.job_run.specs.Tries.{HasTried};
-ghost use Rattle.montage.specs.Attempting.{HasAdvanced};
 ghost use Rattle.store.specs.Store.{AreAllCallers, IsFirstPass, IsWholePass};
 
 use crate::asked_store::AskedStore;
@@ -50,11 +49,11 @@ pub fn run<R: Threads + Wait + Sync, N: HeapName + Send, I: Index + Send, G: Gat
         passes.old.items passes.new.items done) }
     ensures gate { IfOk result (λ ran. IsAskedOften G.cuts G.endless gate.old gate.new
         ran.advancer_cut) }
-    ensures tries { IfOk result (λ ran. HasTried (λ _ _ answer. HasAdvanced N.heap answer)
+    ensures tries { IfOk result (λ ran. HasTried (HasAdvanced G.asked N.heap)
         job.now.attempts gate.old gate.new ran.advancer_cut) }
     ensures untried { OnErr result ((gate.new ≡ gate.old) ⊎ ((cut : Bool)
         × IsAskedOften G.cuts G.endless gate.old gate.new cut
-        × HasTried (λ _ _ answer. HasAdvanced N.heap answer) job.now.attempts gate.old gate.new
+        × HasTried (HasAdvanced G.asked N.heap) job.now.attempts gate.old gate.new
         cut)) }
 {
     let _heap = store.heap();

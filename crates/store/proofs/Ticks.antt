@@ -17,12 +17,14 @@ use Rattle.heap_pass.proofs.Cleanness.{shown_advancer_of}
 use Rattle.advance.specs.declared.advance_refusal.AdvanceRefusal.{AdvanceRefusal}
 use Rattle.advance.specs.declared.advance_refusal.AdvanceRefusal.TheVariants.{NotYet, Cut, ClockEnd}
 use Rattle.advance.specs.Advance.{IsAdvanced, IsSameSeat, IsUnderWay, HasReason, IsAtEnd}
+use Rattle.advance.specs.Attempts.{Advances}
+use Rattle.advance.proofs.Attempted.{advances_by}
 use Rattle.advance.proofs.Ways.{same_layout}
 use Rattle.caller.specs.Telling.{has_mark}
 use Rattle.caller.proofs.TakenNotes.{joined_has, odd_has, or_right}
 use Rattle.caller.specs.Syncing.{KeepsSeen}
 use Rattle.store.specs.StoreCalls.{IsSamePass}
-use Rattle.store.specs.Ticking.{Advances, HasLearntClock, HasTicked, seat_shown}
+use Rattle.store.specs.Ticking.{HasLearntClock, HasTicked, seat_shown}
 
 module _ (heap : HeapShown) (found behind : AdvShown) (q r : CallerShown)
     (noted : r ≡ record {
@@ -111,11 +113,6 @@ module _ {G : Type 0} {gate : Ghosts G} (old new : Pass G gate) (receipts : new.
   }
 
 -- ---- what was shown, done and heard is a tick
-pub advances_by : (old new : AdvKnown) (answer : Result ℕ AdvanceRefusal) → IfOk answer (λ clock. IsAdvanced old clock new)
-    → OnErr answer (IsUnderWay old new) → IfErr answer (λ why. HasReason why old new) → Advances old new answer
-advances_by old new (Ok clock) done left why = done
-advances_by old new (Err e) done left why = (left, why)
-
 pub ticked_by : (heap : HeapShown) (found shown behind : AdvShown) (q told r : CallerShown) (answer : Result ℕ AdvanceRefusal)
     → IsAdvancerOf heap found → shown ≡ seat_shown found q → IsSameSeat shown behind → told ≡ q
     → r ≡ record {

@@ -3,19 +3,14 @@ use Rattle.std.specs.Prelude.{◌≡◌, ℕ, ◌<◌, ◌≤◌, true, length, 
 use Rattle.std.specs.declared.result.Result.{Result}
 use Rattle.mont_base.specs.declared.constants.TheConstants.{LAST}
 use Rattle.mont_base.specs.Image.{clock_of}
-use Rattle.heap_rule.specs.declared.views.AdvKnown.{AdvKnown}
 use Rattle.heap_rule.specs.Views.{advancer_shown, caller_heard, note_of_advancer}
 use Rattle.heap.specs.HeapShown.{HeapShown, AdvShown, CallerShown}
 use Rattle.heap_pass.specs.OfHeap.{IsAdvancerOf}
 use Rattle.advance.specs.declared.advance_refusal.AdvanceRefusal.{AdvanceRefusal}
 use Rattle.advance.specs.declared.advance_refusal.AdvanceRefusal.TheVariants.{NotYet, Cut, ClockEnd}
-use Rattle.advance.specs.Advance.{IsAdvanced, IsSameSeat, IsUnderWay, HasReason, IsAtEnd}
+use Rattle.advance.specs.Advance.{IsSameSeat, IsAtEnd}
+use Rattle.advance.specs.Attempts.{Advances}
 use Rattle.caller.specs.Telling.{has_mark}
-
--- what the advance made of the advancer's seat
-abbrev pub Advances : AdvKnown → AdvKnown → Result ℕ AdvanceRefusal → Type 0
-Advances before behind (Ok clock) = IsAdvanced before clock behind
-Advances before behind (Err why) = IsUnderWay before behind × HasReason why before behind
 
 -- the advancer's seat once it was shown what the caller had seen
 abbrev pub seat_shown : AdvShown → CallerShown → AdvShown

@@ -1,3 +1,5 @@
+pub mod AskedTimes
 pub mod Asking
 pub mod JoinedLists
 pub mod Standing
+pub mod Stays

@@ -1,5 +1,6 @@
 // A flush: where it stands, and how it goes on through the lists of all units.
 ghost use Rattle.std.specs.Prelude.{◌≡◌, ◌+◌, ◌*◌, ◌^◌, ◌<◌, true, false, is_err, IsTrue, IsFalse, length, slice_get, OnOk, OnErr, Some};
+ghost use Rattle.write_back.specs.AskedSteps.{AsksEachStep};
 ghost use Rattle.write_back.specs.Flush.{StandsAt, IsFlushed, flush_start, slots_out, slot_in, words_done, behind_word, waiting_at, with_flush_of};
 ghost use Rattle.mont_base.specs.declared.constants.TheConstants.{FIELDS};
 ghost use Rattle.mont_base.specs.Layout.{IsLayout};
@@ -52,6 +53,8 @@ impl Flush {
         requires layout { IsOfLayout heap.now.opening.layout seat.old.known }
         requires stands { StandsAt self.old seat.old.known }
         ensures gate { IsAskedOften G.cuts G.endless gate.old gate.new (is_err result) }
+        ensures asked { AsksEachStep G.asked seat.old.known.steps seat.new.known.steps
+            gate.old gate.new (is_err result) }
         ensures stands { StandsAt self.new seat.new.known }
         ensures stays { seat.new ≡ record {
           table = seat.old.table;
@@ -82,6 +85,7 @@ impl Flush {
           table = seat.old.table;
           known = with_flush_of seat.old.known seat.new.known;
         } }
+        ensures steps { seat.new.known.steps ≡ seat.old.known.steps }
         ensures out { IsTrue result → seat.new.known.turn
             ≡ record { emptied = seat.old.known.turn.emptied; out = true } }
         ensures behind { IsFalse result → seat.new.known.turn
@@ -114,6 +118,8 @@ impl Flush {
         requires range { IsLayout heap.now.opening.layout }
         requires stands { StandsAt self.old seat.old.known }
         ensures gate { IsAskedOften G.cuts G.endless gate.old gate.new (is_err result) }
+        ensures asked { AsksEachStep G.asked seat.old.known.steps seat.new.known.steps
+            gate.old gate.new (is_err result) }
         ensures stands { StandsAt self.new seat.new.known }
         ensures stays { seat.new ≡ record {
           table = seat.old.table;
@@ -145,6 +151,7 @@ impl Flush {
           table = seat.old.table;
           known = with_flush_of seat.old.known seat.new.known;
         } }
+        ensures steps { seat.new.known.steps ≡ seat.old.known.steps }
         ensures home { seat.new.known.turn
             ≡ record { emptied = seat.old.known.turn.emptied + 1; out = false } }
     {
@@ -191,6 +198,8 @@ impl Flush {
         requires slot { slice_get (slots_out seat.old.known) self.old.at ≡ Some slot }
         requires unloaded { self.old.held ≡ false }
         ensures gate { IsAskedOften G.cuts G.endless gate.old gate.new (is_err result) }
+        ensures asked { AsksEachStep G.asked seat.old.known.steps seat.new.known.steps
+            gate.old gate.new (is_err result) }
         ensures stands { StandsAt self.new seat.new.known }
         ensures stays { seat.new ≡ record {
           table = seat.old.table;
@@ -242,6 +251,8 @@ impl Flush {
         requires slot { slice_get (slots_out seat.old.known) self.old.at ≡ Some slot }
         requires held { self.old.held ≡ true }
         ensures gate { IsAskedOften G.cuts G.endless gate.old gate.new (is_err result) }
+        ensures asked { AsksEachStep G.asked seat.old.known.steps seat.new.known.steps
+            gate.old gate.new (is_err result) }
         ensures stands { StandsAt self.new seat.new.known }
         ensures stays { seat.new ≡ record {
           table = seat.old.table;

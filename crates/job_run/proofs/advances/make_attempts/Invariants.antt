@@ -1,7 +1,7 @@
 -- The gate cut none of the attempts so far.
 use Rattle.std.proofs.Common.{false}
 use Rattle.heap.specs.GateAsked.{IsAskedOften}
-use Rattle.job_run.specs.Tries.{AreTries}
+use Rattle.advance.specs.Attempts.{AreTries}
 use Rattle.job_run.proofs.advances.make_attempts.Given as goal
 
 abbrev pub invariant-loop-made : goal.invariant-loop-made

@@ -3,6 +3,7 @@ use Rattle.std.specs.Prelude.{Err}
 use Rattle.std.proofs.lemmas.Result.{err_from_is_err_and}
 use Rattle.core_steps.specs.Advancing.{past_unit}
 use Rattle.write_back.proofs.Asking.{asked_more}
+use Rattle.write_back.proofs.AskedTimes.{asks_more}
 use Rattle.advance.proofs.Ways.{same_more, same_layout, checked_more, checked_way, reason_more, past_here, past_end, past_moves}
 use Rattle.advance.proofs.advancer.Advancer.pass_units.Goals as goal
 
@@ -27,6 +28,7 @@ loop-unit-preserved g c =
     let e = c.in_ok-pass_unit.ensures in
     let on = e.ok ∙ ap (λ (n : ℕ). past_unit n c.loop-unit.unit) (sym i.count) in record {
       gate = asked_more _ _ _ _ _ _ i.gate e.gate;
+      asked = asks_more g.G.Gate.asked _ _ _ _ _ _ _ i.asked e.asked;
       same = same_more _ _ _ i.same e.same;
       first = i.first;
       checked = checked_more _ _ _ i.checked e.checked;
@@ -40,6 +42,11 @@ pub returns-in_err-pass_unit-clause-gate : goal.returns-in_err-pass_unit-clause-
 returns-in_err-pass_unit-clause-gate g c =
     let p = err_from_is_err_and c.from_residual.result c.from_residual.ensures.1 in
     rw (p.1, p.2) (asked_more _ _ _ _ _ _ c.loop-unit.invariant.gate c.in_err-pass_unit.ensures.gate)
+
+pub returns-in_err-pass_unit-clause-asked : goal.returns-in_err-pass_unit-clause-asked
+returns-in_err-pass_unit-clause-asked g c =
+    let p = err_from_is_err_and c.from_residual.result c.from_residual.ensures.1 in
+    rw (p.1, p.2) (asks_more g.G.Gate.asked _ _ _ _ _ _ _ c.loop-unit.invariant.asked c.in_err-pass_unit.ensures.asked)
 
 pub returns-in_err-pass_unit-clause-same : goal.returns-in_err-pass_unit-clause-same
 returns-in_err-pass_unit-clause-same g c = same_more _ _ _ c.loop-unit.invariant.same c.in_err-pass_unit.ensures.same

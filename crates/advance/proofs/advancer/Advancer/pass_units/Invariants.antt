@@ -4,6 +4,7 @@ use Rattle.core_steps.specs.declared.parts.AdvPart.TheVariants.{Rest}
 use Rattle.core_steps.specs.Advancing.{can_check, unit_at_hand, is_clocked}
 use Rattle.heap_rule.specs.Views.{are_clean}
 use Rattle.heap.specs.GateAsked.{IsAskedOften}
+use Rattle.write_back.specs.AskedSteps.{AsksEachStep}
 use Rattle.advance.specs.Stage.{has_passed}
 use Rattle.advance.specs.Advance.{IsSameSeat, HasChecked}
 use Rattle.advance.proofs.advancer.Advancer.pass_units.Given as goal
@@ -11,6 +12,7 @@ use Rattle.advance.proofs.advancer.Advancer.pass_units.Given as goal
 abbrev pub invariant-loop-unit : goal.invariant-loop-unit
 invariant-loop-unit g l = record {
   gate : IsAskedOften g.G.Gate.cuts g.G.Gate.endless l.fn.gate l.gate false;
+  asked : AsksEachStep g.G.Gate.asked l.fn.self.known.steps l.self.known.steps l.fn.gate l.gate false;
   same : IsSameSeat l.fn.self l.self;
   first : is_clocked l.fn.self.known.part ≡ false;
   checked : HasChecked l.fn.self.known l.self.known;
