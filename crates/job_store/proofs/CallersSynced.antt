@@ -33,7 +33,7 @@ use Rattle.job_worker.proofs.Later.{continues_before, keeps_same, keeps_trans}
 use Rattle.job_run.specs.declared.run.Ran.{Ran}
 use Rattle.store.specs.Store.{AreAllCallers}
 use Rattle.store_stop.proofs.Items.{all_gives}
-use Rattle.job_store.specs.SyncedRun.{HasHeardAll, IsSynced, IsSyncedForAll, KeepAnswers, KnowsWhy, OneKnowsWhy}
+use Rattle.job_store.specs.SyncedRun.{HasHeardAll, IsSynced, IsSyncedForAll, KeepAnswers, KnowsWhy, FirstKnowsWhy}
 use Rattle.job_store.specs.WholeRun.{HaveRun}
 
 -- ---- one caller
@@ -336,9 +336,8 @@ module _ {P : Type 0} (ticket : P → CallerShown) (whole : P → Type 0) where
 
 pub first_knows : {P : Type 0} (ticket : P → CallerShown) (gates : List Fuel) (news : List P) (p x : P) (gate : Fuel) (why : SyncRefusal)
     → slice_get news 0 ≡ Some p → slice_get gates 0 ≡ Some gate → KnowsWhy (ticket x) gate why
-    → OneKnowsWhy (map ticket (set news 0 x)) gates why
+    → FirstKnowsWhy (map ticket (set news 0 x)) gates why
 first_knows ticket gates news p x gate why at asked knows = record {
-  caller = 0;
   q = ticket x;
   gate = gate;
   there = row_in_map ticket (set news 0 x) 0 x (row_here news 0 x p at);
@@ -355,7 +354,7 @@ sync_tells ticket whole news p x (Err why) at heard keeps synced = tt
 
 pub refusal_tells : {P T : Type 0} (ticket : P → CallerShown) (gates : List Fuel) (news : List P) (p x : P) (gate : Fuel)
     (synced : Result T SyncRefusal) → slice_get news 0 ≡ Some p → slice_get gates 0 ≡ Some gate
-    → IfErr synced (KnowsWhy (ticket x) gate) → IfErr synced (OneKnowsWhy (map ticket (set news 0 x)) gates)
+    → IfErr synced (KnowsWhy (ticket x) gate) → IfErr synced (FirstKnowsWhy (map ticket (set news 0 x)) gates)
 refusal_tells ticket gates news p x gate (Ok u) at asked knows = tt
 refusal_tells ticket gates news p x gate (Err why) at asked knows = first_knows ticket gates news p x gate why at asked knows
 

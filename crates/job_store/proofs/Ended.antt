@@ -29,9 +29,7 @@ use Rattle.caller.specs.Continued.{opened_records}
 use Rattle.job_worker.specs.Ending.{MayBeAsked}
 use Rattle.job_run.specs.declared.run.Ran.{Ran}
 use Rattle.job_run.specs.Run.{AreWorked}
-use Rattle.job_run.specs.Tries.{HasTried}
 use Rattle.job_worker.specs.Ending.{units_cut}
-use Rattle.montage.specs.Attempting.{HasAdvanced}
 use Rattle.job_report.specs.Reported.{HasRun, WasRun, report_made}
 use Rattle.mont_image.specs.declared.image_text.Version.TheVariants.{Third}
 use Rattle.mont_image.specs.declared.stored_image.Image.{Image}
@@ -48,8 +46,8 @@ use Rattle.store_stop.specs.declared.headline.Stopped.{Stopped}
 use Rattle.store_stop.specs.Headline.{IsBaseOf, IsStopped}
 use Rattle.store_stop.proofs.Items.{all_gives}
 use Rattle.job_store.specs.Base.{Base, IsBaseIn}
-use Rattle.job_store.specs.JobGates.{AreGates, KeepsEnd, gate_of}
-use Rattle.job_store.specs.WholeRun.{HasAttempted, HasEnded, HaveRun, IsEndOf, IsPickOf, IsRun, IsRunFrom, IsTicketOf, TellsEnd}
+use Rattle.job_store.specs.JobGates.{AreGates, KeepsEnd}
+use Rattle.job_store.specs.WholeRun.{HasEnded, HaveRun, IsEndOf, IsPickOf, IsRun, IsRunFrom, IsTicketOf, TellsEnd}
 use Rattle.job_store.proofs.CarriedOut.{carried_out}
 use Rattle.job_store.proofs.Passes.{each_has_run}
 
@@ -68,25 +66,6 @@ all_asked j is s same =
     subst (λ (t : Shape). All (λ (l : Line). MayBeAsked t l.deed) j.lines) (sym same)
     (all_at (λ (l : Line). MayBeAsked j.layout l.deed) j.lines
     (λ i l e. asked j.layout l.deed (all_gives (IsLine (head_of j)) j.lines i l is.lines e).unit))
-
--- ---- beside the callers
--- the advancer's gate, before the attempts and behind them
-module _ (j : Job) (heap : HeapShown) (before behind : Fuel) (given : before ≡ gate_of j.stops j.callers) where
-  abbrev Asked : Fuel → Bool → Type 0
-  Asked g cut = IsAskedOften (λ (x : Fuel). x.cuts) is_endless g behind cut
-
-  abbrev Tried : Fuel → Bool → Type 0
-  Tried g cut = HasTried (λ _ _ answer. HasAdvanced heap answer) j.attempts g behind cut
-
-  pub attempted : {F : Type 0} (ran : Result Ran F) → IfOk ran (λ (r : Ran). Asked before r.advancer_cut)
-      → IfOk ran (λ (r : Ran). Tried before r.advancer_cut) → OnOk ran (HasAttempted j heap)
-  attempted (Ok r) asked tried = record {
-    cut = r.advancer_cut;
-    behind = behind;
-    asked = subst (λ (g : Fuel). Asked g r.advancer_cut) given asked;
-    tried = subst (λ (g : Fuel). Tried g r.advancer_cut) given tried;
-  }
-  attempted (Err e) asked tried = tt
 
 -- ---- behind the threads
 module _ {P : Type 0} (j : Job) (heap : HeapShown) (has : P → Type 0) (ticket : P → CallerShown) (gate : P → Fuel) (olds news : List P)
@@ -132,7 +111,6 @@ module _ {P : Type 0} (j : Job) (heap : HeapShown) (has : P → Type 0) (ticket 
 -- ---- behind the stop
 module _ (j : Job) (heap : HeapShown) (layout : heap.opening.layout ≡ j.layout) (callers : List CallerShown) {F : Type 0}
     (ran : Result Ran F) (stopped : Result Stopped F) (all : IfOk ran (λ (r : Ran). HaveRun j heap callers r.outcomes))
-    (attempts : OnOk ran (HasAttempted j heap))
     (base : IfOk stopped (λ (t : Stopped). IsBaseOf heap.opening t.base_clock (states_of t.base)))
     (stops : IfOk stopped (λ (t : Stopped). IsStopped heap.opening.layout t.base_clock t.base callers t)) where
   -- what both gave
@@ -143,7 +121,6 @@ module _ (j : Job) (heap : HeapShown) (layout : heap.opening.layout ≡ j.layout
     layout = layout;
     opened = subst (λ (r : Result Stopped F). IfOk r (λ (t : Stopped). IsBaseOf heap.opening t.base_clock (states_of t.base))) is.1 base;
     ran = subst (λ (r : Result Ran F). IfOk r (λ (x : Ran). HaveRun j heap callers x.outcomes)) is.0.1 all;
-    attempts = subst (λ (r : Result Ran F). OnOk r (HasAttempted j heap)) is.0.1 attempts;
     stopped = subst (λ (r : Result Stopped F). IfOk r (λ (t : Stopped). IsStopped heap.opening.layout t.base_clock t.base callers t))
         is.1 stops;
   }
@@ -241,7 +218,6 @@ module _ (j : Job) (heap : HeapShown) (outcomes : List (List Outcome)) (t : Stop
         of_store = record {
           heap = heap;
           opened = opened_with;
-          attempts = ended.end.attempts;
           base = t.base;
           base_is = refl;
           callers = ended.callers;

@@ -29,7 +29,7 @@ use Rattle.store_stop.specs.Headline.{HasSeen, HoldsHistories, IsSyncedIn, parts
 use Rattle.store_stop.proofs.Items.{all_gives, all_split}
 use Rattle.job_store.specs.declared.whole_run.WholeRun.{WholeRun}
 use Rattle.job_store.specs.JobGates.{KeepsEnd, gate_of}
-use Rattle.job_store.specs.SyncedRun.{AreSynced, EndsSynced, HasEndedSynced, IsSyncedForAll, LosesNothing, OneKnowsWhy, RefusesSync, states_behind}
+use Rattle.job_store.specs.SyncedRun.{AreSynced, EndsSynced, HasEndedSynced, IsSyncedForAll, LosesNothing, FirstKnowsWhy, RefusesSync, states_behind}
 use Rattle.job_store.specs.WholeRun.{IsEndOf, IsRunFrom, TellsEnd}
 use Rattle.job_store.proofs.Gated.{stopped_or_endless}
 use Rattle.job_store.proofs.Marked.{cut_as_marked}
@@ -126,17 +126,17 @@ module _ (j : Job) (heap : HeapShown) (callers : List CallerShown) (outcomes : L
         by (inl a) = a
         by (inr e) = let endless : false ≡ true = sym cuts ∙ kept k g there ∙ ap is_endless e in absurd (cc)
 
-    refuses : (why : SyncRefusal) → OneKnowsWhy callers gates why → RefusesSync j told why
+    refuses : (why : SyncRefusal) → FirstKnowsWhy callers gates why → RefusesSync j told why
     refuses (Stuck unit epoch) o =
-        let m = cut_as_marked j heap callers outcomes t end told tells.outcomes_are o.caller o.q o.there
+        let m = cut_as_marked j heap callers outcomes t end told tells.outcomes_are 0 o.q o.there
         (record { unit = unit; by = None }) o.knows.0 in
         let below = o.knows.1 in
-        let clock = reached o.caller o.q o.there in
+        let clock = reached 0 o.q o.there in
         record { by = m.by; cut = m.cut; late = omega (arith, below, clock) }
-    refuses Cut o = (o.caller, stopped o.caller o.gate o.asked o.knows)
+    refuses Cut o = stopped 0 o.gate o.asked o.knows
     refuses ClockEnd o =
         let learnt : o.q.known.part.durable ≡ LAST = o.knows in
-        let clock = reached o.caller o.q o.there in
+        let clock = reached 0 o.q o.there in
         let most = last in
         omega (arith, learnt, clock, most)
 

@@ -104,7 +104,7 @@ module _ (number : ℕ) (b : Base) (r : Report) (image : List ℕ) (run : IsRun 
       let at = slice_get_read c.0 (length c.0) c.2.0 (CutIn unit) refl c.2.1 (sym c.2.2) in
       let line = line_at s.by c.0 c.1 c.2.0 (CutIn unit) at in
       absurd (uncut line.0 unit line.1)
-  refused syncs.Cut s = absurd (no_stop s.0 s.1)
+  refused syncs.Cut s = absurd (no_stop 0 s)
   refused syncs.ClockEnd s = refl
 
   whole : (synced : Result (Unit {0}) SyncRefusal) → EndsSynced (generated_job number) r synced → is_err synced ≡ false

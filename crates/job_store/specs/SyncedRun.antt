@@ -56,24 +56,23 @@ KnowsWhy q gate (Stuck unit epoch) =
 KnowsWhy q gate Cut = is_endless gate ≡ false
 KnowsWhy q gate ClockEnd = q.known.part.durable ≡ LAST
 
--- so one of these callers knows
-pub record OneKnowsWhy (callers : List CallerShown) (gates : List Fuel) (why : SyncRefusal)
+-- so the first of these callers knows
+pub record FirstKnowsWhy (callers : List CallerShown) (gates : List Fuel) (why : SyncRefusal)
     : Type 0 where
-  pub caller : ℕ
   pub q : CallerShown
   pub gate : Fuel
-  pub there : slice_get callers caller ≡ Some q
-  pub asked : slice_get gates caller ≡ Some gate
+  pub there : slice_get callers 0 ≡ Some q
+  pub asked : slice_get gates 0 ≡ Some gate
   pub knows : KnowsWhy q gate why
 
 -- ---- the end of a run
--- One caller synced for all, or its sync was refused, by a gate of the job.
+-- The first caller synced for all, or its sync was refused, by its gate of the job.
 pub record AreSynced (j : Job) (callers : List CallerShown)
     (synced : Result (Unit {0}) SyncRefusal) : Type 0 where
   pub all : OnOk synced (IsSyncedForAll callers)
   pub gates : List Fuel
   pub kept : EachAt (KeepsEnd j.stops) gates
-  pub refused : IfErr synced (OneKnowsWhy callers gates)
+  pub refused : IfErr synced (FirstKnowsWhy callers gates)
 
 -- a run whose store was stopped behind the syncs
 pub record HasEndedSynced (j : Job) (heap : HeapShown) (outcomes : List (List Outcome))
@@ -94,10 +93,10 @@ states_behind (state ∷ base) (h ∷ histories) =
 abbrev pub LosesNothing : Report → Type 0
 LosesNothing r = r.contents ≡ states_behind r.base r.histories
 
--- why a sync was refused: as a sync of a line is
+-- why a sync of the first caller was refused: as a sync of a line is
 abbrev pub RefusesSync : Job → Report → SyncRefusal → Type 0
 RefusesSync j r (Stuck unit epoch) = IsStuck r unit epoch
-RefusesSync j r Cut = (caller : ℕ) × HasStop j caller
+RefusesSync j r Cut = HasStop j 0
 RefusesSync j r ClockEnd = r.image_clock ≡ LAST
 
 -- The sync was answered, and nothing is lost; or it was refused.

@@ -1,13 +1,10 @@
 -- What a run of a job leaves, what its report tells, and which image it leaves.
-use Rattle.std.specs.Prelude.{◌≡◌, ℕ, Bool, false, List, [], length, map, slice_get, Some}
-use Rattle.mont_base.specs.declared.gate.Fuel.{Fuel}
-use Rattle.mont_base.specs.Gates.{is_endless}
+use Rattle.std.specs.Prelude.{◌≡◌, ℕ, false, List, [], length, map, slice_get, Some}
 use Rattle.mont_base.specs.Image.{IsPermitted, IsRecovered, clock_of}
 use Rattle.mont_base.specs.Layout.{Shape}
 use Rattle.plain.specs.declared.contents.Contents.{Contents}
 use Rattle.plain.specs.States.{states_of}
 use Rattle.core_steps.specs.declared.parts.CallerPart.{CallerPart}
-use Rattle.heap.specs.GateAsked.{IsAskedOften}
 use Rattle.heap.specs.HeapShown.{HeapShown, CallerShown}
 use Rattle.job_text.specs.declared.job.Job.{Job}
 use Rattle.job_text.specs.declared.outcome.Outcome.{Outcome}
@@ -15,30 +12,17 @@ use Rattle.job_text.specs.Faithful.{IsFaithful}
 use Rattle.job_text.specs.PlainReport.{report_of}
 use Rattle.job_text.specs.Report.{Report, lines_of}
 use Rattle.job_worker.specs.Ending.{place_answered, places_named, units_cut}
-use Rattle.job_run.specs.Tries.{HasTried}
 use Rattle.job_report.specs.Reported.{HasRun}
 use Rattle.mont_image.specs.ImageReader.{parts_of}
 use Rattle.mont_image.specs.ImageText.{IsTextOf, image_text}
 use Rattle.mont_image.specs.Picking.{IsPick}
 use Rattle.store_stop.specs.declared.headline.Stopped.{Stopped}
-use Rattle.montage.specs.Attempting.{HasAdvanced}
 use Rattle.store_stop.specs.Headline.{IsBaseOf, IsStopped}
 use Rattle.job_store.specs.Base.{Base, IsBaseIn}
 use Rattle.job_store.specs.CarriedOut.{AreCarriedOut}
-use Rattle.job_store.specs.JobGates.{gate_of}
 use Rattle.job_store.specs.declared.whole_run.WholeRun.{WholeRun}
 
--- ---- behind the threads
--- Beside the callers it was tried to move the clock on, as often as the job says, or until the gate
--- cut that the job gives to whoever has the number behind the callers'.
-pub record HasAttempted (j : Job) (heap : HeapShown) : Type 0 where
-  pub cut : Bool
-  pub behind : Fuel
-  pub asked : IsAskedOften (λ (g : Fuel). g.cuts) is_endless (gate_of j.stops j.callers) behind cut
-  pub tried :
-      HasTried (λ _ _ answer. HasAdvanced heap answer) j.attempts (gate_of j.stops j.callers) behind
-      cut
-
+-- ---- after the threads
 -- Each caller of the job ran its lines on a store of this heap, and was left with this ticket.
 pub record HaveRun (j : Job) (heap : HeapShown) (callers : List CallerShown)
     (outcomes : List (List Outcome)) : Type 0 where
@@ -55,7 +39,6 @@ pub record IsEndOf (j : Job) (heap : HeapShown) (callers : List CallerShown)
   pub layout : heap.opening.layout ≡ j.layout
   pub opened : IsBaseOf heap.opening t.base_clock (states_of t.base)
   pub ran : HaveRun j heap callers outcomes
-  pub attempts : HasAttempted j heap
   pub stopped : IsStopped heap.opening.layout t.base_clock t.base callers t
 
 -- whatever their tickets showed
@@ -88,12 +71,11 @@ pub record IsTicketOf (outcomes : List Outcome) (q : CallerPart) : Type 0 where
   pub cuts : q.cuts ≡ units_cut outcomes
 
 -- The report is of a store that was opened with these for the callers of the job, and was stopped
--- with these histories behind the attempts of the job. The image is what the job's mask picks of
+-- with these histories. The image is what the job's mask picks of
 -- its words, and the contents are what recovery rebuilds from it.
 pub record IsOfStore (j : Job) (b : Base) (r : Report) (image : List ℕ) : Type 0 where
   pub heap : HeapShown
   pub opened : IsBaseIn j.layout heap.opening.words b
-  pub attempts : HasAttempted j heap
   pub base : Contents
   pub base_is : states_of base ≡ b.states
   pub callers : List CallerShown

@@ -3,7 +3,7 @@ ghost use Rattle.std.specs.Prelude.{◌≡◌, ◌≤◌, All, length, map, IfOk
 ghost use Rattle.heap_pass.specs.Kept.{IsWhole};
 ghost use Rattle.caller.specs.Syncing.{KeepsSeen};
 ghost use Rattle.store.specs.Store.{AreAllCallers};
-ghost use Rattle.job_store.specs.SyncedRun.{HasHeardAll, IsSynced, IsSyncedForAll, KeepAnswers, KnowsWhy, OneKnowsWhy};
+ghost use Rattle.job_store.specs.SyncedRun.{HasHeardAll, IsSynced, IsSyncedForAll, KeepAnswers, KnowsWhy, FirstKnowsWhy};
 
 use caller::{SyncRefusal, hear, tell};
 use heap_pass::{HeapName, Pass};
@@ -29,7 +29,7 @@ pub(crate) fn sync_for_all<R: Wait, N: HeapName, I: Index>(
         (map (λ p. p.ticket) passes.new) }
     ensures synced { IfOk result (λ answer. OnOk answer (IsSyncedForAll
         (map (λ p. p.ticket) passes.new))) }
-    ensures refused { IfOk result (λ answer. IfErr answer (OneKnowsWhy
+    ensures refused { IfOk result (λ answer. IfErr answer (FirstKnowsWhy
         (map (λ p. p.ticket) passes.new) (map (λ p. p.gate) passes.old))) }
 {
     hear_others(alloc, store, passes)?;

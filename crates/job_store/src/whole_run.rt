@@ -7,7 +7,7 @@ ghost use Rattle.plain.specs.States.{states_of};
 ghost use Rattle.job_text.specs.Grammar.{IsJob};
 ghost use Rattle.store.specs.Store.{AreAllCallers, IsFirstPass};
 ghost use Rattle.job_store.specs.JobGates.{AreGates, KeepsEnd};
-ghost use Rattle.job_store.specs.WholeRun.{HasAttempted, HasEnded, HaveRun, IsPickOf, IsRunFrom, TellsEnd};
+ghost use Rattle.job_store.specs.WholeRun.{HasEnded, HaveRun, IsPickOf, IsRunFrom, TellsEnd};
 
 use crate::image_contents::contents_in;
 use crate::image_words::show_words;
@@ -103,7 +103,6 @@ pub(crate) fn run_lines<R: Threads + Wait + Sync, N: HeapName + Send + Sync, I: 
         (map (λ p. p.ticket) passes.new.items) ran.outcomes) }
     ensures gates { OnOk result (EachAt (KeepsEnd job.now.stops)
         (map (λ p. p.gate) passes.new.items)) }
-    ensures attempts { OnOk result (HasAttempted job.now N.heap) }
 {
     let mut gate = gate_of(job.stops.as_slice(), job.callers);
     run(rt, alloc, store, job, passes, &mut gate)

@@ -6,7 +6,7 @@ use Rattle.heap_pass.specs.Kept.{IsWhole}
 use Rattle.store.specs.Store.{AreAllCallers}
 use Rattle.store_stop.specs.Headline.{IsStopped}
 use Rattle.job_store.specs.JobGates.{KeepsEnd}
-use Rattle.job_store.specs.SyncedRun.{KeepAnswers, OneKnowsWhy}
+use Rattle.job_store.specs.SyncedRun.{KeepAnswers, FirstKnowsWhy}
 use Rattle.job_store.proofs.CallersSynced.{all_still_ran, put_back}
 use Rattle.job_store.proofs.Ended.{is_end}
 use Rattle.job_store.proofs.synced_run.run_sync_and_stop.Goals as goal
@@ -62,7 +62,7 @@ returns g c =
       end = is_end job heap c.requires.layout (map (λ p. p.ticket) synced) c.run_lines-ran.result c.stop-stopped.result
           (all_still_ran job heap (map (λ p. p.ticket) all.items) (map (λ p. p.ticket) synced) seen c.run_lines-ran.result
           c.run_lines-ran.ensures.ran)
-          c.run_lines-ran.ensures.attempts c.stop-stopped.ensures.base
+          c.stop-stopped.ensures.base
           (subst (λ ps. IfOk c.stop-stopped.result
           (λ t. IsStopped heap.opening.layout t.base_clock t.base (map (λ p. p.ticket) ps) t)) same c.stop-stopped.ensures.stopped)
           c.in_ok-ended.ended.outcomes c.in_ok-ended.ended.stopped is;
@@ -71,7 +71,7 @@ returns g c =
         gates = map (λ p. p.gate) all.items;
         kept = subst (λ r. OnOk r (EachAt (KeepsEnd job.stops) (map (λ p. p.gate) all.items))) is.0.1 c.run_lines-ran.ensures.gates;
         refused = subst (λ ps. IfErr c.in_ok-synced.field-0
-            (OneKnowsWhy (map (λ p. p.ticket) synced) (map (λ p. p.gate) ps)))
+            (FirstKnowsWhy (map (λ p. p.ticket) synced) (map (λ p. p.gate) ps)))
             c.as_mut_slice.ensures.value c.in_ok-synced.ensures.refused;
       };
     }

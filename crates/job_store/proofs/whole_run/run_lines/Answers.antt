@@ -1,9 +1,6 @@
-use Rattle.std.proofs.Common.{List, ap, ◌∙◌}
-use Rattle.job_text.specs.declared.job.Stop.{Stop}
 use Rattle.store.specs.Store.{IsFirstPass, IsWholePass}
 use Rattle.store_stop.proofs.Items.{all_gives}
-use Rattle.job_store.specs.JobGates.{gate_of}
-use Rattle.job_store.proofs.Ended.{all_keep_end, all_ran, attempted}
+use Rattle.job_store.proofs.Ended.{all_keep_end, all_ran}
 use Rattle.job_store.proofs.whole_run.run_lines.Goals as goal
 
 pub returns-clause-ran : goal.returns-clause-ran
@@ -21,9 +18,3 @@ returns-clause-gates g c =
     c.args.passes.now.items c.run.new.passes.items c.requires.callers
     (λ k p e. (all_gives (IsFirstPass heap) c.args.passes.now.items k p c.requires.first e).uncut) c.requires.gates
     c.run.result c.run.ensures.worked
-
-pub returns-clause-attempts : goal.returns-clause-attempts
-returns-clause-attempts g c =
-    attempted c.args.job.now g.N.HeapName.heap c.gate_of-gate.result c.run.new.gate
-    (c.gate_of-gate.ensures ∙ ap (λ (stops : List Stop). gate_of stops c.args.job.now.callers) c.as_slice.ensures) c.run.result
-    c.run.ensures.gate c.run.ensures.tries
