@@ -132,7 +132,7 @@ module _
 
   -- what it was given before its shifts it had seen
   begun_seen : (n : ℕ) → All (HasSeenPlace k.begun.known) (begun_with opening n)
-  begun_seen zero = k.ready.seen
+  begun_seen zero = k.ready.knows.seen
   begun_seen (suc n) = All-nil (HasSeenPlace k.begun.known)
 
   few_calls : r.known.part.calls ≤ 1008
@@ -164,7 +164,7 @@ module _
     opening_seen =
         all_weaker (HasSeenPlace k.begun.known) (HasSeenPlace w.behind.known)
         (λ x p. seen_later k.begun.known w.behind.known x (goes_further k.begun.known w.before.known w.behind.known w.begun step_on) p)
-        opening k.ready.seen
+        opening k.ready.knows.seen
 
     -- ---- one of the two accounts, and what was learnt of it
     record Side (key : Key) (found : Option Value) : Type 0 where

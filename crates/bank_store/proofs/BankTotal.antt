@@ -140,7 +140,7 @@ module _
       later : (y : Receipt) → ComesBehind k.begun.known y → (m : ℕ) (x : Receipt) → slice_get opening m ≡ Some x → x.unit ≡ y.unit
           → x.place < y.place
       later y behind m x at same =
-          let s = all_gives (HasSeenPlace k.begun.known) opening m x k.ready.seen at in
+          let s = all_gives (HasSeenPlace k.begun.known) opening m x k.ready.knows.seen at in
           let l = behind s.front (ap (λ (u : ℕ). slice_get k.begun.known.entries u) (sym same) ∙ s.of_unit) in
           omega (arith, l, s.inside)
 

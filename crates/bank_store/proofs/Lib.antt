@@ -9,6 +9,7 @@ pub mod UnitEntries
 pub mod BankBase
 pub mod PutHistories
 pub mod Tries
+mod Attempted
 pub mod StoppedBank
 pub mod BankUnits
 pub mod Passes

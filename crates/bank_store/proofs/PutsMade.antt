@@ -156,19 +156,19 @@ come_waiting heap q r t puts ends k w =
       each = puts_end_later heap q r t on (omega (arith, same)) puts ends k.each;
     }
 
-settled_synced : (q r : CallerShown) (clock : ℕ) → HasSynced q r clock → IsSettled r
+settled_synced : (q r : CallerShown) (clock : ℕ) → HasSynced q r clock → IsSettled r.known
 settled_synced q r clock s =
     let now = ap (λ (c : CallerShown). c.known.part.newest) s.only in
     let durable = ap (λ (c : CallerShown). c.known.part.durable) s.only in
     inl (omega (arith, s.past, now, durable))
 
 settled_refused : (heap : HeapShown) (q r : CallerShown) (why : SyncRefusal) → was_cut {T = ℕ} (Err why) ≡ false
-    → LeavesUnsynced heap q r why → IsSettled r
+    → LeavesUnsynced heap q r why → IsSettled r.known
 settled_refused heap q r (Stuck unit epoch) uncut l = inr (inr (unit, l.marked))
 settled_refused heap q r Cut uncut l = absurd (cc uncut)
 settled_refused heap q r ClockEnd uncut l = inr (inl l.last)
 
 pub settled : (heap : HeapShown) (q r : CallerShown) (answer : Result ℕ SyncRefusal) → was_cut answer ≡ false
-    → IfOk answer (HasSynced q r) → IfErr answer (LeavesUnsynced heap q r) → IsSettled r
+    → IfOk answer (HasSynced q r) → IfErr answer (LeavesUnsynced heap q r) → IsSettled r.known
 settled heap q r (Ok clock) uncut ok err = settled_synced q r clock ok
 settled heap q r (Err why) uncut ok err = settled_refused heap q r why uncut err

@@ -11,8 +11,7 @@ use Rattle.bank_job.specs.Bank.{first_puts}
 use Rattle.bank_job.specs.Shifts.{first_shifts, IsBetweenUnits}
 use Rattle.bank_store.specs.declared.tellers.Teller.{Teller}
 use Rattle.bank_store.specs.BankCallers.{IsReady}
-use Rattle.bank_store.specs.MadeShifts.{HasSeenPlace}
-use Rattle.bank_store.specs.OpenedAccounts.{HaveComeTo, puts_given}
+use Rattle.bank_store.specs.OpenedAccounts.{HaveComeTo, IsSettled, KnowsOpening, puts_given}
 use Rattle.bank_store.specs.Tellers.{HasWorked, IsTeller}
 use Rattle.bank_store.proofs.FirstTellers.{hearer_ready, new_caller, opener_ready}
 
@@ -83,9 +82,9 @@ ready_more heap number ends opener tellers now t is some ready k =
 pub opener_teller : (heap : HeapShown) (number : ℕ) (ends : List (Option Receipt)) (r : CallerShown) (t : Teller)
     → t.pass.ticket ≡ r → t.pass.receipts.items ≡ r.known.part.receipts → t.shifts.items ≡ first_shifts number 0 500
     → All IsBetweenUnits t.shifts.items → HaveComeTo heap (record { table = heap.table; known = new_caller 0 }) r (first_puts 8) ends
-    → IsTeller heap number (puts_given ends) 0 t
-opener_teller heap number ends r t ticket whole shifts between k = record {
-  ready = subst (IsReady heap (puts_given ends) 0) (sym ticket) (opener_ready heap ends r k);
+    → IsSettled r.known → IsTeller heap number (puts_given ends) 0 t
+opener_teller heap number ends r t ticket whole shifts between k settled = record {
+  ready = subst (IsReady heap (puts_given ends) 0) (sym ticket) (opener_ready heap ends r k settled);
   whole = whole ∙ sym (ap (λ (s : CallerShown). s.known.part.receipts) ticket);
   shifts = shifts;
   between = between;
@@ -93,13 +92,14 @@ opener_teller heap number ends r t ticket whole shifts between k = record {
 
 -- another one, that has heard
 pub hearer_teller : (heap : HeapShown) (number : ℕ) (ends : List (Option Receipt)) (caller : ℕ) (q : CallerKnown) (t : Teller)
-    → All (λ (x : Receipt). x.unit < 6) (puts_given ends) → All (HasSeenPlace q) (puts_given ends) → 0 < caller
+    → All (λ (x : Receipt). x.unit < 6) (puts_given ends) → KnowsOpening q (puts_given ends) → 0 < caller
     → t.pass.ticket ≡ record { table = heap.table; known = caller_heard (new_caller caller) (note_of_caller q) }
     → t.pass.receipts.items ≡ [] → t.shifts.items ≡ first_shifts number caller 500 → All IsBetweenUnits t.shifts.items
     → IsTeller heap number (puts_given ends) caller t
-hearer_teller heap number ends zero q t low seen some ticket none shifts between = absurd (omega (arith, some))
-hearer_teller heap number ends (suc caller) q t low seen some ticket none shifts between = record {
-  ready = subst (IsReady heap (puts_given ends) (suc caller)) (sym ticket) (hearer_ready heap (puts_given ends) caller q low seen);
+hearer_teller heap number ends zero q t low knows some ticket none shifts between = absurd (omega (arith, some))
+hearer_teller heap number ends (suc caller) q t low knows some ticket none shifts between = record {
+  ready = subst (IsReady heap (puts_given ends) (suc caller)) (sym ticket)
+      (hearer_ready heap (puts_given ends) caller q low knows);
   whole = none ∙ sym (ap (λ (s : CallerShown). s.known.part.receipts) ticket);
   shifts = shifts;
   between = between;

@@ -11,7 +11,7 @@ use Rattle.heap_rule.proofs.SeenFronts.{fronts_same, fronts_trans}
 use Rattle.heap.specs.HeapShown.{CallerShown}
 use Rattle.caller.specs.Continued.{GoesOn, HasContinued}
 use Rattle.store.specs.StoreCalls.{KeepsCaller}
-use Rattle.bank_store.specs.MadeShifts.{ComesBehind, HasSeenPlace}
+use Rattle.bank_store.specs.MadeShifts.{ComesBehind, ComesOnceDurable, HasSeenPlace}
 
 -- ---- fronts
 pub begins_longer : (whole front : List Entry) → BeginsWith whole front → length front ≤ length whole
@@ -63,6 +63,9 @@ behind_earlier q r x on behind front of_unit =
     let w = on.seen x.unit front of_unit in
     let l = begins_longer w.whole front w.begins in
     let b = behind w.whole w.there in omega (arith, l, b)
+
+pub durable_earlier : (q r : CallerKnown) (x : Receipt) → GoesOn q r → ComesOnceDurable r x → ComesOnceDurable q x
+durable_earlier q r x on durable = omega (arith, on.durable, durable)
 
 -- ---- an answer
 pub answer_seen : (o : Opening) (q r : CallerKnown) (op : Op) (x : Receipt) → HasContinued o q r op x → HasSeenPlace r x

@@ -13,9 +13,9 @@ use Rattle.store.specs.Shifting.{ContinuesByShift, goes_up, higher_of, lower_of}
 use Rattle.store.specs.StoreShown.{StoreShown}
 use Rattle.bank_job.specs.declared.shifts.Shift.{Shift}
 use Rattle.bank_store.specs.Ends.{End, HasGone, all_given, receipts_given}
-use Rattle.bank_store.specs.MadeShifts.{ComesBehind, ComesTo, EndsBetween, HasMadeShift, HasMadeShifts, HasSeenPlace, IsPassedOver}
+use Rattle.bank_store.specs.MadeShifts.{ComesBehind, ComesOnceDurable, ComesTo, EndsBetween, HasMadeShift, HasMadeShifts, HasSeenPlace, IsPassedOver}
 use Rattle.bank_store.proofs.EndLists.{given_more, holds_more}
-use Rattle.bank_store.proofs.SeenCalls.{answer_behind, answer_seen, behind_earlier, goes_further, goes_keeping, goes_same, seen_later}
+use Rattle.bank_store.proofs.SeenCalls.{answer_behind, answer_seen, behind_earlier, durable_earlier, goes_further, goes_keeping, goes_same, seen_later}
 
 pub all_weaker : {A : Type 0} (P Q : A → Type 0) → ((a : A) → P a → Q a) → (xs : List A) → All P xs → All Q xs
 all_weaker P Q step xs all = all_at Q xs (λ i a e. step a (all_gives P xs i a all e))
@@ -30,6 +30,7 @@ made_none heap q = record {
   receipts = sym (append-nil q.known.part.receipts);
   seen = All-nil (HasSeenPlace q.known);
   behind = All-nil (ComesBehind q.known);
+  durable = All-nil (ComesOnceDurable q.known);
   each = tt;
 }
 
@@ -42,6 +43,7 @@ record Adds (q r : CallerShown) (given : List Receipt) : Type 0 where
   pub receipts : r.known.part.receipts ≡ q.known.part.receipts ++ given
   pub seen : All (HasSeenPlace r.known) given
   pub behind : All (ComesBehind q.known) given
+  pub durable : All (ComesOnceDurable q.known) given
 
 shift_adds : (store : StoreShown) (q r : CallerShown) (s : Shift) (pair : Receipt × Receipt)
     → ContinuesByShift store q r s.from s.to s.amount pair → Adds q r (receipts_given (Some pair))
@@ -67,6 +69,9 @@ shift_adds store q r s pair c =
           (All-cons (ComesBehind q.known) high []
           (behind_earlier q.known m.known high lower.goes_on (answer_behind store.heap.opening m.known r.known high.entry.op high higher))
           (All-nil (ComesBehind q.known)));
+      durable = All-cons (ComesOnceDurable q.known) low (high ∷ []) lower.durable
+          (All-cons (ComesOnceDurable q.known) high [] (durable_earlier q.known m.known high lower.goes_on higher.durable)
+          (All-nil (ComesOnceDurable q.known)));
     }
 
 none_added : (heap : HeapShown) (q r : CallerShown) (s : Shift) → IsPassedOver heap q r s → Adds q r []
@@ -78,6 +83,7 @@ none_added heap q r s p = record {
   receipts = p.keeps.receipts ∙ sym (append-nil q.known.part.receipts);
   seen = All-nil (HasSeenPlace r.known);
   behind = All-nil (ComesBehind q.known);
+  durable = All-nil (ComesOnceDurable q.known);
 }
 
 end_adds : (heap : HeapShown) (q r : CallerShown) (s : Shift) (end : End) → ComesTo heap q r s end → Adds q r (receipts_given end)
@@ -149,6 +155,10 @@ made_more heap q r t shifts s k (end, c) =
           (All-append (ComesBehind q.known) (all_given k.ends) (receipts_given end) k.behind
           (all_weaker (ComesBehind r.known) (ComesBehind q.known) (λ x b. behind_earlier q.known r.known x k.goes_on b)
           (receipts_given end) adds.behind));
+      durable = subst (All (ComesOnceDurable q.known)) (sym given)
+          (All-append (ComesOnceDurable q.known) (all_given k.ends) (receipts_given end) k.durable
+          (all_weaker (ComesOnceDurable r.known) (ComesOnceDurable q.known) (λ x d. durable_earlier q.known r.known x k.goes_on d)
+          (receipts_given end) adds.durable));
       each = holds_more (EndsBetween heap q r) (EndsBetween heap q t) s end (later_ends heap q r t
           (receipts_given end) adds) [] shifts k.ends
           (last_end heap q r t shifts k s end c) k.each;

@@ -33,9 +33,9 @@ use Rattle.bank_job.specs.Shifts.{first_shifts}
 use Rattle.shard_map.specs.MovedNumbers.{of_high, of_low}
 use Rattle.store.specs.Shifting.{goes_up}
 use Rattle.bank_store.specs.BankCallers.{HasShiftedAll, HaveShifted}
-use Rattle.bank_store.specs.BankRun.{NameHistories, begun_with, rows_from}
+use Rattle.bank_store.specs.BankRun.{ComeAfter, NameHistories, begun_with, rows_from}
 use Rattle.bank_store.specs.Ends.{End, HasGone, HoldsOfEach, all_given, receipts_given}
-use Rattle.bank_store.specs.MadeShifts.{EndsBetween}
+use Rattle.bank_store.specs.MadeShifts.{ComesOnceDurable, EndsBetween}
 use Rattle.bank_store.specs.OpenedAccounts.{puts_given}
 use Rattle.bank_store.proofs.ShiftsMade.{all_weaker}
 
@@ -199,28 +199,55 @@ module _
       (first_shifts number caller 500) k.made.ends k.made.each
 
   module _ (image : List ℕ) (permitted : IsPermitted t.words.cur t.words.dur image) (below : clock_of image < LAST) where
-    synced : All (λ (r : Receipt). r.entry.epoch ≤ cut_of image) opening
-    synced = by sh.opened.opened.settled
-      where
-        durable : sh.opener.known.part.durable ≤ clock_of image
-        durable =
-            let learnt = all_gives (λ (q : CallerPart). q.durable ≤ clock_of t.words.dur)
-            (parts_shown callers) 0 a.known.part st.clocks.learnt refl in
-            let image_is = (st.images image permitted).not_before in
-            let still = (sh.still a refl).durable in
-            omega (arith, learnt, image_is, still)
+    -- what a caller knew of the opening before its shifts was durable
+    module _ (caller : ℕ) (r : CallerShown) (at : slice_get (parts_shown callers) caller ≡ Some r.known.part)
+        (k : HasShiftedAll heap number opening caller r) where
+      durable : k.begun.known.part.durable ≤ clock_of image
+      durable =
+          let learnt = all_gives (λ (q : CallerPart). q.durable ≤ clock_of t.words.dur)
+          (parts_shown callers) caller r.known.part st.clocks.learnt at in
+          let image_is = (st.images image permitted).not_before in
+          let on = k.made.goes_on.durable in
+          omega (arith, learnt, image_is, on)
 
-        by : (sh.opener.known.part.newest + 2 ≤ sh.opener.known.part.durable)
-            ⊎ ((sh.opener.known.part.durable ≡ LAST)
-            ⊎ ((unit : ℕ) × (has_mark sh.opener.known.part.marks (record { unit = unit; by = None }) ≡ true)))
-            → All (λ (r : Receipt). r.entry.epoch ≤ cut_of image) opening
-        by (inl past) =
-            all_weaker (λ (r : Receipt). r.entry.epoch ≤ sh.opener.known.part.newest) (λ (r : Receipt). r.entry.epoch ≤ cut_of image)
-            (λ r l. let d = durable in omega (arith, past, l, d)) opening sh.opened.opened.puts.epochs
-        by (inr (inl last)) = absurd (let d = durable in omega (arith, last, below, d))
-        by (inr (inr (unit, marked))) =
-            absurd (unmarked 0 a.known.part (record { unit = unit; by = None }) refl
-            ((sh.still a refl).marks (record { unit = unit; by = None }) marked))
+      past : k.begun.known.part.newest + 2 ≤ k.begun.known.part.durable
+      past = by k.ready.knows.settled
+        where
+          by : (k.begun.known.part.newest + 2 ≤ k.begun.known.part.durable)
+              ⊎ ((k.begun.known.part.durable ≡ LAST)
+              ⊎ ((unit : ℕ) × (has_mark k.begun.known.part.marks (record { unit = unit; by = None }) ≡ true)))
+              → k.begun.known.part.newest + 2 ≤ k.begun.known.part.durable
+          by (inl two) = two
+          by (inr (inl last)) = absurd (let d = durable in omega (arith, last, below, d))
+          by (inr (inr (unit, marked))) =
+              absurd (unmarked caller r.known.part (record { unit = unit; by = None }) at
+              (k.made.goes_on.marks (record { unit = unit; by = None }) marked))
+
+      within_cut : All (λ (x : Receipt). x.entry.epoch ≤ cut_of image) opening
+      within_cut =
+          all_weaker (λ (x : Receipt). x.entry.epoch ≤ k.begun.known.part.newest) (λ (x : Receipt). x.entry.epoch ≤ cut_of image)
+          (λ x l. let d = durable in let p = past in omega (arith, p, l, d)) opening k.ready.knows.epochs
+
+      come_after : ComeAfter opening (all_given k.made.ends)
+      come_after =
+          all_weaker (ComesOnceDurable k.begun.known) (λ (y : Receipt). All (λ (x : Receipt). x.entry.epoch + 2 ≤ y.entry.epoch) opening)
+          (λ y once.
+          all_weaker (λ (x : Receipt). x.entry.epoch ≤ k.begun.known.part.newest) (λ (x : Receipt). x.entry.epoch + 2 ≤ y.entry.epoch)
+          (λ x l. let p = past in omega (arith, p, l, once)) opening k.ready.knows.epochs) (all_given k.made.ends) k.made.durable
+
+    abbrev After : List End → Type 0
+    After of_caller = ComeAfter opening (all_given of_caller)
+
+    pub after : All After ends
+    after =
+        let ea = (sh.each 0 a refl).made.ends in
+        let eb = (sh.each 1 b refl).made.ends in
+        let ec = (sh.each 2 c refl).made.ends in
+        let ed = (sh.each 3 d refl).made.ends in
+        All-cons After ea (eb ∷ ec ∷ ed ∷ []) (come_after 0 a refl (sh.each 0 a refl))
+        (All-cons After eb (ec ∷ ed ∷ []) (come_after 1 b refl (sh.each 1 b refl))
+        (All-cons After ec (ed ∷ []) (come_after 2 c refl (sh.each 2 c refl))
+        (All-cons After ed [] (come_after 3 d refl (sh.each 3 d refl)) (All-nil After))))
 
     pub transfers : AreTransfers number_spelled (cut_of image) (receipts_in callers) opening (pairs_of all_ends) []
     transfers = record {
@@ -230,7 +257,7 @@ module _
           (sym (append-nil (opening ++ flat_map both_of (pairs_of all_ends))))
           (IsPermutation-append opening opening (flat_map both_of (pairs_of all_ends)) (all_given all_ends) (IsPermutation-refl opening)
           (pairs_given all_ends)));
-      within = synced;
+      within = within_cut 0 a refl (sh.each 0 a refl);
       transferred =
           all_pairs_append (IsTransfer number_spelled) (sh.each 0 a refl).made.ends
           ((sh.each 1 b refl).made.ends ++ ((sh.each 2 c refl).made.ends ++ (sh.each 3 d refl).made.ends)) (moves 0 a (sh.each 0 a refl))

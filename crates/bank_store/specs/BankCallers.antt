@@ -1,5 +1,5 @@
 -- What the tickets of the bank's callers show, before their shifts and behind them.
-use Rattle.std.specs.Prelude.{◌≡◌, ℕ, List, [], length, slice_get, Option, Some, All}
+use Rattle.std.specs.Prelude.{◌≡◌, ℕ, List, [], length, slice_get, Option, Some}
 use Rattle.mont_base.specs.declared.operation.Receipt.{Receipt}
 use Rattle.heap.specs.FreshOpening.{fresh_opening}
 use Rattle.heap.specs.HeapShown.{HeapShown, CallerShown}
@@ -8,8 +8,8 @@ use Rattle.caller.specs.Continued.{GoesOn, IsUnanswered}
 use Rattle.bank_job.specs.Bank.{bank_layout}
 use Rattle.bank_job.specs.Shifts.{first_shifts}
 use Rattle.bank_store.specs.BankRun.{begun_with}
-use Rattle.bank_store.specs.MadeShifts.{HasMadeShifts, HasSeenPlace}
-use Rattle.bank_store.specs.OpenedAccounts.{HaveOpened, puts_given}
+use Rattle.bank_store.specs.MadeShifts.{HasMadeShifts}
+use Rattle.bank_store.specs.OpenedAccounts.{HaveOpened, KnowsOpening, puts_given}
 
 -- ---- before all
 -- the tickets of a store that was never used, which has four callers
@@ -17,7 +17,7 @@ pub record AreNewTickets (heap : HeapShown) (tickets : List CallerShown) : Type 
   pub dealt : tickets ≡ dealt_callers heap.table (fresh_opening bank_layout 4) 4
 
 -- ---- before the shifts
--- a caller that has seen the opening, and was given no other receipt
+-- a caller that knows the opening, and was given no other receipt
 pub record IsReady (heap : HeapShown) (opening : List Receipt) (caller : ℕ) (q : CallerShown)
     : Type 0 where
   pub table : q.table ≡ heap.table
@@ -25,7 +25,7 @@ pub record IsReady (heap : HeapShown) (opening : List Receipt) (caller : ℕ) (q
   pub calls : q.known.part.calls ≡ length (begun_with opening caller)
   pub receipts : q.known.part.receipts ≡ begun_with opening caller
   pub cuts : q.known.part.cuts ≡ []
-  pub seen : All (HasSeenPlace q.known) opening
+  pub knows : KnowsOpening q.known opening
 
 -- the first caller has opened the accounts
 pub record IsOpener (heap : HeapShown) (ends : List (Option Receipt)) (r : CallerShown)

@@ -3,6 +3,7 @@ use Rattle.std.specs.Prelude.{ℕ, List}
 use Rattle.mont_base.specs.Image.{IsPermitted, IsWellFormed}
 use Rattle.plain.specs.States.{states_of}
 use Rattle.heap.specs.HeapShown.{HeapShown, CallerShown}
+use Rattle.store.specs.Store.{AreAllCallers}
 use Rattle.store_stop.specs.declared.headline.Stopped.{Stopped}
 use Rattle.store_stop.specs.Headline.{IsBaseOf, IsStopped}
 use Rattle.bank_store.specs.BankCallers.{HaveShifted}
@@ -12,6 +13,7 @@ use Rattle.bank_store.specs.BankCallers.{HaveShifted}
 pub record HasEnded (heap : HeapShown) (number : ℕ) (t : Stopped) : Type 0 where
   pub base : IsBaseOf heap.opening t.base_clock (states_of t.base)
   pub callers : List CallerShown
+  pub callers_are : AreAllCallers heap callers
   pub shifted : HaveShifted heap number callers
   pub stopped : IsStopped heap.opening.layout t.base_clock t.base callers t
 

@@ -1,6 +1,6 @@
 -- What a run of the bank of a number comes to: which histories its callers made, what recovery
 -- finds of them, and that the accounts have kept their total.
-use Rattle.std.specs.Prelude.{◌≡◌, ℕ, zero, suc, ◌-◌, ◌<◌, ◌≤◌, List, [], ◌∷◌, ◌++◌, length, map, take, sum_by, count_by, slice_get, Some, None, All, AllPairs}
+use Rattle.std.specs.Prelude.{◌≡◌, ℕ, zero, suc, ◌+◌, ◌-◌, ◌<◌, ◌≤◌, List, [], ◌∷◌, ◌++◌, length, map, take, sum_by, count_by, slice_get, Some, None, All, AllPairs}
 use Rattle.mont_base.specs.declared.constants.TheConstants.{FIRST_CLOCK, LAST}
 use Rattle.std.specs.FinMap as finite
 use Rattle.mont_base.specs.declared.operation.Entry.{Entry}
@@ -13,11 +13,13 @@ use Rattle.mont_base.specs.Layout.{unit_of_key}
 use Rattle.mont_base.specs.Seen.{IsEntryAt, IsInOrder, IsReceiptOf, names_place}
 use Rattle.mont_base.specs.State.{Key, MapOf, State, step}
 use Rattle.std.specs.Prelude.{decimal}
+use Rattle.heap.specs.HeapShown.{HeapShown}
 use Rattle.store_stop.specs.Headline.{AreLegal, cut_states}
 use Rattle.bank_job.specs.declared.shifts.Shift.{Shift}
 use Rattle.bank_job.specs.Bank.{bank_layout, first_puts}
 use Rattle.bank_job.specs.Shifts.{first_shifts}
 use Rattle.bank_job.specs.BankText.{number_total}
+use Rattle.bank_store.specs.BankStore.{IsOfBankStore}
 use Rattle.bank_store.specs.Ends.{End, HasGone, HoldsOfEach, all_given}
 
 -- ---- why there is no shift
@@ -77,10 +79,17 @@ pub record NameHistories (histories : List (List Entry)) (rows : List (List Rece
 abbrev pub OpensAccounts : List Receipt → Type 0
 OpensAccounts opening = map (λ (r : Receipt). r.entry.op) opening ≡ first_puts 8
 
+-- The opening was durable before the shifts were made: each entry of a shift is of an epoch at
+-- least two past that of each entry of the opening.
+abbrev pub ComeAfter : List Receipt → List Receipt → Type 0
+ComeAfter opening shifts =
+    All (λ (r : Receipt). All (λ (x : Receipt). x.entry.epoch + 2 ≤ r.entry.epoch) opening) shifts
+
 -- The histories are legal from nothing. Their entries are those of the opening and of the shifts
--- that were made, each caller's in the order generated. The contents are what the histories lead
--- to, up to two epochs before the image's clock. Where that isn't the last clock, the accounts have
--- what they had at first.
+-- that were made, each caller's in the order generated. They are those of a stopped store, and the
+-- contents are what recovery finds in its durable words: what the histories lead to, up to two
+-- epochs before the image's clock. Where that isn't the last clock, the shifts come after the
+-- opening was durable, and the accounts have what they had at first.
 pub record IsBankRun
     (number : ℕ) (histories : List (List Entry)) (clock : ℕ) (contents : List State)
     : Type 0 where
@@ -94,7 +103,17 @@ pub record IsBankRun
       → HoldsOfEach (ShiftEnds histories) (begun_with opening caller)
       (first_shifts number caller 500) of_caller
   pub named : NameHistories histories (rows_from opening 0 ends)
+  pub after :
+      clock < LAST → All (λ (of_caller : List End). ComeAfter opening (all_given of_caller)) ends
+  pub of_store : IsOfBankStore (rows_from opening 0 ends) histories clock contents
   pub begun : FIRST_CLOCK ≤ clock
   pub last : clock ≤ LAST
   pub rebuilt : contents ≡ cut_states (clock - 2) (empty_states bank_layout) histories
   pub total : clock < LAST → number_total contents ≡ 8000
+
+-- a run on a store of this heap
+pub record IsBankRunOn
+    (heap : HeapShown) (number : ℕ) (histories : List (List Entry)) (clock : ℕ)
+    (contents : List State) : Type 0 where
+  pub run : IsBankRun number histories clock contents
+  pub of_heap : run.of_store.heap ≡ heap

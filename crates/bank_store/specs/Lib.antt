@@ -1,4 +1,5 @@
 pub mod Ends
+pub mod BankStore
 pub mod BankRun
 pub mod MadeShifts
 pub mod OpenedAccounts

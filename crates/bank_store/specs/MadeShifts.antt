@@ -51,6 +51,10 @@ abbrev pub ComesBehind : CallerKnown → Receipt → Type 0
 ComesBehind q r =
     (front : List Entry) → slice_get q.entries r.unit ≡ Some front → length front ≤ r.place
 
+-- an entry of no epoch below the clock that the caller knew to be durable
+abbrev pub ComesOnceDurable : CallerKnown → Receipt → Type 0
+ComesOnceDurable q r = q.part.durable ≤ r.entry.epoch
+
 -- ---- shifts that were made between two states of a caller
 -- One was passed over between: all entries that the caller was answered before it had seen, and
 -- those that it was answered later come behind all that it had seen then.
@@ -82,4 +86,5 @@ pub record HasMadeShifts (heap : HeapShown) (q r : CallerShown) (shifts : List S
   pub receipts : r.known.part.receipts ≡ q.known.part.receipts ++ all_given ends
   pub seen : All (HasSeenPlace r.known) (all_given ends)
   pub behind : All (ComesBehind q.known) (all_given ends)
+  pub durable : All (ComesOnceDurable q.known) (all_given ends)
   pub each : HoldsOfEach (EndsBetween heap q r) [] shifts ends

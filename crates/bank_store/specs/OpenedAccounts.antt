@@ -7,6 +7,7 @@ use Rattle.mont_base.specs.declared.operation.Receipt.{Receipt}
 use Rattle.mont_base.specs.declared.refusal.CallRefusal.{CallRefusal}
 use Rattle.mont_base.specs.declared.refusal.CallRefusal.TheVariants.{Memory, Cut}
 use Rattle.mont_base.specs.State.{unit_of_op}
+use Rattle.heap_rule.specs.declared.views.CallerKnown.{CallerKnown}
 use Rattle.heap.specs.HeapShown.{HeapShown, CallerShown}
 use Rattle.caller.specs.Continued.{GoesOn}
 use Rattle.caller.specs.Telling.{has_mark}
@@ -80,17 +81,23 @@ HasMadePuts heap q r puts = (ends : List (Option Receipt)) × HaveComeTo heap q 
 
 -- ---- the opening
 -- All that the caller has seen is durable. If not, the clock is the last one, or somebody was cut.
-abbrev pub IsSettled : CallerShown → Type 0
+abbrev pub IsSettled : CallerKnown → Type 0
 IsSettled r =
-    (r.known.part.newest + 2 ≤ r.known.part.durable)
-    ⊎ ((r.known.part.durable ≡ LAST)
-    ⊎ ((unit : ℕ)
-    × (has_mark r.known.part.marks (record { unit = unit; by = None }) ≡ true)))
+    (r.part.newest + 2 ≤ r.part.durable)
+    ⊎ ((r.part.durable ≡ LAST)
+    ⊎ ((unit : ℕ) × (has_mark r.part.marks (record { unit = unit; by = None }) ≡ true)))
 
 pub record HaveOpened (heap : HeapShown) (q r : CallerShown) (ends : List (Option Receipt))
     : Type 0 where
   pub puts : HaveComeTo heap q r (first_puts 8) ends
-  pub settled : IsSettled r
+  pub settled : IsSettled r.known
 
 abbrev pub HasOpened : HeapShown → CallerShown → CallerShown → Type 0
 HasOpened heap q r = (ends : List (Option Receipt)) × HaveOpened heap q r ends
+
+-- What a caller knows of the opening: it has seen the entries, and they are of no epoch above those
+-- that it has seen, all of which are settled.
+pub record KnowsOpening (q : CallerKnown) (opening : List Receipt) : Type 0 where
+  pub seen : All (HasSeenPlace q) opening
+  pub epochs : All (λ (x : Receipt). x.entry.epoch ≤ q.part.newest) opening
+  pub settled : IsSettled q

@@ -9,7 +9,8 @@ ghost use Rattle.store.specs.MapBoxes.{HaveEmptyBoxes, LacksBox};
 ghost use Rattle.store.specs.Store.{IsFirstPass};
 ghost use Rattle.bank_store.specs.BankCallers.{AreNewTickets};
 ghost use Rattle.bank_store.specs.BankEnd.{HasEnded};
-ghost use Rattle.bank_store.specs.BankRun.{IsBankRun};
+ghost use Rattle.bank_store.specs.BankRun.{IsBankRun, IsBankRunOn};
+ghost use Rattle.bank_store.specs.BankStore.{TellsDurable};
 
 use crate::bank_contents::contents_left;
 use crate::side_by_side::run_tellers;
@@ -63,8 +64,8 @@ fn run_on_fresh<R: Threads + Wait + Sync, N: HeapName + Send + Sync, I: Index + 
     requires opening { N.heap.opening ≡ fresh_opening bank_layout 4 }
     requires opens { Opens (fresh_opening bank_layout 4) N.heap
         seats.units.items seats.advancer seats.callers.items }
-    ensures run { IfOk result (λ report. IsBankRun number report.histories report.image_clock
-        (states_of report.contents)) }
+    ensures run { IfOk result (λ report. IsBankRunOn N.heap number report.histories
+        report.image_clock (states_of report.contents)) }
     ensures boxes { OnOk result (HaveEmptyBoxes N.heap.opening.layout
         (map (λ b. finite.len (I.places b)) indexes.items)) }
     ensures lacks { IfErr result (λ why. LacksBox N.heap.opening.layout
@@ -113,8 +114,10 @@ fn report_on<R: Threads + Sync, N: HeapName>(
 ) -> Result<BankReport, AllocError>
     requires opening { N.heap.opening ≡ fresh_opening bank_layout 4 }
     requires ended { HasEnded N.heap _number stopped }
-    ensures { IfOk result (λ report. IsBankRun _number report.histories report.image_clock
-        (states_of report.contents)) }
+    ensures run { IfOk result (λ report. IsBankRunOn N.heap _number report.histories
+        report.image_clock (states_of report.contents)) }
+    ensures told { IfOk result (λ report. TellsDurable stopped report.histories
+        report.image_clock (states_of report.contents)) }
 {
     let image = pick(alloc, &stopped.words, DURABLE)?;
     let contents = contents_left(rt, alloc, &image, &stopped)?;

@@ -71,7 +71,7 @@ fn work_beside<R: Threads + Wait + Sync, N: HeapName + Send + Sync, I: Index + S
 {
     let ((), ()) = join_mut(
         rt,
-        &mut || { make_attempts(rt, store) },
+        &mut || { make_attempts(rt, store, &mut Steady) },
         &mut ||
             requires { IsSync R.row × IsSend N.row × IsSync N.row × IsSend I.row
                 × (N.heap.opening.layout ≡ bank_layout)

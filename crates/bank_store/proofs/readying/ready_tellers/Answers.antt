@@ -8,9 +8,8 @@ use Rattle.heap.specs.HeapShown.{CallerShown}
 use Rattle.bank_job.specs.Bank.{first_puts}
 use Rattle.bank_job.specs.Shifts.{first_shifts}
 use Rattle.store.specs.Store.{IsFirstPass}
-use Rattle.bank_store.specs.MadeShifts.{HasSeenPlace}
-use Rattle.bank_store.specs.OpenedAccounts.{HaveComeTo, puts_given}
-use Rattle.bank_store.proofs.FirstTellers.{all_heard, new_caller}
+use Rattle.bank_store.specs.OpenedAccounts.{HaveComeTo, KnowsOpening, puts_given}
+use Rattle.bank_store.proofs.FirstTellers.{all_known, new_caller}
 use Rattle.bank_store.proofs.ReadyTellers.{hearer_teller, new_callers, none_taken, one_taken, opener_teller, ready_more, ready_one}
 use Rattle.bank_store.proofs.readying.ready_tellers.Goals as goal
 
@@ -64,9 +63,9 @@ loop-pass-init g c =
           (opener_teller heap c.args.number ends r t (ap (λ x. x.ticket) made.pass ∙ c.in_ok-news.ensures.ticket)
           (ap (λ x. x.receipts.items) made.pass ∙ ap (λ x. x.items) c.in_ok-news.ensures.receipts
           ∙ c.in_ok-open_accounts.ensures.same.whole unused.own.whole) made.shifts made.between
-          (subst (λ (q : CallerShown). HaveComeTo heap q r (first_puts 8) ends) k.2 opened.1.puts)),
+          (subst (λ (q : CallerShown). HaveComeTo heap q r (first_puts 8) ends) k.2 opened.1.puts) opened.1.settled),
       c.in_ok-news.ensures.news ∙ (λ i. record { table = (c.heap.ensures.heap i).table; known = note_of_caller r.known }),
-      opened.1.puts.seen,
+      record { seen = opened.1.puts.seen; epochs = opened.1.puts.epochs; settled = opened.1.settled },
     )
 
 pub hear-requires-clause-pass : goal.hear-requires-clause-pass
@@ -144,8 +143,8 @@ loop-pass-preserved g c =
           (subst (λ (n : ℕ). t.shifts.items ≡ first_shifts c.args.number n 500) number made.shifts) made.between) i.9,
       c.in_ok-news-2.ensures.news
           ∙ (λ j. record { table = (c.heap-in-loop-pass-2.ensures.heap j).table; known = note_of_caller c.hear.new.pass.ticket.known }),
-      subst (λ (x : CallerShown). All (HasSeenPlace x.known) (puts_given ends)) (sym heard)
-          (all_heard (length tellers) q.known (puts_given ends) i.4.opened.puts.units i.11),
+      subst (λ (x : CallerShown). KnowsOpening x.known (puts_given ends)) (sym heard)
+          (all_known (length tellers) q.known (puts_given ends) i.4.opened.puts.units i.11),
     )
 
 pub returns : goal.returns

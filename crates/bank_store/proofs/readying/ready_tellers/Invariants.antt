@@ -6,8 +6,7 @@ use Rattle.heap_rule.specs.Views.{note_of_caller}
 use Rattle.heap.specs.HeapShown.{CallerShown}
 use Rattle.store.specs.Store.{IsFirstPass}
 use Rattle.bank_store.specs.BankCallers.{IsOpener}
-use Rattle.bank_store.specs.MadeShifts.{HasSeenPlace}
-use Rattle.bank_store.specs.OpenedAccounts.{puts_given}
+use Rattle.bank_store.specs.OpenedAccounts.{KnowsOpening, puts_given}
 use Rattle.bank_store.proofs.ReadyTellers.{AreReadyBelow, new_callers}
 use Rattle.bank_store.proofs.readying.ready_tellers.Given as goal
 
@@ -21,4 +20,4 @@ invariant-loop-pass g l =
     × All (IsFirstPass g.N.HeapName.heap) l.pass-iterator.rest.items
     × AreReadyBelow g.N.HeapName.heap l.fn.number ends opener l.tellers.items
     × (l.news ≡ record { table = g.N.HeapName.heap.table; known = note_of_caller q.known })
-    × All (HasSeenPlace q.known) (puts_given ends)
+    × KnowsOpening q.known (puts_given ends)
