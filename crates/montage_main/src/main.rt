@@ -9,6 +9,7 @@ ghost use Rattle.montage_tool.specs.Process.{CameOf, Ends};
 use index_kit::{Index, ProbeIndex, SortedIndex};
 use mont_base::{MOST_UNITS, Sink, Source};
 use montage_tool::{Status, StdSink, StdSource, exit_of, say, serve, words_of};
+use process_devices::hold_places;
 use std::process::ExitCode;
 use std::rt::{Env, Files};
 use std::sync::Wait;
@@ -16,6 +17,7 @@ use std::thread::Threads;
 use std::{env, io};
 
 fn main(rt: HostRuntime) -> ExitCode {
+    let _held = hold_places(&rt);
     let mut job = StdSource::new(rt.reader());
     let mut out = StdSink::new(io::writer(&rt));
     answer_words(&rt, &mut job, &mut out)

@@ -3,9 +3,7 @@
 #![tactic(auto)]
 
 mod about;
-mod adapters;
 mod command_line;
-mod file_sink;
 mod forms;
 mod generated_runs;
 mod job_runs;
@@ -22,10 +20,9 @@ mod top_call;
 mod verdict_line;
 
 pub use about::{HELP, VERSION};
-pub use adapters::{FileSource, StdSink, StdSource};
 pub use command_line::words_of;
-pub use file_sink::FileSink;
 pub use forms::{FileWords, Form, files_of, forms_are_one};
+pub use process_devices::{FileSink, FileSource, StdSink, StdSource};
 pub use program::{answer, exit_of, say};
 pub use serving::serve;
 pub use status::{SinkName, SourceName, Status, exit_code, status_text};

@@ -3,14 +3,13 @@ ghost use Rattle.std.specs.Prelude.{◌≡◌, map, string_bytes, IfOk, OnErr};
 ghost use Rattle.std.specs.FinMap as finite;
 ghost use Rattle.montage_tool.specs.Process.{AreAnswered, IsSettled};
 
-use crate::adapters::FileSource;
 use crate::command_line::file_word;
-use crate::file_sink::FileSink;
 use crate::forms::files_of;
 use crate::program::answer;
 use crate::status::{SinkName, Status};
 use index_kit::Index;
 use mont_base::{Sink, Source};
+use process_devices::{FileSink, FileSource};
 use std::alloc::AllocError;
 use std::rt::Files;
 use std::sync::Wait;
@@ -30,17 +29,32 @@ pub fn serve<R: AllocGlobal + Files + Threads + Wait + Sync, J: Source, O: Sink>
     ensures memory { OnErr result ((job.new ≡ job.old) × (out.new ≡ out.old)) }
 {
     let files = files_of(words);
-    let mut image: FileSource<R::File> = match file_word(words, files.image) {
-        Some(path) => FileSource::open(rt, path),
-        None => FileSource::closed(),
-    };
-    let path = file_word(words, files.image_out).unwrap_or("");
-    let mut image_out = FileSink::new(rt, rt.alloc(), path)?;
+    let mut image = source_of(rt, file_word(words, files.image));
+    let mut image_out = sink_of(rt, file_word(words, files.image_out))?;
     let status = answer(rt, words, job, &mut image, indexes, out, &mut image_out);
     if files.image_out.is_some() {
         Ok(settled(&mut image_out, status))
     } else {
         Ok(status)
+    }
+}
+
+// The image that is read, where a word names one.
+fn source_of<R: Files>(rt: &R, path: Option<&str>) -> FileSource<R::File> {
+    match path {
+        Some(path) => FileSource::open(rt, path),
+        None => FileSource::closed(),
+    }
+}
+
+// The image that is written, where a word names one.
+fn sink_of<'a, R: AllocGlobal + Files>(
+    rt: &'a R,
+    path: Option<&str>,
+) -> Result<FileSink<'a, R>, AllocError> {
+    match path {
+        Some(path) => FileSink::new(rt, rt.alloc(), path),
+        None => Ok(FileSink::closed(rt, rt.alloc())),
     }
 }
 

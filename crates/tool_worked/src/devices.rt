@@ -39,7 +39,7 @@ static WRITTEN: &[Written] = &[
         older: Some(b"an older file"),
         pieces: &[],
         is_whole: true,
-        held: b"an older file",
+        held: b"",
     },
 ];
 
@@ -59,7 +59,7 @@ fn is_ended(rt: &(impl Abort + AllocGlobal + Files), written: &Written) -> Resul
     }
     is_taken(rt, written)?;
     holds(rt, written.held)?;
-    assert!(rt; fs::metadata(rt, "devices-test.unfinished").is_err());
+    assert!(rt; fs::metadata(rt, "devices-test.1.unfinished").is_err());
     Ok(())
 }
 
@@ -132,7 +132,7 @@ fn sink_fails<R: Abort + Files>(rt: &R, sink: &mut FileSink<'_, R>) {
     assert!(rt; sink.finish().is_err());
 }
 
-// Gives and takes one byte, then none, and then fails.
+// Gives and takes one byte, is interrupted, gives and takes none, and then fails.
 #[derive(Drop)]
 struct Worn {
     calls: u8,
@@ -145,7 +145,8 @@ impl Worn {
         self.calls = self.calls.saturating_add(1);
         match self.calls {
             1 => Ok(room.min(1)),
-            2 => Ok(0),
+            2 => Err(io::Error::from(io::ErrorKind::Interrupted)),
+            3 => Ok(0),
             _ => Err(io::Error::from(io::ErrorKind::Other)),
         }
     }

@@ -7,4 +7,6 @@ mod devices;
 #[cfg(test)]
 mod meeting;
 #[cfg(test)]
+mod pieces;
+#[cfg(test)]
 mod statuses_told;
