@@ -7,3 +7,7 @@ pub mod NoFaults
 pub mod Repeated
 pub mod Versions
 pub mod Widened
+pub mod Written
+pub mod SlotPieces
+pub mod TextSize
+pub mod Shown

@@ -5,3 +5,5 @@ pub mod AllFaults
 pub mod ObjectFaults
 pub mod Info
 pub mod ToldLines
+pub mod Trouble
+pub mod Process

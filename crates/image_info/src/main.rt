@@ -7,67 +7,58 @@ mod all_records;
 mod epoch_counts;
 mod graph_faults;
 mod info;
-mod input;
 mod item_faults;
 mod object_faults;
 mod old_pair_faults;
 mod pair_faults;
 mod repeat_faults;
+mod showing;
 mod slot_faults;
 mod told_lines;
+mod trouble;
 mod unit_counts;
 mod wide_words;
 
-use image_units::ImageFault;
-use info::info_of;
-use input::read_all;
-use mont_image::ImageRefusal;
-use std::alloc::Global;
-use std::io::{self, Read, Write};
+ghost use Rattle.std.specs.Process.{exit_status};
+ghost use Rattle.image_info.specs.Process.{CameOf, Ends};
+
+use mont_base::{Sink, Source};
+use process_devices::{StdSink, StdSource};
+use showing::show;
+use std::io;
 use std::process::ExitCode;
-use told_lines::info_text;
+use trouble::{Trouble, exit_code};
 
 fn main(rt: HostRuntime) -> ExitCode {
-    match shown(rt.alloc(), &mut rt.reader()) {
-        Ok(text) => {
-            let mut out = io::writer(&rt);
-            match out.write_all(text.as_bytes()) {
-                Ok(()) => ExitCode::SUCCESS,
-                Err(_) => ExitCode::from(6),
-            }
-        }
-        Err(refusal) => {
-            let _ = say(&rt, refusal);
-            ExitCode::from(status_of(refusal))
-        }
+    let mut image = StdSource::new(rt.reader());
+    let mut out = StdSink::new(io::writer(&rt));
+    end_process(&rt, &mut image, &mut out)
+}
+
+// Shows the image of a source, says on standard error why it can't, and ends with the exit code of
+// what came of it.
+fn end_process<R: AllocGlobal + Eprint, S: Source, O: Sink>(
+    rt: &R,
+    image: &mut S,
+    out: &mut O,
+) -> ExitCode
+    ensures { Ends (CameOf S.Source O.Sink image.old image.new out.old out.new)
+        (exit_status result) }
+{
+    let shown = show(rt.alloc(), image, out);
+    if let Err(trouble) = &shown {
+        let _ = say(rt, *trouble);
     }
+    ExitCode::from(exit_code(&shown))
 }
 
-// The lines that tell of the image whose text is read.
-fn shown<R: Read>(alloc: Global, reader: &mut R) -> Result<String, ImageRefusal> {
-    let bytes = read_all(alloc, reader)?;
-    let info = info_of(alloc, bytes)?;
-    Ok(info_text(alloc, &info)?)
-}
-
-// Says on standard error why nothing is shown.
-fn say(rt: &impl Eprint, refusal: ImageRefusal) -> io::Result<()> {
-    match ImageFault::of_bytes(refusal) {
-        Some(fault) => eprintln!(rt; "image_info: {fault}"),
-        None if refusal == ImageRefusal::Read => eprintln!(rt; "image_info: read fault"),
-        None => eprintln!(rt; "image_info: out of memory"),
-    }
-}
-
-fn status_of(refusal: ImageRefusal) -> u8 {
-    match refusal {
-        ImageRefusal::Read => 5,
-        ImageRefusal::Memory => 7,
-        ImageRefusal::Magic
-        | ImageRefusal::Version
-        | ImageRefusal::Layout
-        | ImageRefusal::Clock
-        | ImageRefusal::Short { .. }
-        | ImageRefusal::Long => 10,
+// Says on standard error why nothing is shown. Where standard output fails, the exit code alone
+// tells it.
+fn say(rt: &impl Eprint, trouble: Trouble) -> io::Result<()> {
+    match trouble {
+        Trouble::NoImage { fault } => eprintln!(rt; "image_info: {fault}"),
+        Trouble::Read => eprintln!(rt; "image_info: read fault"),
+        Trouble::Memory => eprintln!(rt; "image_info: out of memory"),
+        Trouble::Write => Ok(()),
     }
 }
