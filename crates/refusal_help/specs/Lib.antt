@@ -1,0 +1,9 @@
+pub mod Table
+pub mod Numbers
+pub mod TextWords
+pub mod LayoutWords
+pub mod Words
+pub mod LineBytes
+pub mod Lines
+pub mod Judged
+pub mod TextLines
