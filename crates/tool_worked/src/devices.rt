@@ -75,6 +75,7 @@ fn takes<R: Abort + Files>(
     written: &Written,
 ) -> Result<(), Fail> {
     for piece in written.pieces {
+        assert!(rt; piece.len() > 0);
         assert!(rt; sink.write(piece) == Ok(piece.len()));
     }
     match written.older {
