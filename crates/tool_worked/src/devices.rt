@@ -1,7 +1,7 @@
 // The devices of the process, and devices that wear out.
 ghost use Rattle.std.specs.Prelude.{◌≤◌, IfOk};
 
-use mont_base::{Failed, Sink, Source};
+use mont_base::{Failed, Sink, Source, deliver};
 use montage_tool::{FileSink, FileSource, StdSink, StdSource};
 use std::io::{Read, Write};
 use std::process::Abort;
@@ -75,8 +75,7 @@ fn takes<R: Abort + Files>(
     written: &Written,
 ) -> Result<(), Fail> {
     for piece in written.pieces {
-        assert!(rt; piece.len() > 0);
-        assert!(rt; sink.write(piece) == Ok(piece.len()));
+        assert!(rt; deliver(sink, piece).is_ok());
     }
     match written.older {
         Some(older) => holds(rt, older)?,
