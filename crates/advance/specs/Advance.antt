@@ -64,7 +64,7 @@ pub record HasShown (unit epoch : ℕ) (cut : Bool) (old new : AdvKnown) : Type 
   pub stays : new.part ≡ Checking unit
   pub marked : cut ≡ true → is_among new.odd unit ≡ true
 
--- there is no clock behind this one
+-- there is no clock after this one
 pub record IsAtEnd (a : AdvKnown) : Type 0 where
   pub rests : a.part ≡ Rest
   pub last : a.clock ≡ LAST

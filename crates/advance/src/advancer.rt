@@ -237,7 +237,7 @@ impl Advancer {
         Ok(())
     }
 
-    // Behind all units: writes back what they have listed, moves the clock, makes it durable and
+    // After all units: writes back what they have listed, moves the clock, makes it durable and
     // answers it.
     fn settle<G: Gate>(&mut self, heap: &Heap, gate: &mut G) -> Result<Epoch, Cut>
         requires heap { self.old.table ≡ heap.now.table }

@@ -27,7 +27,7 @@ HasTried old new epoch clock =
     Comes old new (confirmed clock (Told epoch)) (old.known.steps + 2) clock
 
 -- ---- registrations
--- The clock was loaded before the epoch was announced and again behind that, and showed it.
+-- The clock was loaded before the epoch was announced and again after that, and showed it.
 pub record IsRegistered (old new : UnitShown) (epoch : ℕ) : Type 0 where
   pub within : Comes old new (Within epoch) new.known.steps epoch
   pub steps : old.known.steps + 3 ≤ new.known.steps

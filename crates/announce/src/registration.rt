@@ -41,7 +41,7 @@ pub fn register<R: Wait, G: Gate>(
     unreachable!()
 }
 
-/// Registers the unit at this epoch, if the clock shows it behind the announcement. It is looked at
+/// Registers the unit at this epoch, if the clock shows it after the announcement. It is looked at
 /// once.
 pub fn register_at<G: Gate>(
     heap: &Heap,
@@ -66,7 +66,7 @@ pub fn register_at<G: Gate>(
     Err(RegisterRefusal::Moved { clock })
 }
 
-// Announces the epoch, and answers what the clock shows behind that. The unit is registered where
+// Announces the epoch, and answers what the clock shows after that. The unit is registered where
 // it is the epoch.
 fn announce<G: Gate>(
     heap: &Heap,

@@ -1,4 +1,4 @@
--- The shifts of a caller as the program makes them, one behind the other.
+-- The shifts of a caller as the program makes them, one after the other.
 use Rattle.std.proofs.Common.{◌≡◌, ℕ, ◌+◌, [], ◌∷◌, ◌++◌, refl, sym, ap, ◌∙◌, add-one, arith}
 use Rattle.std.proofs.lemmas.List.FromFn.{map-range_with_len_more}
 use Rattle.big_job.specs.CallerWords.{first_word, next_word, word_after}

@@ -10,7 +10,7 @@ use Rattle.bank_job.specs.Bank.{account, bank_layout}
 abbrev pub from_of : ℕ → ℕ
 from_of word = word / 2 ^ 33 % 8
 
--- an account that is one to three behind, the first being behind the last
+-- an account that is one to three after, the first being after the last
 abbrev pub to_of : ℕ → ℕ
 to_of word = (from_of word + 1 + word / 2 ^ 40 % 3) % 8
 

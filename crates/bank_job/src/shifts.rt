@@ -10,7 +10,7 @@ use std::alloc::{AllocError, Global};
 /// How many shifts each caller makes.
 pub const SHIFTS: u64 = 500;
 
-// The accounts to which a shift may go lie at most so far behind its own.
+// The accounts to which a shift may go lie at most so far after its own.
 const NEAR: u64 = 3;
 
 const MOST: u64 = 100;

@@ -127,7 +127,7 @@ module _
   abbrev opening : List Receipt
   opening = puts_given sh.ends
 
-  -- the receipt is one of the opening, or its entry comes behind these in its unit
+  -- the receipt is one of the opening, or its entry comes after these in its unit
   abbrev Comes : Receipt → Type 0
   Comes y =
       ((m : ℕ) × (slice_get opening m ≡ Some y))

@@ -1,4 +1,4 @@
--- What holds of shifts and their ends, one behind the other.
+-- What holds of shifts and their ends, one after the other.
 use Rattle.std.proofs.Common.{◌≡◌, List, [], ◌∷◌, ◌++◌, sym, ap, ◌∙◌, subst, append_assoc}
 use Rattle.std.specs.Prelude.{All}
 use Rattle.std.proofs.lemmas.List.{append-nil}
@@ -13,7 +13,7 @@ given_more (e ∷ es) end =
     ap (λ (rs : List Receipt). receipts_given e ++ rs) (given_more es end)
     ∙ sym (append_assoc (receipts_given e) (all_given es) (receipts_given end))
 
--- one more behind them
+-- one more after them
 pub holds_more : (P Q : Shift → End → List Receipt → List Receipt → Type 0) (shift : Shift) (end : End)
     → ((s : Shift) (e : End) (before behind : List Receipt) → P s e before behind → Q s e before (behind ++ receipts_given end))
     → (earlier : List Receipt) (shifts : List Shift) (ends : List End) → Q shift end (earlier ++ all_given ends) []
@@ -39,7 +39,7 @@ holds_weaker P Q step earlier (s ∷ ss) (e ∷ es) holds =
 holds_weaker P Q step earlier [] (e ∷ es) holds = absurd holds
 holds_weaker P Q step earlier (s ∷ ss) [] holds = absurd holds
 
--- and so it does of what stands behind a front, which it knows
+-- and so it does of what stands after a front, which it knows
 pub holds_behind : (P Q : Shift → End → List Receipt → List Receipt → Type 0) (Fits : Shift → Type 0) (front : List Receipt)
     → ((s : Shift) (e : End) (before behind : List Receipt) → Fits s → P s e before behind → Q s e (front ++ before) behind)
     → (earlier : List Receipt) (shifts : List Shift) (ends : List End) → All Fits shifts → HoldsOfEach P earlier shifts ends

@@ -28,7 +28,7 @@ pub record PutsNumber (e : Entry) : Type 0 where
   pub put : e.op ≡ ops.Put key (decimal number)
   pub small : (number ≤ 1000) ⊎ ((had : ℕ) × (e.reply ≡ WasText (decimal had)) × (had < 2 ^ 64) × (number ≤ had + 99))
 
--- what is there behind puts
+-- what is there after puts
 abbrev put_into : Pairs → Op → Pairs
 put_into m (ops.Put key value) = finite.insert m key value
 put_into m _ = m

@@ -1,4 +1,4 @@
--- Passes of one caller, one behind the other, and the next item of a list.
+-- Passes of one caller, one after the other, and the next item of a list.
 use Rattle.std.proofs.Common.{refl, ◌∙◌}
 use Rattle.mont_base.specs.declared.gate.Gate.{Ghosts}
 use Rattle.heap_pass.specs.declared.pass.Pass.{Pass}

@@ -127,7 +127,7 @@ come_more heap q r t puts ends o None inside k c =
           (puts_end_later heap q r t on calls puts ends k.each);
     }
 
--- ---- behind the wait
+-- ---- after the wait
 goes_waiting : (q r : CallerShown) → KeepsSeen q r → GoesOn q.known r.known
 goes_waiting q r k = record {
   caller = k.caller;

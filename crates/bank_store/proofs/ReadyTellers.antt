@@ -1,4 +1,4 @@
--- The callers of the bank, before their shifts and behind them.
+-- The callers of the bank, before their shifts and after them.
 use Rattle.std.proofs.Common.{◌≡◌, ℕ, zero, suc, ◌<◌, List, [], ◌∷◌, ◌++◌, length, map, sym, refl, ap, ◌∙◌, subst, arith, inl, inr}
 use Rattle.std.specs.Prelude.{◌⊎◌, slice_get, Option, Some, All}
 use Rattle.std.proofs.lemmas.List.{length-map}

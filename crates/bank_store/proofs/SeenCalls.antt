@@ -1,4 +1,4 @@
--- What a caller has seen, and what comes behind it, while the caller goes on.
+-- What a caller has seen, and what comes after it, while the caller goes on.
 use Rattle.std.proofs.Common.{◌≤◌, List, [], ◌∷◌, ◌++◌, length, sym, refl, ap, ◌∙◌, arith, append_assoc, length-append}
 use Rattle.std.proofs.lemmas.List.{append-nil}
 use Rattle.mont_base.specs.declared.operation.Entry.{Entry}
@@ -51,7 +51,7 @@ goes_keeping q r k = record {
   marks = k.marks;
 }
 
--- ---- entries that it has seen, and entries behind these
+-- ---- entries that it has seen, and entries after these
 pub seen_later : (q r : CallerKnown) (x : Receipt) → GoesOn q r → HasSeenPlace q x → HasSeenPlace r x
 seen_later q r x on s =
     let w = on.seen x.unit s.front s.of_unit in

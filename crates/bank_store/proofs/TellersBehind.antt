@@ -1,4 +1,4 @@
--- The callers of the bank behind their shifts.
+-- The callers of the bank after their shifts.
 use Rattle.std.proofs.Common.{◌≡◌, ℕ, List, [], ◌∷◌, map, get_or, sym, refl, ap, ◌∙◌, subst, arith}
 use Rattle.std.specs.Prelude.{slice_get, Some, Ok, Err, All, IfOk, OnOk}
 use Rattle.std.specs.declared.alloc.AllocError.{AllocError}
@@ -34,7 +34,7 @@ pub all_between : (heap : HeapShown) (number : ℕ) (ts : List Teller) → AreRe
     → All (λ (t : Teller). All IsBetweenUnits t.shifts.items) ts
 all_between heap number ts k = all_at (λ (t : Teller). All IsBetweenUnits t.shifts.items) ts (λ i t e. (k.each i t e).between)
 
--- ---- behind
+-- ---- after
 ok_of : (r : Result (Unit {0}) AllocError) (P : Type 0) → OnOk r P → r ≡ Ok tt → P
 ok_of (Ok v) P h e = h
 ok_of (Err x) P h e = absurd (cc e)
@@ -42,7 +42,7 @@ ok_of (Err x) P h e = absurd (cc e)
 module _
     (heap : HeapShown) (number : ℕ) (olds news : List Teller) (ready : AreReady heap number olds) (k : HaveWorked heap olds news)
     (made : All (λ (t : Teller). t.made ≡ Ok tt) news) where
-  -- the teller in a place, before and behind
+  -- the teller in a place, before and after
   record Both (i : ℕ) (new : Teller) : Type 0 where
     pub old : Teller
     pub old_at : slice_get olds i ≡ Some old

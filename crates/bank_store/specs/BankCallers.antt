@@ -1,4 +1,4 @@
--- What the tickets of the bank's callers show, before their shifts and behind them.
+-- What the tickets of the bank's callers show, before their shifts and after them.
 use Rattle.std.specs.Prelude.{◌≡◌, ℕ, List, [], length, slice_get, Option, Some}
 use Rattle.mont_base.specs.declared.operation.Receipt.{Receipt}
 use Rattle.heap.specs.FreshOpening.{fresh_opening}
@@ -35,7 +35,7 @@ pub record IsOpener (heap : HeapShown) (ends : List (Option Receipt)) (r : Calle
   pub uncut : first.known.part.cuts ≡ []
   pub opened : HaveOpened heap first r ends
 
--- ---- behind them
+-- ---- after them
 -- a caller that was ready has made its shifts
 pub record HasShiftedAll
     (heap : HeapShown) (number : ℕ) (opening : List Receipt) (caller : ℕ) (r : CallerShown)

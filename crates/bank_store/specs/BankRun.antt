@@ -23,12 +23,12 @@ use Rattle.bank_store.specs.BankStore.{IsOfBankStore}
 use Rattle.bank_store.specs.Ends.{End, HasGone, HoldsOfEach, all_given}
 
 -- ---- why there is no shift
--- under the key there is so much behind these entries of its unit
+-- under the key there is so much after these entries of its unit
 abbrev pub HoldsBehind : List Entry → Key → ℕ → Type 0
 HoldsBehind history key have =
     (step (state_after (MapOf finite.empty) history) (ops.Get key)).reply ≡ WasText (decimal have)
 
--- Behind some first entries of the unit of `from` there is less than the amount. They are more than
+-- After some first entries of the unit of `from` there is less than the amount. They are more than
 -- the places of the caller's earlier entries in the unit, and no more than those of its later ones.
 pub record WasShort
     (histories : List (List Entry)) (shift : Shift) (earlier later : List Receipt) : Type 0 where

@@ -1,4 +1,4 @@
--- What came of the shifts of a caller, one behind the other: of each the receipts of its two
+-- What came of the shifts of a caller, one after the other: of each the receipts of its two
 -- entries, or none.
 use Rattle.std.specs.Prelude.{◌≡◌, List, [], ◌∷◌, ◌++◌, Option, Some, None}
 use Rattle.std.specs.List.{flat_map}
@@ -26,7 +26,7 @@ pub record HasGone (shift : Shift) (pair : Receipt × Receipt) : Type 0 where
   pub epoch : pair.0.entry.epoch ≡ pair.1.entry.epoch
 
 -- This holds of each shift and its end, with the receipts that its caller was given before it and
--- behind it. Those before the first shift are the earlier ones.
+-- after it. Those before the first shift are the earlier ones.
 abbrev pub HoldsOfEach :
     (Shift → End → List Receipt → List Receipt → Type 0) → List Receipt → List Shift → List End
     → Type 0

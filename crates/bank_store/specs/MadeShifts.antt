@@ -41,7 +41,7 @@ ComesTo heap q r shift None = IsPassedOver heap q r shift
 abbrev pub HasMadeShift : HeapShown → CallerShown → CallerShown → Shift → Type 0
 HasMadeShift heap q r shift = (end : End) × ComesTo heap q r shift end
 
--- ---- what a caller has seen, and what comes behind it
+-- ---- what a caller has seen, and what comes after it
 pub record HasSeenPlace (q : CallerKnown) (r : Receipt) : Type 0 where
   pub front : List Entry
   pub of_unit : slice_get q.entries r.unit ≡ Some front
@@ -57,7 +57,7 @@ ComesOnceDurable q r = q.part.durable ≤ r.entry.epoch
 
 -- ---- shifts that were made between two states of a caller
 -- One was passed over between: all entries that the caller was answered before it had seen, and
--- those that it was answered later come behind all that it had seen then.
+-- those that it was answered later come after all that it had seen then.
 pub record WasPassedOver
     (heap : HeapShown) (first last : CallerShown) (shift : Shift) (earlier later : List Receipt)
     : Type 0 where

@@ -1,4 +1,4 @@
--- The callers of the bank, before their shifts and behind them.
+-- The callers of the bank, before their shifts and after them.
 use Rattle.std.specs.Prelude.{◌≡◌, ℕ, List, length, slice_get, Option, Some, All, OnOk}
 use Rattle.mont_base.specs.declared.operation.Receipt.{Receipt}
 use Rattle.heap.specs.HeapShown.{HeapShown, CallerShown}
@@ -30,7 +30,7 @@ pub record AreReady (heap : HeapShown) (number : ℕ) (tellers : List Teller) : 
       (caller : ℕ) (t : Teller) → slice_get tellers caller ≡ Some t
       → IsTeller heap number (puts_given ends) caller t
 
--- ---- behind them
+-- ---- after them
 -- A teller made its shifts, where memory was enough.
 pub record HasWorked (heap : HeapShown) (old new : Teller) : Type 0 where
   pub same : IsSamePass old.pass new.pass

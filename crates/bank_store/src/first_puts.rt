@@ -13,7 +13,7 @@ use std::alloc::{AllocError, Global};
 use std::sync::Wait;
 use store::Store;
 
-// Puts what the accounts hold at first, and waits until that is durable. Behind the last clock
+// Puts what the accounts hold at first, and waits until that is durable. After the last clock
 // nothing more becomes durable, and then the bank goes on all the same.
 pub(crate) fn open_accounts<R: Wait, N: HeapName, I: Index>(
     rt: &R,
@@ -32,7 +32,7 @@ pub(crate) fn open_accounts<R: Wait, N: HeapName, I: Index>(
     Ok(())
 }
 
-// Makes the puts, one behind the other.
+// Makes the puts, one after the other.
 fn make_puts<R: Wait, N: HeapName, I: Index>(
     rt: &R,
     store: &Store<N, I>,

@@ -43,7 +43,7 @@ pub(crate) fn run_tellers<R: Threads + Wait + Sync, N: HeapName + Send + Sync, I
     passes_of(alloc, behind)
 }
 
-// The callers behind their work.
+// The callers after their work.
 fn all_worked<R: Threads + Wait + Sync, N: HeapName + Send + Sync, I: Index + Send>(
     rt: &R,
     store: &Store<N, I>,

@@ -22,7 +22,7 @@ line_of_caller number caller line =
 unfoldable pub first_lines : ℕ → ℕ → ℕ → List Line
 first_lines number caller count = map (line_of_caller number caller) (range_with_len 0 count)
 
--- the lines of the first callers, one caller behind the other
+-- the lines of the first callers, one caller after the other
 unfoldable pub lines_of_callers : ℕ → ℕ → ℕ → List Line
 lines_of_callers number count callers =
     flat_map (λ caller. first_lines number caller count) (range_with_len 0 callers)

@@ -17,7 +17,7 @@ use Rattle.caller.specs.Syncing.{KeepsSeen, HasWaited, HasHeard, LeavesUnsynced,
 use Rattle.caller.proofs.TakenNotes.{or_left, or_right, joined_has, odd_has, greater_none}
 
 -- ---- waiting
--- the caller behind a load of the durable clock, with these synced fronts
+-- the caller after a load of the durable clock, with these synced fronts
 abbrev loaded_by : CallerShown → ℕ → ℕ → List ℕ → CallerShown
 loaded_by q steps clock synced = record {
   table = q.table;

@@ -37,7 +37,7 @@ pub record IsUnanswered (q : CallerKnown) : Type 0 where
   pub calls : q.part.calls ≡ 0
   pub receipts : q.part.receipts ≡ []
 
--- The call is one entry of the unit's history. The entry stands behind all that the caller had
+-- The call is one entry of the unit's history. The entry stands after all that the caller had
 -- seen, at no epoch below what it had seen or knew to be durable; from then on the caller has seen
 -- it, and all entries before it.
 pub record HasContinued (o : Opening) (q r : CallerKnown) (op : Op) (receipt : Receipt)

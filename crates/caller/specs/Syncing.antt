@@ -75,7 +75,7 @@ refusal_of_advance Cut = advances.Cut
 refusal_of_advance ClockEnd = advances.ClockEnd
 
 -- An advance of the heap's advancer was refused, with its reason in what the seat showed before and
--- behind it, and the caller has then taken a note of the seat.
+-- after it, and the caller has then taken a note of the seat.
 pub record HasHeard (heap : HeapShown) (old new : CallerShown) (why : AdvanceRefusal)
     : Type 0 where
   pub before : AdvShown

@@ -79,7 +79,7 @@ fn push_times<'a>(text: &mut Vec<u8>, bytes: &'a [u8]) -> Result<&'a [u8], CaseF
     Ok(after)
 }
 
-// The bytes before the first such byte and those behind it.
+// The bytes before the first such byte and those after it.
 fn split_once(bytes: &[u8], byte: u8) -> Result<(&[u8], &[u8]), CaseFault>
     ensures { IfOk result (λ p. length p.1.now < length bytes.now) }
 {

@@ -7,7 +7,7 @@ use std::alloc::{AllocError, Global};
 const HEAD: &str = "other lines";
 
 /// The text in which other lines stand in the place of some. `N: LINE` stands in the place of
-/// line N, counted from 1, behind what was put there before. `N-` leaves line N out.
+/// line N, counted from 1, after what was put there before. `N-` leaves line N out.
 pub fn with_other_lines(alloc: Global, text: &[u8], others: &[u8]) -> Result<Vec<u8>, Unanswered> {
     let mut other = Vec::new(alloc);
     let lines = without_last_feed(text);

@@ -73,7 +73,7 @@ fn words_of_record(
     Ok(Some(words[..shape.fields()].to_vec(alloc)?))
 }
 
-// The label, and the words behind it.
+// The label, and the words after it.
 fn label_in<'a, 'b>(unit: Unit, told: &'a [&'b str]) -> Option<(Label, &'a [&'b str])> {
     let (kind, identity, version, epoch, rest) = match told {
         ["new", identity, "at", epoch, rest @ ..] => (Kind::New, *identity, "1", *epoch, rest),

@@ -1,4 +1,4 @@
--- Where a value is that of the next field of some record, it is that of the one with the least words behind it.
+-- Where a value is that of the next field of some record, it is that of the one with the least words after it.
 use Rattle.std.proofs.Common.{◌≡◌, ℕ, zero, suc, ◌+◌, ◌-◌, ◌*◌, ◌<◌, ◌≤◌, [], ◌∷◌, ◌++◌, length, take, replicate, set, get_or, sym, refl, ap, ◌∙◌, subst, arith}
 use Rattle.std.proofs.lemmas.List.{take-set, take-append-le, take_all, length-append, length-replicate, length-take-le, length-set, get_or-set_same}
 use Rattle.mont_base.specs.declared.constants.TheConstants.{FIELDS}
@@ -11,7 +11,7 @@ use Rattle.core_steps.specs.Storing.{held_at, front_of}
 use Rattle.core_steps.proofs.RoleFronts.{shown_kind}
 use Rattle.core_answer.specs.Unfinished.{ShowsNext, GoesOn, least_version, kind_in, completion}
 
--- the record with the least words has what is shown, and the value behind it
+-- the record with the least words has what is shown, and the value after it
 abbrev pub IsCompleted : ℕ → ℕ → ℕ → Held → ℕ → ℕ → Type 0
 IsCompleted unit slot epoch change n value = ShowsNext unit change n value (completion unit slot epoch change n value)
 

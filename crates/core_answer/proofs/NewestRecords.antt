@@ -26,7 +26,7 @@ use Rattle.mont_laws.proofs.Newest.{newest_append, newest_is, identity_of}
 use Rattle.core_steps.proofs.RowFacts.{row_of_map}
 use Rattle.core_answer.specs.Newest.{IsKeyed, IsNewer, serial_in, live_serial}
 
--- what is read behind the end of a list of records
+-- what is read after the end of a list of records
 abbrev pub no_record : Held
 no_record = record {
   slot = 0;
@@ -53,7 +53,7 @@ abbrev AreOwn : List (ℕ × Held) → Type 0
 AreOwn es = (q : ℕ) (r : Held) → lookup (tree.is_at (nat_cmp q)) es ≡ Some r → r.label.identity ≡ q
 
 module _ (e : ℕ × Held) (es : List (ℕ × Held)) (s : IsStrictlySortedBy nat_cmp (keys_of (e ∷ es))) where
-  -- nothing behind has the identity of the first
+  -- nothing after has the identity of the first
   none_behind : (q : ℕ) → tree.is_at (nat_cmp q) e.0 ≡ true → lookup (tree.is_at (nat_cmp q)) es ≡ None
   none_behind q is = lookup-none (tree.is_at (nat_cmp q)) es
       (none_past_head (eq_by_cmp_equiv nat_cmp_total) q e es (IsDistinct-from_sorted nat_cmp (keys_of (e ∷ es)) s) is)

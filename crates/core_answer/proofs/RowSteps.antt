@@ -9,7 +9,7 @@ use Rattle.core_steps.proofs.Rows.{row_same}
 pub put_back : {A B : Type 0} (f : List A → B) (l : List A) (k : ℕ) (a b : A) → slice_get l k ≡ Some a → b ≡ a → f (set l k b) ≡ f l
 put_back f l k a b at is = ap f (ap (set l k) is ∙ row_same l k a at)
 
--- nothing is made of an item behind the end
+-- nothing is made of an item after the end
 pub on_past : {A B : Type 0} (l : List A) (i : ℕ) (b : B) (f : A → B) → length l ≤ i → on_row (slice_get l i) b f ≡ b
 on_past l i b f past = ap (λ o. on_row o b f) (slice_get_past l i past)
 

@@ -8,7 +8,7 @@ use Rattle.mont_base.specs.Record.{kind_of_number}
 use Rattle.mont_laws.specs.SlotReadings.{held_words, IsRecordOf}
 use Rattle.core_steps.specs.Storing.{front_of}
 
--- A record of the unit of which the change shows the epoch and the first n fields behind it, and of
+-- A record of the unit of which the change shows the epoch and the first n fields after it, and of
 -- which the value is the next one.
 pub record ShowsNext (unit : ℕ) (change : Held) (n value : ℕ) (whole : Held) : Type 0 where
   pub valid : IsRecordOf unit whole
@@ -22,7 +22,7 @@ pub record GoesOn (unit slot epoch : ℕ) (change : Held) (n value : ℕ) : Type
   pub of_epoch : whole.label.epoch ≡ epoch
   pub shows : ShowsNext unit change n value whole
 
--- ---- the record that has what is shown, the value behind it, and else the least words
+-- ---- the record that has what is shown, the value after it, and else the least words
 abbrev pub least_version : Kind → ℕ
 least_version kinds.New = 1
 least_version kinds.Copy = 2

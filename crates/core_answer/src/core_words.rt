@@ -20,14 +20,14 @@ pub fn durable_clock(core: &Core) -> Epoch
     word(&core.dur, 0)
 }
 
-/// The word at a place, and 0 behind the end.
+/// The word at a place, and 0 after the end.
 pub fn word(words: &Sequence<u64>, place: u64) -> u64
     ensures { result ≡ slice_index words.now place }
 {
     words.get(place).copied().unwrap_or(0)
 }
 
-/// Puts a word in its place, and does nothing behind the end.
+/// Puts a word in its place, and does nothing after the end.
 pub fn store(words: &mut Sequence<u64>, place: u64, value: u64)
     ensures { words.new ≡ slice_set words.old place value }
 {
@@ -36,7 +36,7 @@ pub fn store(words: &mut Sequence<u64>, place: u64, value: u64)
     }
 }
 
-/// The word of a slot, and 0 behind the end.
+/// The word of a slot, and 0 after the end.
 pub fn slot_word(words: &Sequence<u64>, slot: Slot, field: u64) -> u64
     ensures { result ≡ slice_index words.now (word_of slot field) }
 {
@@ -44,7 +44,7 @@ pub fn slot_word(words: &Sequence<u64>, slot: Slot, field: u64) -> u64
     word(words, place_of(slot, field))
 }
 
-/// Puts a word of a slot in its place, and does nothing behind the end.
+/// Puts a word of a slot in its place, and does nothing after the end.
 pub fn store_slot_word(words: &mut Sequence<u64>, slot: Slot, field: u64, value: u64)
     ensures { words.new ≡ slice_set words.old (word_of slot field) value }
 {
@@ -52,7 +52,7 @@ pub fn store_slot_word(words: &mut Sequence<u64>, slot: Slot, field: u64, value:
     store(words, place_of(slot, field), value);
 }
 
-// The place of a slot's word. A place above all numbers is behind every end, and so is the greatest
+// The place of a slot's word. A place above all numbers is after every end, and so is the greatest
 // number.
 fn place_of(slot: Slot, field: u64) -> u64
     ensures { result ≡ min (word_of slot field) (2 ^ 64 - 1) }

@@ -12,7 +12,7 @@ pub fn copied<T: Copy>(alloc: Global, items: &[T]) -> Result<Sequence<T>, AllocE
     joined(alloc, items, &[])
 }
 
-/// A list with the items of another behind it.
+/// A list with the items of another after it.
 pub fn joined<T: Copy>(alloc: Global, items: &[T], others: &[T]) -> Result<Sequence<T>, AllocError>
     ensures { IfOk result (λ list. list ≡ items.now ++ others.now) }
 {

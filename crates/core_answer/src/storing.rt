@@ -17,7 +17,7 @@ use mont_base::{FIELDS, Held, Slot, Unit};
 use std::alloc::AllocError;
 
 /// Whether the unit may store the value into a field of a slot: the next field of a record, or the
-/// label's epoch behind all others. Field 0 is the epoch.
+/// label's epoch after all others. Field 0 is the epoch.
 pub fn can_store(
     core: &Core,
     unit: Unit,
@@ -50,7 +50,7 @@ fn can_store_label(part: &UnitPart, slot: Slot, value: u64) -> bool
     whole && is_unfrozen(part) && part.stage == (UnitStage::Within { epoch: value })
 }
 
-// Whether the value is that of the field behind those stored.
+// Whether the value is that of the field after those stored.
 fn can_store_field(
     core: &Core,
     unit: Unit,

@@ -24,7 +24,7 @@ pub(crate) fn retired_by_all(
     Ok(retired)
 }
 
-// Adds the version before a record, and an anti-payload itself behind its victim.
+// Adds the version before a record, and an anti-payload itself after its victim.
 fn retire(retired: &mut Vec<Retired>, victim: Option<Held>, held: &Held) -> Result<(), AllocError>
     ensures { OnOk result (retired.new.items ≡ retired.old.items ++ retired_by victim held.now) }
 {

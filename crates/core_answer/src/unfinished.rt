@@ -80,7 +80,7 @@ fn shows_next(unit: Unit, change: &Held, stored: u64, value: u64, whole: &Held) 
         && words_of(whole)[stored as usize + 1] == value
 }
 
-// The record that has what is shown, the value behind it, and else the least words.
+// The record that has what is shown, the value after it, and else the least words.
 fn completion(unit: Unit, slot: Slot, epoch: Epoch, change: &Held, stored: u64, value: u64) -> Held
     requires { stored + 1 < FIELDS }
     ensures { result ≡ completion unit slot epoch change.now stored value }

@@ -8,7 +8,7 @@ use Rattle.std.proofs.lemmas.Option.{same_Some}
 use Rattle.mont_base.specs.declared.record.Held.{Held}
 use Rattle.core_steps.proofs.RowFacts.{row_before}
 
--- ---- lists that stand one behind the other
+-- ---- lists that stand one after the other
 row_behind : {A : Type 0} (l m : List A) (i : ℕ) → slice_get (l ++ m) (length l + i) ≡ slice_get m i
 row_behind [] m i = ap (slice_get m) (zero-add i)
 row_behind (x ∷ xs) m i =
@@ -32,7 +32,7 @@ row_in_lists f (x ∷ xs) (suc i) u j b at is =
 abbrev pub slots_at : ℕ → List Held → List ℕ
 slots_at x rs = map (λ (r : Held). r.slot) (filter (λ (r : Held). r.label.epoch == x) rs)
 
--- a record of the epoch stands behind those before it
+-- a record of the epoch stands after those before it
 pub record_listed :
     (x : ℕ) (rs : List Held) (i : ℕ) (d : Held) → i < length rs → (get_or rs i d).label.epoch ≡ x
     → slice_get (slots_at x rs) (length (slots_at x (take i rs))) ≡ Some (get_or rs i d).slot

@@ -1,5 +1,5 @@
 // How a unit announces an epoch, is registered in it, and takes the announcement back or leaves it
-// behind.
+// after.
 ghost use Rattle.std.specs.Prelude.{◌≡◌, ◌≤◌, OnOk, OnErr};
 ghost use Rattle.mont_base.specs.declared.constants.TheConstants.{LAST};
 ghost use Rattle.core_steps.specs.Announcing.{can_look, can_tell, confirmed, can_confirm, has_stored, can_withdraw, can_freeze, made_odd};

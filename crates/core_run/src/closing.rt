@@ -78,7 +78,7 @@ pub(crate) fn load_durable(alloc: Global, core: &mut Core, part: Part) -> Result
     Ok(())
 }
 
-// A caller knows all that it has seen to be durable, two epochs behind the newest of it.
+// A caller knows all that it has seen to be durable, two epochs after the newest of it.
 fn see_durable(alloc: Global, part: &mut CallerPart, durable: Epoch) -> Result<(), AllocError>
     ensures ok { OnOk result (part.new ≡ after_see_durable part.old durable) }
     ensures err { OnErr result (part.new ≡ part.old) }

@@ -66,7 +66,7 @@ fn listed_in(part: &UnitPart, epoch: Epoch, place: u64) -> Result<Slot, u64>
     Err(left)
 }
 
-// The slot at a place of the list, and 0 behind its end.
+// The slot at a place of the list, and 0 after its end.
 fn listed_slot(core: &Core, place: u64) -> Slot
     ensures { result ≡ slice_index (flush_list core.now) place }
 {
@@ -118,7 +118,7 @@ pub(crate) fn persist_word(core: &mut Core)
     }
 }
 
-// The field behind this one.
+// The field after this one.
 fn behind_field(done: u64, field: u64) -> AdvPart
     ensures { result ≡ behind_field done field }
 {

@@ -159,7 +159,7 @@ module _ (histories : List (List Entry)) (cuts : List (Option ℕ)) (now : ℕ) 
     old : Moment
     old = record { histories = histories; cuts = cuts; lefts = []; now = now; durable = now }
 
-    -- and behind it
+    -- and after it
     new : Moment
     new = record { histories = histories; cuts = set cuts u (Some k); lefts = []; now = now; durable = now }
 

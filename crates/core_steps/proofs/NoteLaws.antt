@@ -26,7 +26,7 @@ use Rattle.core_steps.proofs.CallerFrames.{history_row, cut_row, histories_lengt
 abbrev IsRising : List Entry → Type 0
 IsRising h = AllPairs (λ (d e : Entry). d.epoch ≤ e.epoch) h
 
--- epochs rise behind the first entry
+-- epochs rise after the first entry
 rising_tail : (e : Entry) (h : List Entry) → IsRising (e ∷ h) → IsRising h
 rising_tail e h r i j d l w = r (suc i) (suc j) d (omega arith) (omega arith)
 

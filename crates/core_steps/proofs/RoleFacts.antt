@@ -161,7 +161,7 @@ module _ (s : Shape) (now : ℕ) (cur dur : List ℕ) (units : List UnitPart) (u
       let clash : Unfinished w ≡ Lost (is_closing p.stage w.slot) =
       said_once w.slot (Unfinished w) (Lost (is_closing p.stage w.slot)) (refl, k) (refl, l) in absurd (cc)
 
-  -- no word behind the stored fields has a store pending
+  -- no word after the stored fields has a store pending
   pub writing_settled : (w : Writing) (f : ℕ) → p.writing ≡ Some w → w.stored < f → f < FIELDS
       → slice_index dur (word_of w.slot f) ≡ slice_index cur (word_of w.slot f)
   writing_settled w f k far low =

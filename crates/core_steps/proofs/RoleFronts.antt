@@ -1,4 +1,4 @@
--- The first words of a record, as a unit stores them one behind the other.
+-- The first words of a record, as a unit stores them one after the other.
 use Rattle.std.proofs.Common.{◌≡◌, ℕ, zero, suc, ◌+◌, ◌-◌, ◌*◌, ◌/◌, ◌%◌, ◌<◌, ◌≤◌, List, [], ◌∷◌, ◌++◌, length, take, replicate, set, get_or, sym, refl, ap, ◌∙◌, subst, arith, append-nil}
 use Rattle.std.specs.Prelude.{unwrap_or}
 use Rattle.std.proofs.lemmas.List.{take_all, length-append, length-replicate, length-take-le, get_or-take, get_or_append_left}
@@ -12,7 +12,7 @@ use Rattle.mont_laws.proofs.SlotReadings.{length-slot_words}
 use Rattle.core_steps.specs.Storing.{held_at, front_words, front_of, with_field}
 use Rattle.core_steps.specs.Roles.{HasFields}
 
--- ---- a list's front, and zeros behind it
+-- ---- a list's front, and zeros after it
 front_get : (xs zs : List ℕ) (n f : ℕ) → f < n → n ≤ length xs → get_or (take n xs ++ zs) f 0 ≡ get_or xs f 0
 front_get xs zs n f low long =
     get_or_append_left (take n xs) zs 0 f (omega (arith, length-take-le n xs long)) ∙ get_or-take n xs f 0 low

@@ -36,7 +36,7 @@ module _ {A : Type 0} where
   row_has_set P (x ∷ xs) (suc i) zero a b e f h = h
   row_has_set P (x ∷ xs) (suc i) (suc j) a b e f h = row_has_set P xs i j a b e f h
 
-  -- ---- an item behind all others
+  -- ---- an item after all others
   pub row_before : (l m : List A) (i : ℕ) (a : A) → slice_get l i ≡ Some a → slice_get (l ++ m) i ≡ Some a
   row_before [] m i a e = absurd (cc)
   row_before (x ∷ xs) m zero a e = e

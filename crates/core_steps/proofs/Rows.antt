@@ -44,7 +44,7 @@ module _ {A : Type 0} where
   row_same (x ∷ xs) zero a e = λ k. sym (same_Some x a e) k ∷ xs
   row_same (x ∷ xs) (suc i) a e = λ k. x ∷ row_same xs i a e k
 
-  -- a place behind the end changes nothing
+  -- a place after the end changes nothing
   pub row_past : (l : List A) (i : ℕ) (a : A) → length l ≤ i → set l i a ≡ l
   row_past [] i a h = refl
   row_past (x ∷ xs) zero a h = absurd (omega arith)

@@ -36,7 +36,7 @@ pub listed_else : (x e : ℕ) (p : UnitPart) (entry : Entry) → All (λ (w : He
 listed_else x e p entry at other = ap (map slot_of) (filter-append (λ (r : Held). r.label.epoch == x) p.records p.written
     ∙ ap (λ (qs : List Held). of_epoch x p.records ++ qs) (none_of x e p.written at other) ∙ append-nil (of_epoch x p.records))
 
--- and the list of that epoch has the written slots behind its own.
+-- and the list of that epoch has the written slots after its own.
 pub listed_there : (e : ℕ) (p : UnitPart) (entry : Entry) → All (λ (w : Held). w.label.epoch ≡ e) p.written
     → unit_list e (after_leave p entry) ≡ unit_list e p ++ map (λ (w : Held). w.slot) p.written
 listed_there e p entry at = ap (map slot_of) (filter-append (λ (r : Held). r.label.epoch == e) p.records p.written

@@ -15,7 +15,7 @@ use Rattle.mont_laws.proofs.ByVersion.{are_retired}
 use Rattle.core_steps.specs.Closing.{without_retired}
 
 -- ---- lists
--- lists of which each two elements are related, one behind the other
+-- lists of which each two elements are related, one after the other
 pub pairs_append : {A : Type 0} (R : A → A → Type 0) (xs ys : List A) → AllPairs R xs → AllPairs R ys
     → ((a b : A) → Contains xs a → Contains ys b → R a b) → AllPairs R (xs ++ ys)
 pairs_append R [] ys h g across = g

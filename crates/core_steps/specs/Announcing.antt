@@ -1,5 +1,5 @@
 -- What a unit needs to announce an epoch, to be registered in it, and to take the announcement back
--- or leave it behind, and the core after each of these steps.
+-- or leave it after, and the core after each of these steps.
 use Rattle.std.specs.Prelude.{ℕ, ◌+◌, ◌*◌, ◌/◌, Bool, ◌&&◌, ◌||◌, not, ◌==◌, nat_le, [], ◌∷◌, ◌++◌, slice_set, slice_index, if◌then◌else◌, Some, is_none}
 use Rattle.mont_base.specs.declared.constants.TheConstants.{FIRST_CLOCK, LAST}
 use Rattle.core_steps.specs.declared.parts.Core.{Core}

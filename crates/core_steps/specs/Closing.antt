@@ -21,7 +21,7 @@ abbrev pub load_durable : Core → ℕ → UnitPart → Core
 load_durable c u p =
     record c { units = slice_set c.units u (after_load_durable p (durable_clock c)) }
 
--- A caller knows all that it has seen to be durable, two epochs behind the newest of it.
+-- A caller knows all that it has seen to be durable, two epochs after the newest of it.
 abbrev pub after_see_durable : CallerPart → ℕ → CallerPart
 after_see_durable q durable = record q {
   durable = durable;
@@ -34,7 +34,7 @@ see_durable c k q =
 
 -- ---- CloseLabel
 -- the slot is the first retired one, and the durable clock that the unit knows is two epochs
--- behind
+-- after
 abbrev pub IsFirstDue : List Retired → ℕ → ℕ → Type 0
 IsFirstDue [] durable slot = ⊥
 IsFirstDue (t ∷ ts) durable slot = (t.slot ≡ slot) × (t.epoch + 2 ≤ durable)

@@ -14,7 +14,7 @@ use Rattle.core_steps.specs.Clock.{clock, greatest_word}
 abbrev pub unit_list : ℕ → UnitPart → List ℕ
 unit_list x p = map (λ (r : Held). r.slot) (filter (λ (r : Held). r.label.epoch == x) p.records)
 
--- the lists of all units, one behind the other
+-- the lists of all units, one after the other
 abbrev pub all_listed : ℕ → List UnitPart → List ℕ
 all_listed x units = flat_map (unit_list x) units
 
@@ -40,7 +40,7 @@ abbrev pub can_persist_word : AdvPart → Bool
 can_persist_word (Holding done field value) = true
 can_persist_word _ = false
 
--- the field behind this one; the number of slots that are done stays a word
+-- the field after this one; the number of slots that are done stays a word
 abbrev pub behind_field : ℕ → ℕ → AdvPart
 behind_field done field =
     if nat_lt (field + 1) FIELDS then Flushing done (field + 1)

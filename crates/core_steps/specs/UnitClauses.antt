@@ -24,7 +24,7 @@ IsOwnEpoch base records t =
     (r : Held) → Contains records r → r.slot ≡ t.slot
     → (r.label.epoch ≤ t.epoch) ⊎ (r.label.epoch + 2 ≤ base)
 
--- An earlier and a later slot of the queue: the epochs don't fall, behind those of slots that were
+-- An earlier and a later slot of the queue: the epochs don't fall, after those of slots that were
 -- found.
 abbrev pub RetiresBefore : ℕ → Retired → Retired → Type 0
 RetiresBefore base t u = (t.epoch + 2 ≤ base) ⊎ (t.epoch ≤ u.epoch)

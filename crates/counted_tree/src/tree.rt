@@ -113,7 +113,7 @@ impl<T> Tree<T> {
         }
     }
 
-    /// Puts a single item before the one at a place, or behind the last.
+    /// Puts a single item before the one at a place, or after the last.
     pub fn insert(&mut self, at: u64, one: Tree<T>)
     where
         T: Drop,

@@ -26,7 +26,7 @@ words_laid ws none one two all told zeros n units a b c d e f g =
     let last : told ≡ spread (replicate units 0) = e ∙ (f ∙ (ap (λ (k : ℕ). replicate k 0) g ∙ spread_zeros units)) in
     d ∙ ((λ i. (c ∙ ap (λ (x : List ℕ). x ++ ws) first) i ++ last i) ∙ append_assoc ws ws (spread (replicate units 0)))
 
--- zeros behind zeros, and one word among them that is set
+-- zeros after zeros, and one word among them that is set
 zeros_apart : (m n : ℕ) → ◌≡◌ {A = List ℕ} (replicate (m + n) 0) (replicate m 0 ++ replicate n 0)
 zeros_apart zero n =
     let same : zero + n ≡ n = omega arith in

@@ -1,4 +1,4 @@
--- Slots that are pushed behind a list.
+-- Slots that are pushed after a list.
 use Rattle.std.proofs.Common.{◌≡◌, ◌<◌, ◌≤◌, ◌+◌, ℕ, List, [], ◌∷◌, ◌++◌, append-nil, length, length-append, map, None, Some, sym, ap, ◌∙◌, arith}
 use Rattle.std.proofs.lemmas.List.{length-map, nil_from_length}
 use Rattle.mont_base.specs.declared.record.Held.{Held}
@@ -39,7 +39,7 @@ pub none_found : (l : Roomy) (slots : List ℕ) (room : ℕ) → l ≡ record { 
     → l ≡ record { slots = []; room = room }
 none_found l slots room is none = λ j. record { slots = nil_from_length l.slots none j; room = (ap (λ (l : Roomy). l.room) is) j }
 
--- the list with all slots that were written behind it
+-- the list with all slots that were written after it
 pub list_due : {W : Type 0} (slot : W → ℕ) (h : UnitKnown) (written : List W) (l n : Roomy) → h.turn ≡ home_turn
     → map slot written ≡ slots_written h.part → l ≡ record { slots = listed_in h ++ h.turn.pushed; room = h.room }
     → n ≡ record { slots = l.slots ++ map slot written; room = l.room }

@@ -48,7 +48,7 @@ pub record Flushes {G : Type 0} (asked : G → G → Bool → Type 0) (old : Adv
 abbrev pub with_hand_of : AdvKnown → AdvKnown → AdvKnown
 with_hand_of a b = record a { part = b.part; steps = b.steps; loaded = b.loaded }
 
--- behind the last word of a slot the first word of the next one is at hand
+-- after the last word of a slot the first word of the next one is at hand
 abbrev pub behind_slot : ℕ → AdvPart
 behind_slot done = Flushing (min (done + 1) greatest_word) 0
 

@@ -7,7 +7,7 @@ use Rattle.heap_rule.specs.declared.views.CallerKnown.{CallerKnown}
 use Rattle.heap_rule.specs.declared.views.UnitKnown.{UnitKnown}
 use Rattle.heap.specs.declared.next_answer.NextAnswer.{NextAnswer}
 
--- behind the unit's entries, and behind the caller's answered calls
+-- after the unit's entries, and after the caller's answered calls
 abbrev pub next_answer : UnitKnown → CallerKnown → NextAnswer
 next_answer h q = record {
   unit = h.unit;

@@ -50,7 +50,7 @@ impl Heap {
         self.table.shared.load::<GivesList>(&mut seat.seat, 0);
     }
 
-    /// Pushes the slots of all that the unit has written behind its list of its epoch, where that
+    /// Pushes the slots of all that the unit has written after its list of its epoch, where that
     /// stands: `take_list`, a push for each, and `give_list`, without a copy of the list.
     pub fn list_written<W: InSlot>(&self, seat: &mut UnitSeat, written: &[W])
         requires heap { seat.old.table ≡ self.now.table }

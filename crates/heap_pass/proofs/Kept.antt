@@ -18,7 +18,7 @@ module _ {A : Type 0} where
       by : length last ≡ length all → last ≡ all
       by e = let none : length all - length last ≡ 0 = omega (arith, e) in stand ∙ ap (λ (k : ℕ). drop k all) none
 
-  -- with one more behind both they do
+  -- with one more after both they do
   pub one_more_last : (all last : List A) (x : A) → StandLast all last → StandLast (all ++ x ∷ []) (last ++ x ∷ [])
   one_more_last all last x stand =
       let before = length all - length last in

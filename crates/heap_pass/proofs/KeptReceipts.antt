@@ -31,7 +31,7 @@ module _ {old new : List Receipt} {Holds : Receipt → Type 0} (k : KeepsReceipt
       pub last_holds : Holds last
       last_holds = subst Holds same k.holds
 
--- behind another list that is the same, what holds of it may be told otherwise
+-- after another list that is the same, what holds of it may be told otherwise
 pub kept_so : {old mid new : List Receipt} {Holds Tells : Receipt → Type 0} → mid ≡ old → ((r : Receipt) → Holds r → Tells r)
     → KeepsReceipt mid new Holds → KeepsReceipt old new Tells
 kept_so same tells k = record {

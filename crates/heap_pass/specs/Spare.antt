@@ -1,4 +1,4 @@
--- How much room is left behind the items of a vector.
+-- How much room is left after the items of a vector.
 use Rattle.std.specs.Prelude.{ℕ, ◌-◌, Vec, vec_len, vec_capacity}
 
 abbrev pub spare_of : {X Z : Type 0} → Vec X Z → ℕ

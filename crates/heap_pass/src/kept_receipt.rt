@@ -3,7 +3,7 @@ ghost use Rattle.std.specs.Prelude.{◌≡◌, ◌-◌, ◌≤◌, Some, length,
 
 use mont_base::Receipt;
 
-/// Copies the last receipt. Behind an answered call those of its pass end with the call's own.
+/// Copies the last receipt. After an answered call those of its pass end with the call's own.
 #[inline]
 pub fn last_receipt(receipts: &[Receipt]) -> Receipt
     requires some { 1 ≤ length receipts.now }

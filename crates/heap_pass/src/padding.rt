@@ -18,7 +18,7 @@ impl Padding {
     }
 }
 
-/// A value that shares no pair of cache lines with what stands behind it.
+/// A value that shares no pair of cache lines with what stands after it.
 #[derive(Drop)]
 pub struct Apart<T> {
     pub part: T,
@@ -26,7 +26,7 @@ pub struct Apart<T> {
 }
 
 impl<T> Apart<T> {
-    /// The value, with room behind it.
+    /// The value, with room after it.
     pub fn new(part: T) -> Apart<T>
         ensures { result.part ≡ part }
     {

@@ -201,7 +201,7 @@ fronts_count o s k own at q g =
     sym ((k.sound.callers.each q.caller q.part g.part).seen.units ∙ histories_length k.board.core.units)
 
 -- ---- a load by which it takes a note of the unit
--- behind it, the caller has seen all
+-- after it, the caller has seen all
 seen_all : (hs : List (List Entry)) (h : UnitKnown) (q r : CallerKnown) → slice_get hs h.unit ≡ Some h.part.history
     → h.unit < length q.part.fronts → IsNotBeyond q h
     → r.part.fronts ≡ greater_fronts q.part.fronts (set (replicate (length q.part.fronts) 0) h.unit (length h.part.history))

@@ -27,7 +27,7 @@ use Rattle.heap_rule.specs.declared.views.View.{View}
 use Rattle.heap_rule.specs.Views.{Cell}
 use Rattle.heap_rule.specs.Rule.{ShowsCore}
 
--- ---- records in slots of their own, each with those behind it
+-- ---- records in slots of their own, each with those after it
 abbrev Apart : List Held → Type 0
 Apart [] = Unit {0}
 Apart (r ∷ rs) = ((q : Held) → Contains rs q → r.slot ≢ q.slot) × Apart rs

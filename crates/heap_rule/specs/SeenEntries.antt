@@ -15,7 +15,7 @@ AreFronts wholes fronts =
     (unit : ℕ) (front : List Entry) → slice_get fronts unit ≡ Some front
     → StandsFirst wholes unit front
 
--- What a caller sees behind news: the entries that it had seen stand first there, and so do those
+-- What a caller sees after news: the entries that it had seen stand first there, and so do those
 -- that the news had seen.
 pub record SeesBoth (old news new : List (List Entry)) : Type 0 where
   pub own : AreFronts new old

@@ -5,7 +5,7 @@ use Rattle.mont_base.specs.declared.constants.TheConstants.{FIELDS}
 use Rattle.mont_base.specs.Layout.{Shape, units_of, words_of}
 use Rattle.core_steps.specs.declared.parts.Core.{Core}
 
--- seven words behind each announcement are never used
+-- seven words after each announcement are never used
 abbrev pub spread : List ℕ → List ℕ
 spread [] = []
 spread (w ∷ ws) = w ∷ 0 ∷ 0 ∷ 0 ∷ 0 ∷ 0 ∷ 0 ∷ 0 ∷ spread ws

@@ -215,7 +215,7 @@ list_at [] i = []
 list_at (l ∷ ls) zero = l
 list_at (l ∷ ls) (suc i) = list_at ls i
 
--- the lists that the advancer knows, one behind the other
+-- the lists that the advancer knows, one after the other
 abbrev pub joined : List (List ℕ) → List ℕ
 joined [] = []
 joined (l ∷ ls) = l ++ joined ls

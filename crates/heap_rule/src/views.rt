@@ -12,7 +12,7 @@ pub struct Learnt {
     pub durable: Epoch,
 }
 
-/// Whether a unit has its list out, and which slots it has pushed behind those of its records.
+/// Whether a unit has its list out, and which slots it has pushed after those of its records.
 #[derive(Drop)]
 pub struct UnitTurn {
     pub out: bool,

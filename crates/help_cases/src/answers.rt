@@ -3,8 +3,8 @@ use case_file::{Case, Subject, Unanswered};
 use refusal_help::{job_sentence, schedule_sentence, words_sentence};
 use std::alloc::{AllocError, Global};
 
-/// Answers cases on a line of a job (the part `line`, behind the lines of the part `job`), of a
-/// schedule (behind those of the part `schedule`), or on words of the command line (the part
+/// Answers cases on a line of a job (the part `line`, after the lines of the part `job`), of a
+/// schedule (after those of the part `schedule`), or on words of the command line (the part
 /// `words`, one a line).
 #[derive(Drop)]
 pub struct HelpCases {
@@ -42,7 +42,7 @@ fn joined(alloc: Global, front: &[u8], line: &[u8]) -> Result<Vec<u8>, AllocErro
     Ok(text)
 }
 
-// The number of the line behind a text.
+// The number of the line after a text.
 fn number_behind(front: &[u8]) -> u64 {
     let mut number = 1u64;
     for byte in front {

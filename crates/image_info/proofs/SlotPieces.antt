@@ -12,7 +12,7 @@ few_taken fields words = elim (cases_lt fields (length words)) [
       ap (λ (n : ℕ). take n words) e ∙ take_all (length words) words (omega arith) ∙ sym (take_all fields words all)
 ]
 
--- what stands behind a place that is cut to the words' end
+-- what stands after a place that is cut to the words' end
 late_dropped : (place at : ℕ) (words : List ℕ) → length words < 2 ^ 63 → at ≡ min (min place (2 ^ 64 - 1) + 1) (2 ^ 64 - 1)
     → drop (min at (length words)) words ≡ drop (1 + place) words
 late_dropped place at words short is = elim (cases_lt (1 + place) (length words)) [

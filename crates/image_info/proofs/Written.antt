@@ -36,7 +36,7 @@ lines_written f xs i start now past done =
     all_written f xs i start now past done
     ∙ ap (λ bs. start ++ bs) (sym (concat_is (map f xs) ∙ flat_map-map (λ (bs : List ℕ). bs) f xs))
 
--- a piece behind a mark
+-- a piece after a mark
 pub behind_mark : (old mark body mid now : List ℕ) → mid ≡ old ++ mark → now ≡ mid ++ body → now ≡ old ++ (mark ++ body)
 behind_mark old mark body mid now marked written =
     written ∙ ap (λ (bs : List ℕ). bs ++ body) marked ∙ append_assoc old mark body

@@ -60,7 +60,7 @@ abbrev pub judged : ℕ → (List Object → Object → Option ObjectFault) → 
     → List ImageFault
 judged unit fault_of os = each_behind (judged_fault unit fault_of) [] os
 
--- behind these, each edge that lacks an end
+-- after these, each edge that lacks an end
 abbrev pub end_fault_at : ℕ → List Object → Object → Option ImageFault
 end_fault_at unit all o =
     if lacks_end all (edge_at o) then Some (faults.Object unit o.slot object_faults.End) else None

@@ -22,7 +22,7 @@ pub record HasPartNames (parts : PartJudge) (os : List Object) : Type 0 where
   pub vertices : HasNames nat_cmp vertex_at parts.vertices os
   pub edges : HasNames edge_cmp edge_at parts.edges os
 
--- Behind lower objects, whose names the map has, an object's fault is told, and its own name is
+-- After lower objects, whose names the map has, an object's fault is told, and its own name is
 -- added.
 pub record JudgesNamed {K X E : Type 0} (R : K → K → Ordering) (name : Object → Option (K × X))
     (fault_of : List Object → Option ObjectFault) (old new : tree.BTreeMap K ℕ) (o : Object)

@@ -86,7 +86,7 @@ slot_words false words slot = words_at words slot
 abbrev pub words_told : List ℕ → List ℕ
 words_told words = codes ":" ++ flat_map (λ w. codes " " ++ decimal w) words
 
--- these behind a colon, if a slot has the fault
+-- these after a colon, if a slot has the fault
 abbrev pub slot_told : Image → Option ℕ → List ℕ
 slot_told image None = []
 slot_told image (Some slot) = words_told (slot_words image.old image.words slot)

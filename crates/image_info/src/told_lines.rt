@@ -182,7 +182,7 @@ fn push_faults(text: &mut String, image: &Image, faults: &[ImageFault]) -> Resul
     Ok(())
 }
 
-// A fault, and behind it the words of the slot that has it.
+// A fault, and after it the words of the slot that has it.
 fn push_fault(text: &mut String, image: &Image, fault: ImageFault) -> Result<(), AllocError>
     ensures { OnOk result
         (string_bytes text.new ≡ string_bytes text.old ++ fault_line image.now fault) }
@@ -204,7 +204,7 @@ fn push_slot(text: &mut String, image: &Image, slot: Option<Slot>) -> Result<(),
     }
 }
 
-// The words of a slot behind a colon.
+// The words of a slot after a colon.
 fn push_words(text: &mut String, words: &[u64]) -> Result<(), AllocError>
     ensures { OnOk result
         (string_bytes text.new ≡ string_bytes text.old ++ words_told words.now) }

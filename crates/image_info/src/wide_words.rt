@@ -8,7 +8,7 @@ use mont_base::{FIELDS, Slot};
 use mont_image::{Image, OLD_FIELDS};
 use std::alloc::{AllocError, Global};
 
-/// The words of an image. Those of each slot of the first version have four zeros behind them.
+/// The words of an image. Those of each slot of the first version have four zeros after them.
 pub(crate) fn wide_words(alloc: Global, image: &Image) -> Result<Vec<u64>, AllocError>
     ensures { IfOk result (λ wide. wide.items ≡ wide_of image.now) }
 {
@@ -19,7 +19,7 @@ pub(crate) fn wide_words(alloc: Global, image: &Image) -> Result<Vec<u64>, Alloc
     }
 }
 
-// The words of an image of the first version, with four zeros behind those of each slot.
+// The words of an image of the first version, with four zeros after those of each slot.
 fn widen(alloc: Global, image: &Image) -> Result<Vec<u64>, AllocError>
     requires { image.now.old ≡ true }
     ensures { IfOk result (λ wide. wide.items ≡ widened image.now.layout image.now.words) }
@@ -33,7 +33,7 @@ fn widen(alloc: Global, image: &Image) -> Result<Vec<u64>, AllocError>
     Ok(wide)
 }
 
-// The words of a slot, with four zeros behind them.
+// The words of a slot, with four zeros after them.
 fn wide_slot(image: &[u64], slot: Slot) -> [u64; FIELDS]
     requires { 1 + OLD_FIELDS * slot + OLD_FIELDS ≤ length image.now }
     ensures { result ≡ wide_slot image.now slot }

@@ -118,7 +118,7 @@ slot_more v rs r none =
 pub no_repeat : HasNoRepeat []
 no_repeat slot other h = no_element h.later h.has_later
 
--- ---- a record behind others
+-- ---- a record after others
 module _ (records : List Held) (rising : AllPairs HasLowerSlot records) (i : ℕ) (d : Held) (within : i < length records) where
   abbrev pub here : Held
   here = get_or records i d

@@ -1,4 +1,4 @@
--- Closing a hole: entries behind it move back over it, until a free cell comes.
+-- Closing a hole: entries after it move back over it, until a free cell comes.
 use Rattle.std.proofs.Common.{◌≡◌, ◌≢◌, ℕ, ◌+◌, ◌-◌, ◌<◌, ◌≤◌, length, set, Some, None, ◌⊎◌, inl, inr, refl, sym, ap, subst, ◌∙◌, arith, length-set}
 use Rattle.std.specs.FinMap as finite
 use Rattle.std.proofs.lemmas.Bool.{cases_eq, cases_lt}
@@ -11,7 +11,7 @@ use Rattle.index_kit.proofs.Round.{steps-lt, steps-self, steps-same, steps-behin
 use Rattle.index_kit.proofs.Held.{holds-within, not_free, not_none, same_entry, held_set, free_set, free_other, free_cleared, IsFor, get_own, number_of, numbers_filled, numbers_cleared, put_back}
 use Rattle.index_kit.proofs.Walk.{home_of-lt, distance-other, other_than_free}
 
--- The walk behind a hole came to this cell. No entry that it passed since needs the hole, and the only free cell that it
+-- The walk after a hole came to this cell. No entry that it passed since needs the hole, and the only free cell that it
 -- passed is the hole.
 pub record IsClosing (size : ℕ) (seats : Seats) (start hole at : ℕ) : Type 0 where
   pub sized : length seats ≡ size

@@ -20,7 +20,7 @@ module _ (n : ℕ) where
   pub place_behind-lt : (a : ℕ) → a < n → place_behind n a < n
   place_behind-lt a h = grind (arith, nat_tests)
 
-  -- the place behind is one step further on, or where the steps began
+  -- the place after is one step further on, or where the steps began
   pub steps-behind : (a b : ℕ) → a < n → b < n → steps n a b + 1 < n → steps n a (place_behind n b) ≡ steps n a b + 1
   unfolding steps
   steps-behind a b ha hb h = grind (arith, nat_tests)

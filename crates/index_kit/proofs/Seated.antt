@@ -160,7 +160,7 @@ module _ (entries : Entries) (cells : Cells) (marked : IsMarked entries cells) (
         (seats_of entries cells)) (key_at entries number) number
     numbers_set = ap numbers_in (seats-filled entries cells at mark number) ∙ set_seated _ _ _ seat number
 
--- where a key isn't in its home, and there or behind is a gap, it isn't there
+-- where a key isn't in its home, and there or after is a gap, it isn't there
 module _ (entries : Entries) (cells : Cells) (marked : IsMarked entries cells) (table : IsTable (seats_of entries cells)) (key : Key)
     (at : ℕ)
     (walk : IsWalked (seats_of entries cells) key at)

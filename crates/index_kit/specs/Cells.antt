@@ -10,7 +10,7 @@ Cell = Option (ℕ × ℕ)
 abbrev pub Cells : Type 0
 Cells = List Cell
 
--- behind the last cell there is nothing
+-- after the last cell there is nothing
 abbrev pub cell_at : {A : Type 0} → List (Option A) → ℕ → Option A
 cell_at cells at = slice_index_or cells at None
 

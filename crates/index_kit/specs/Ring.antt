@@ -1,7 +1,7 @@
--- Places in a ring, in which the first comes behind the last.
+-- Places in a ring, in which the first comes after the last.
 use Rattle.std.specs.Prelude.{ℕ, ◌+◌, ◌-◌, ◌==◌, nat_le, if◌then◌else◌}
 
--- the place behind another
+-- the place after another
 abbrev pub place_behind : ℕ → ℕ → ℕ
 place_behind size at = if at + 1 == size then 0 else at + 1
 

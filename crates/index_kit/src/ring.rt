@@ -1,8 +1,8 @@
-// Places in a ring, in which the first comes behind the last.
+// Places in a ring, in which the first comes after the last.
 ghost use Rattle.std.specs.Prelude.{◌≡◌, ◌<◌};
 ghost use Rattle.index_kit.specs.Ring.{place_behind, steps};
 
-// The place behind another.
+// The place after another.
 pub(crate) fn place_behind(size: usize, at: usize) -> usize
     requires { at < size }
     ensures value { result ≡ place_behind size at }

@@ -11,7 +11,7 @@ use std::marker::Model;
 use std::mem;
 
 /// An index that keeps its entries sorted, and finds a key by binary search. To put a new key or to
-/// take one out moves the entries behind it.
+/// take one out moves the entries after it.
 #[derive(Debug, Drop)]
 pub struct SortedIndex {
     entries: Vec<(Text, u64)>,

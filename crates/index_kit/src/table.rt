@@ -13,7 +13,7 @@ use crate::ring::{place_behind, steps};
 use mont_base::Text;
 
 // The number of a key's entry, if there is one. Most keys that are there stand in their home, and
-// most others have a free cell there or behind it.
+// most others have a free cell there or after it.
 pub(crate) fn number_of(cells: &Cells, entries: &[(Text, u64)], key: Text) -> Option<u32>
     requires marked { IsMarked entries.now cells.now }
     requires table { IsTable (seats_of entries.now cells.now) }
@@ -113,7 +113,7 @@ pub(crate) fn take(cells: &mut Cells, entries: &[(Text, u64)], key: Text) -> Opt
     Some(number)
 }
 
-// Closes the hole that a key left: numbers behind it move back, each to a hole that lies between
+// Closes the hole that a key left: numbers after it move back, each to a hole that lies between
 // the home of its key and its cell, up to the next free cell.
 fn close(cells: &mut Cells, entries: &[(Text, u64)], start: usize)
     requires marked { IsMarked entries.now cells.old }

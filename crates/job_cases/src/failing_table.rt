@@ -1,6 +1,6 @@
 // Devices that fail in each of their calls. A line of a part `each failing` is `reads`,
 // `image reads`, `writes` or `image writes`: each call of that device fails in turn, and no other.
-// Behind the word `all`, as in `all writes`, the calls behind it fail too.
+// After the word `all`, as in `all writes`, the calls after it fail too.
 //
 // For each line the table has the numbers of the calls with what is said of the fault, up to the
 // first call that isn't made. What the sinks took besides is looked at: of the device that fails
@@ -21,7 +21,7 @@ pub const EACH_FAILING: &str = "each failing";
 // No device is called more often.
 const MOST_CALLS: u64 = 10_000;
 
-// Where the calls behind one fail too, so many do.
+// Where the calls after one fail too, so many do.
 const CALLS_BEHIND: u64 = 100;
 
 /// What comes where each call fails.
@@ -107,7 +107,7 @@ fn push_calls<R: AllocGlobal + Files + Threads + Wait + Sync>(
     Ok(())
 }
 
-// Adds what came where a device failed, whose calls before had so many bytes: what was said behind
+// Adds what came where a device failed, whose calls before had so many bytes: what was said after
 // what was to be written, and the exit status.
 fn push_told(
     lines: &mut String,
@@ -139,7 +139,7 @@ fn push_told(
     )
 }
 
-// What was said behind this output, if the sinks took it and this image.
+// What was said after this output, if the sinks took it and this image.
 fn said_behind<'a>(came: &'a Came, out: &[u8], image: &[u8]) -> &'a str {
     let Some(said) = came.out.strip_prefix(out) else {
         return "another output";

@@ -4,7 +4,7 @@ use mont_image::{Image, read_image};
 use std::alloc::{AllocError, Global};
 use std::fmt::Write;
 
-/// Tells what was written as an image, behind how many bytes it has. What is no whole image is told
+/// Tells what was written as an image, after how many bytes it has. What is no whole image is told
 /// by that number alone.
 pub fn tell_image(alloc: Global, told: &mut String, bytes: &[u8]) -> Result<(), AllocError> {
     let count = bytes.len();

@@ -12,7 +12,7 @@ use std::rt::Files;
 use std::sync::Wait;
 use std::thread::Threads;
 
-// The heads of what the process is asked, first and behind that, each time with the image that was
+// The heads of what the process is asked, first and after that, each time with the image that was
 // written last.
 static STEPS: &[(&str, &str)] = &[
     ("words", "job"),

@@ -1,6 +1,6 @@
 // Runs that are stopped before each of their steps. A part `stops` has the first and the last
 // number of steps, a part `masks` some masks; in the job the word STEPS stands for each number, the
-// word MASK for each mask. The words are those of a run that writes an image, and behind each run
+// word MASK for each mask. The words are those of a run that writes an image, and after each run
 // its report is held against its image by `check F`.
 //
 // For each mask the table has the numbers of steps, and of the report the lines from that of the

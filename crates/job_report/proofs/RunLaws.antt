@@ -116,7 +116,7 @@ none_yet base histories = record {
   each = λ unit state h below e f short. absurd (omega (arith, below));
 }
 
--- the first units are all behind the last
+-- the first units are all after the last
 pub whole : (base : List State) (histories : List (List Entry)) (runs : List (List Run)) (units : ℕ)
     → AreFirst base histories runs units → units ≡ length histories → AreRuns base histories runs
 whole base histories runs units first all = record {

@@ -17,7 +17,7 @@ use Rattle.store_stop.specs.declared.headline.Stopped.{Stopped}
 use Rattle.store_stop.specs.Headline.{IsBaseOf, IsStopped}
 
 -- A caller of the job was left with this. It wasn't cut before it began, its gate showed these
--- counts before its lines and behind them, and it cuts no caller that the job doesn't stop.
+-- counts before its lines and after them, and it cuts no caller that the job doesn't stop.
 pub record HasRun (j : Job) (o : Opening) (caller : ℕ) (left : CallerKnown)
     (outcomes : List Outcome) : Type 0 where
   pub begun : CallerKnown

@@ -13,7 +13,7 @@ use mont_base::{Entry, MOST_PAIRS, Op, PairList, Sequence, Unit};
 use plain::{Contents, UnitState};
 use std::alloc::{AllocError, Global};
 
-/// The runs of each unit: of each range in its history the pairs that it gave, on the state behind
+/// The runs of each unit: of each range in its history the pairs that it gave, on the state after
 /// the entries before it.
 pub fn all_runs(
     alloc: Global,
@@ -85,7 +85,7 @@ fn kept_apart(state: &UnitState) -> Result<UnitState, AllocError>
     state.clone()
 }
 
-// Adds the run of an operation behind the others, if it has one.
+// Adds the run of an operation after the others, if it has one.
 fn add_run(
     alloc: Global,
     state: &UnitState,

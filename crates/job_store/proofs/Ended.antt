@@ -67,7 +67,7 @@ all_asked j is s same =
     (all_at (λ (l : Line). MayBeAsked j.layout l.deed) j.lines
     (λ i l e. asked j.layout l.deed (all_gives (IsLine (head_of j)) j.lines i l is.lines e).unit))
 
--- ---- behind the threads
+-- ---- after the threads
 module _ {P : Type 0} (j : Job) (heap : HeapShown) (has : P → Type 0) (ticket : P → CallerShown) (gate : P → Fuel) (olds news : List P)
     (callers : AreAllCallers heap (map ticket olds))
     (uncut : (k : ℕ) (p : P) → slice_get olds k ≡ Some p → (ticket p).known.part.cuts ≡ [])
@@ -108,7 +108,7 @@ module _ {P : Type 0} (j : Job) (heap : HeapShown) (has : P → Type 0) (ticket 
   all_keep_end (Ok r) worked = keep_end r.outcomes worked
   all_keep_end (Err e) worked = tt
 
--- ---- behind the stop
+-- ---- after the stop
 module _ (j : Job) (heap : HeapShown) (layout : heap.opening.layout ≡ j.layout) (callers : List CallerShown) {F : Type 0}
     (ran : Result Ran F) (stopped : Result Stopped F) (all : IfOk ran (λ (r : Ran). HaveRun j heap callers r.outcomes))
     (base : IfOk stopped (λ (t : Stopped). IsBaseOf heap.opening t.base_clock (states_of t.base)))

@@ -1,4 +1,4 @@
--- The passes of all callers of a job: before any call, and behind the run.
+-- The passes of all callers of a job: before any call, and after the run.
 use Rattle.std.proofs.Common.{◌≡◌, ℕ, List, [], map, subst, arith}
 use Rattle.std.specs.Prelude.{slice_get, Some}
 use Rattle.std.proofs.lemmas.Option.{slice_get_within}

@@ -74,7 +74,7 @@ pub record AreSynced (j : Job) (callers : List CallerShown)
   pub kept : EachAt (KeepsEnd j.stops) gates
   pub refused : IfErr synced (FirstKnowsWhy callers gates)
 
--- a run whose store was stopped behind the syncs
+-- a run whose store was stopped after the syncs
 pub record HasEndedSynced (j : Job) (heap : HeapShown) (outcomes : List (List Outcome))
     (t : Stopped) (synced : Result (Unit {0}) SyncRefusal) : Type 0 where
   pub callers : List CallerShown

@@ -43,7 +43,7 @@ pub fn run_big<R: Threads + Wait + Sync, I: Index + Send>(
     Ok(summary_of(alloc, number, &run, synced)?)
 }
 
-// The summary of a run of the generated job, behind which the callers' syncs ended so.
+// The summary of a run of the generated job, after which the callers' syncs ended so.
 fn summary_of(
     alloc: Global,
     number: u64,

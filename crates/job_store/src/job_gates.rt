@@ -17,7 +17,7 @@ pub(crate) fn gates_of(alloc: Global, job: &Job) -> Result<Vec<Fuel>, AllocError
     Ok(gates)
 }
 
-// The gate of whoever has this number. The advancer has the one behind the callers.
+// The gate of whoever has this number. The advancer has the one after the callers.
 pub(crate) fn gate_of(stops: &[Stop], who: u64) -> Fuel
     ensures { result ≡ gate_of stops.now who }
 {

@@ -1,4 +1,4 @@
-// A job is run on a store that was never used, and one caller syncs for all behind the lines.
+// A job is run on a store that was never used, and one caller syncs for all after the lines.
 ghost use Rattle.std.specs.Prelude.{◌≡◌, All, map, IfOk, IfErr, OnOk};
 ghost use Rattle.std.specs.FinMap as finite;
 ghost use Rattle.heap.specs.FreshOpening.{fresh_opening};
@@ -27,7 +27,7 @@ use std::marker::Brand;
 use std::sync::Wait;
 use std::thread::Threads;
 
-/// A run of a job behind which its first caller heard the others and synced.
+/// A run of a job after which its first caller heard the others and synced.
 #[derive(Debug, Drop)]
 pub struct SyncedRun {
     pub run: WholeRun,
@@ -35,7 +35,7 @@ pub struct SyncedRun {
     pub synced: Result<(), SyncRefusal>,
 }
 
-// A run whose store was stopped behind the sync.
+// A run whose store was stopped after the sync.
 #[derive(Drop)]
 struct EndedSynced {
     ended: Ended,

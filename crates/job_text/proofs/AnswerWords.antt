@@ -23,7 +23,7 @@ use Rattle.job_text.proofs.Counted.{three_numbers}
 use Rattle.job_text.proofs.ReadLines.{IsLinePart}
 use Rattle.job_text.proofs.RunWords.{AllPairs, run_words_long, run_once}
 
--- ---- lists with others behind them
+-- ---- lists with others after them
 pub same_front : {X : Type 0} (xs ys us vs : List X) → length xs ≡ length ys → xs ++ us ≡ ys ++ vs → (xs ≡ ys) × (us ≡ vs)
 same_front [] [] us vs long e = (refl, e)
 same_front [] (y ∷ ys) us vs long e = absurd (omega (arith, long))
@@ -163,7 +163,7 @@ pub agree_if : {A : Type 0} (x y : A) (p b : Bool) → ((p ≡ true → x ≡ y)
 agree_if x y true b tells is fails = tells.0 refl
 agree_if x y false b tells is fails = absurd (cc)
 
--- ---- the four numbers of an entry and what stands behind them
+-- ---- the four numbers of an entry and what stands after them
 pub entry_parts : (ws : List (Bor (List ℕ))) (a b d f : List ℕ) (rest : Row) → Nows ws ≡ a ∷ b ∷ d ∷ f ∷ rest
     → (Nows (take 4 ws) ≡ a ∷ b ∷ d ∷ f ∷ []) × (Nows (take (length ws - 4) (drop 4 ws)) ≡ rest)
 entry_parts [] a b d f rest e = absurd (cc)
@@ -191,8 +191,8 @@ leading_numbers (m ∷ n ∷ ns) a b d f x y all e one two = (
   decimal_injective n b (All-head IsNumber n ns (All-tail IsNumber m (n ∷ ns) all)) two (let same : decimal n ≡ decimal b = cc in same),
 )
 
--- ---- the words of an entry behind its numbers
--- the first words, as many as these, and those behind them
+-- ---- the words of an entry after its numbers
+-- the first words, as many as these, and those after them
 pub parted : (ws : List (Bor (List ℕ))) (n : ℕ) (xs ys : Row) → Nows ws ≡ xs ++ ys → length xs ≡ n
     → (Nows (take n ws) ≡ xs) × (Nows (take (length ws - n) (drop n ws)) ≡ ys)
 parted ws n xs ys e long =

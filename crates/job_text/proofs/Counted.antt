@@ -14,14 +14,14 @@ two_numbers a b is are = All-cons IsNumber a (b ∷ []) is (one_number b are)
 pub three_numbers : (a b d : ℕ) → IsNumber a → IsNumber b → IsNumber d → All IsNumber (a ∷ b ∷ d ∷ [])
 three_numbers a b d is are too = All-cons IsNumber a (b ∷ d ∷ []) is (two_numbers b d are too)
 
--- the first number behind a word is told by the words
+-- the first number after a word is told by the words
 pub first_number : (ns : List ℕ) (ws : List (List ℕ)) (word other : List ℕ) (n : ℕ) {rest : List (List ℕ)} → ws ≡ word ∷ map decimal ns
     → All IsNumber ns → ws ≡ other ∷ decimal n ∷ rest → IsNumber n → get_or ns 0 0 ≡ n
 first_number [] ws word other n spelled all is small = absurd (cc)
 first_number (m ∷ ns) ws word other n spelled all is small =
     decimal_injective m n (All-head IsNumber m ns all) small (let same : decimal m ≡ decimal n = cc in same)
 
--- ---- words behind words
+-- ---- words after words
 pub behind_two : (ws us vs : List (List ℕ)) (a b x y : List ℕ) (rest : List (List ℕ)) → ws ≡ a ∷ us → us ≡ b ∷ vs → ws ≡ x ∷ y ∷ rest
     → vs ≡ rest
 behind_two ws us vs a b x y rest first second whole =

@@ -97,7 +97,7 @@ pub stop_begins : (line : List ℕ) (s : Stop) → line ≡ spaced (stop_words s
 stop_begins line s is = first_word_split line (codes "stop") (spaced (decimal s.who ∷ decimal s.steps ∷ []))
     (record { joined = is; first = Lacks-tested 32 (codes "stop") refl })
 
--- ---- what is wrong with the line behind a draft is what the text is refused for
+-- ---- what is wrong with the line after a draft is what the text is refused for
 module _ (text : List ℕ) (d : Draft) (rest line after : List ℕ) (f : IsFront text (so_far d) rest)
     (some : 0 < length rest) (b : BeginsWith rest (lines_so_far d) line after) where
   counted : lines_so_far d ≡ length (job_lines (so_far d))

@@ -1,4 +1,4 @@
--- The lines of entries, as they are written one behind the other.
+-- The lines of entries, as they are written one after the other.
 use Rattle.std.proofs.Common.{◌≡◌, ℕ, ◌+◌, ◌<◌, ◌≤◌, List, [], ◌∷◌, ◌++◌, length, map, get_or, drop, codes, decimal, refl, sym, ap, ◌∙◌}
 use Rattle.std.specs.List.{flat_map, enumerate_from}
 use Rattle.std.proofs.lemmas.List.{append_assoc, append-nil, drop_all, drop_more}
@@ -67,7 +67,7 @@ front_spaced place e =
     ap (λ (t : List ℕ). decimal place ++ 32 ∷ (decimal e.caller ++ 32 ∷ (decimal e.call ++ 32 ∷ t)))
     (behind_first (decimal e.epoch) e.op e.reply ∙ ap (λ (t : List ℕ). decimal e.epoch ++ 32 ∷ t) (asked_answered e.op e.reply))
 
--- the numbers and the words behind them were written
+-- the numbers and the words after them were written
 pub front_joined : (place : ℕ) (e : Entry) (start numbers head front : List ℕ)
     → numbers ≡ spaced (decimal place ∷ decimal e.caller ∷ decimal e.call ∷ decimal e.epoch ∷ []) ++ 32 ∷ []
     → head ≡ start ++ numbers → front ≡ head ++ (spaced (op_words e.op) ++ 32 ∷ 61 ∷ 32 ∷ spaced (reply_words e.reply))
@@ -117,7 +117,7 @@ entries_done start now h runs left place past done =
     sym (append-nil now) ∙ ap (λ (xs : List Entry). now ++ text_of (lines_at place (spelled xs left))) (sym (drop_all place h past))
     ∙ done ∙ ap (λ (rs : List Row). start ++ text_of rs) (placed_rows entry_words 0 (spelled h runs))
 
--- a history behind its first line
+-- a history after its first line
 pub history_written : (unit : ℕ) (h : List Spelled) (n : ℕ) (start head whole : List ℕ) → n ≡ length h
     → head ≡ start ++ (codes "unit " ++ (decimal unit ++ (32 ∷ decimal n ++ 10 ∷ [])))
     → whole ≡ head ++ text_of (map (λ (p : ℕ × Spelled). entry_words p.0 p.1) (enumerate_from 0 h))

@@ -101,7 +101,7 @@ module _ (text : List ℕ) (j : Job) (rest : List ℕ) (f : IsFront text j rest)
       ∙ take_at (own ++ line ∷ []) (parts_of after) (length (job_lines j) + 1)
       (omega (arith, length-append own (line ∷ []), spaced_long j))
 
--- with nothing behind a job's lines there are no others
+-- with nothing after a job's lines there are no others
 pub no_next : (text : List ℕ) (j : Job) → IsFront text j [] → (i : ℕ) → HasLine text i → i < length (job_lines j)
 no_next text j f i (inl ended) = omega (arith, front_count text j [] f)
 no_next text j f i (inr (last, inl some)) =

@@ -14,7 +14,7 @@ use Rattle.job_text.proofs.SeenWords.{words_lack, head_tail_seen}
 abbrev pub all : List (Bor (List ℕ)) → List (List ℕ)
 all words = map (λ word. word.now) words
 
--- a header's words behind the first two
+-- a header's words after the first two
 pub head_tail_words : (line rest : List ℕ) (h : Head) → line ≡ codes "montage-job 3 " ++ rest → IsHead h → line ≡ spaced (head_words h)
     → words_of rest ≡ head_tail h
 head_tail_words line rest h front is same =

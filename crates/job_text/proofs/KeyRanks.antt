@@ -100,7 +100,7 @@ edge_part limit left room low =
     let value = next_value IsEdge edge_behind all_edges limit left room low some_edge in
     record { value = value.0; is = value.1; short = λ p is. lit≤ tt; once = λ p q is are e. edge_once p q is.is are.is e }
 
--- ---- what stands behind the last key
+-- ---- what stands after the last key
 pub pairs_left : (last : Option Key) → IfSome last IsText → behind_last (texts_behind TEXT_BYTES) all_pairs last ≤ all_pairs
 pairs_left None is = omega arith
 pairs_left (Some k) is = let low = text_rank.low k is in omega arith
@@ -131,7 +131,7 @@ module _ {X K : Type 0} (Is : X → Type 0) (row : X → List (List ℕ)) (once 
       let follows = may holds in
       (record { is = is; below = follows.0; enough = follows.1 }, spelled)
 
--- keys in order, by what stands behind them
+-- keys in order, by what stands after them
 pub text_below : (last : Option Key) (k key : Key) (b : Bool) → last ≡ Some k → IfSome last IsText → IsText key
     → b ≡ is_lt (text_cmp k key)
     → IsTrue b ↔ (texts_behind TEXT_BYTES key < behind_last (texts_behind TEXT_BYTES) all_pairs last)

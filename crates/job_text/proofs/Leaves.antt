@@ -45,7 +45,7 @@ module _ {X Y : Type 0} (Is : X → Type 0) (rows : X → List Row) (Js : Y → 
     unfinished = λ y behind is e. let t = back y is in l.unfinished t.0 behind t.1 (e ∙ ap (λ rs. rs ++ behind) (sym t.2));
   }
 
--- ---- one part behind another
+-- ---- one part after another
 module _ {A B : Type 0} (Is : A → Type 0) (rows : A → List Row) (More : A → B → Type 0) (more : A → B → List Row) where
   pub leaves_first : ((a : A) → Is a → (b : B) × More a b) → (ls : List Row) (place : ℕ) → LeavesAt Is rows ls place
       → LeavesAt (BothAre Is More) (both_rows rows more) ls place
@@ -105,7 +105,7 @@ module _ {A B : Type 0} (Is : A → Type 0) (rows : A → List Row) (More : A �
       (append_cancel_left (rows y.0) _ _ rest_of) in
       λ i. (same i, second i)
 
--- ---- items one behind the other
+-- ---- items one after the other
 module _ {X : Type 0} (rows : ℕ → X → List Row) where
   pub rows_append : (k : ℕ) (xs ys : List X) → rows_from rows k (xs ++ ys) ≡ rows_from rows k xs ++ rows_from rows (k + length xs) ys
   rows_append k [] ys = let same : k ≡ k + 0 = omega arith in ap (λ (n : ℕ). rows_from rows n ys) same
@@ -229,7 +229,7 @@ module _ {X : Type 0} (Is : ℕ → X → Type 0) (rows : ℕ → X → List Row
           whole_behind f.0 ys full f.1 behind f.2;
     }
       where
-        -- the item behind xs of a whole list, and what follows it
+        -- the item after xs of a whole list, and what follows it
         next_is : (ys zs : List X) (z : X) → IsFull ys → ys ≡ xs ++ z ∷ zs → Room (xs ++ z ∷ [])
         next_is ys zs z full e = front (xs ++ z ∷ []) zs
             (subst Room (e ∙ sym (append_assoc xs (z ∷ []) zs)) full.0)

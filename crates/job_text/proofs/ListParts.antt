@@ -1,4 +1,4 @@
--- Lists of items as parts of a text: where each is what it must be at its place, where keys rise, and behind their count.
+-- Lists of items as parts of a text: where each is what it must be at its place, where keys rise, and after their count.
 use Rattle.std.proofs.Common.{◌≡◌, ℕ, ◌+◌, ◌-◌, ◌<◌, ◌≤◌, List, [], ◌∷◌, ◌++◌, length, map, refl, sym, ap, ◌∙◌, subst, arith}
 use Rattle.std.specs.List.{enumerate_from}
 use Rattle.job_text.specs.declared.report_refusal.ReportRefusal.{ReportRefusal}
@@ -112,7 +112,7 @@ module _ {X : Type 0} (Is : X → Type 0) (row : X → Row) (once : (x y : X) �
     rising_once = full_once (λ (place : ℕ). Is) (λ (place : ℕ). line_of_row row) line_items_once n Rises (λ ys h. h.each)
         (λ us vs h. room_front behind Is all n us vs h) (λ ys h low. room_more behind Is all n each ys h low)
 
--- ---- a value behind a line with its size
+-- ---- a value after a line with its size
 module _ {Y : Type 0} (head : ℕ → Row) (part : IsLinePart IsNumber head) (Js : ℕ → Y → Type 0) (rows : Y → List Row) (size : Y → ℕ)
     (sized : (n : ℕ) (y : Y) → Js n y → size y ≡ n) (Is : Y → Type 0) (lines : Y → List Row)
     (to : (y : Y) → IsNumber (size y) → Js (size y) y → Is y) (back : (y : Y) → Is y → IsNumber (size y) × Js (size y) y)

@@ -1,4 +1,4 @@
--- Maps, and vertices and edges of graphs, as they are read: each key behind the last one.
+-- Maps, and vertices and edges of graphs, as they are read: each key after the last one.
 use Rattle.std.proofs.Common.{◌≡◌, ℕ, ◌+◌, ◌-◌, ◌<◌, ◌≤◌, T, Option, List, [], ◌∷◌, ◌++◌, length, refl, sym, ap, ◌∙◌, subst, arith}
 use Rattle.std.specs.declared.cmp.Ordering.{Ordering}
 use Rattle.std.specs.Cmp.{IsTotalOrder}

@@ -1,4 +1,4 @@
--- Numbers and bytes behind them, written one in front of the other.
+-- Numbers and bytes after them, written one in front of the other.
 use Rattle.std.proofs.Common.{◌≡◌, ℕ, suc, zero, ◌+◌, ◌-◌, ◌<◌, ◌≤◌, ◌^◌, List, [], ◌∷◌, ◌++◌, length, drop, slice_set, decimal, sym, ap, ◌∙◌, arith}
 use Rattle.std.specs.Prelude.{IsAscii}
 use Rattle.std.proofs.lemmas.List.{append_assoc, append-nil, drop-set, drop_all}
@@ -14,7 +14,7 @@ pub ascii_more : (b : ℕ) (bs : List ℕ) → b < 128 → IsAscii bs → IsAsci
 ascii_more b bs low rest zero = low
 ascii_more b bs low rest (suc i) = rest i
 
--- nothing stands behind the end
+-- nothing stands after the end
 pub ascii_end : (bs : List ℕ) (end : ℕ) → length bs ≤ end → IsAscii (drop end bs)
 ascii_end bs end past = rw (drop_all end bs past) ascii_none
 
@@ -29,7 +29,7 @@ byte_written bs end b some within =
     let last : end - 1 + 1 ≡ end = omega arith in
     drop-set bs (end - 1) b (omega arith) ∙ ap (λ (k : ℕ). b ∷ drop k bs) last
 
--- four words with a space behind each, and what follows them
+-- four words with a space after each, and what follows them
 pub words_joined : (a b d e rest : List ℕ) → (spaced (a ∷ b ∷ d ∷ e ∷ []) ++ 32 ∷ []) ++ rest
     ≡ a ++ 32 ∷ (b ++ 32 ∷ (d ++ 32 ∷ (e ++ 32 ∷ rest)))
 words_joined a b d e rest =
@@ -46,7 +46,7 @@ head_written a b d e end one two three whole none first second third fourth =
     (third ∙ ap (λ (t : List ℕ). b ++ 32 ∷ t) (second ∙ ap (λ (t : List ℕ). d ++ 32 ∷ t) last))
     ∙ sym (words_joined a b d e []) ∙ append-nil (spaced (a ∷ b ∷ d ∷ e ∷ []) ++ 32 ∷ [])
 
--- a word with a space behind it, and one with a line feed
+-- a word with a space after it, and one with a line feed
 pub pair_written : (a b end one two : List ℕ) → end ≡ [] → one ≡ b ++ 10 ∷ end → two ≡ a ++ 32 ∷ one
     → two ≡ line_of (a ∷ b ∷ [])
 pair_written a b end one two none first second =

@@ -1,4 +1,4 @@
--- How operations are spelled: by a name, and what stands behind it.
+-- How operations are spelled: by a name, and what stands after it.
 use Rattle.std.proofs.Common.{◌≡◌, ◌≢◌, ℕ, ◌≤◌, ◌+◌, ◌*◌, ◌==◌, List, [], ◌∷◌, length, map, All, codes, decimal, slice_index_or, cond, sym, ap, ◌∙◌, refl}
 use Rattle.std.proofs.lemmas.List.Elements.{All-cons, All-nil}
 use Rattle.mont_base.specs.declared.constants.TheConstants.{MOST_PAIRS}
@@ -121,7 +121,7 @@ named_back names.ORange = refl
 pub name_once : (m n : OpName) → name_word m ≡ name_word n → m ≡ n
 name_once m n same = sym (named_back m) ∙ ap (λ w. named (front_number w)) same ∙ named_back n
 
--- ---- words behind a name spell the operations of that name
+-- ---- words after a name spell the operations of that name
 pub first_words : (w v : List ℕ) (ws vs : List (List ℕ)) → w ∷ ws ≡ v ∷ vs → (w ≡ v) × (ws ≡ vs)
 first_words w v ws vs e = (cc, cc)
 
@@ -252,7 +252,7 @@ pub no_orank : (args : List (List ℕ)) → NoKey args → NoneNamed names.ORank
 no_orank args none (ops.ORank unit key) h n same = none unit key h.0 h.1 same
 no_orank args none _ h n same = absurd (cc)
 
--- as many words stand behind a name as its operations have
+-- as many words stand after a name as its operations have
 pub args_counted : (o : Op) → length (op_words o) ≡ 1 + args_count (name_of o)
 args_counted (ops.Put key value) = refl
 args_counted (ops.Get key) = refl

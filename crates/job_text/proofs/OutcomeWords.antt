@@ -20,7 +20,7 @@ pub at_none : {X : Type 0} (r : Option X) (P : Type 0) (Q : X → Type 0) → is
 at_none None P Q missing m = m
 at_none (Some x) P Q missing m = absurd (cc)
 
--- no numbers of this count stand behind this word
+-- no numbers of this count stand after this word
 abbrev pub NoneNamed : List (List ℕ) → List ℕ → ℕ → Type 0
 NoneNamed ws name n = (ns : List ℕ) → length ns ≡ n → All IsNumber ns → ws ≢ name ∷ map decimal ns
 

@@ -1,4 +1,4 @@
--- A rank of keys: how many stand behind each, in their order.
+-- A rank of keys: how many stand after each, in their order.
 use Rattle.std.proofs.Common.{◌≡◌, ℕ, zero, suc, ◌+◌, ◌-◌, ◌*◌, ◌/◌, ◌%◌, ◌^◌, ◌<◌, ◌≤◌, inl, inr, List, [], ◌∷◌, length, refl, sym, ap, ◌∙◌, arith}
 use Rattle.std.specs.declared.cmp.Ordering.{Ordering}
 use Rattle.std.specs.declared.cmp.Ordering.TheVariants.{Less, Equal, Greater}
@@ -83,7 +83,7 @@ text_falls (suc room) (b ∷ s) (c ∷ t) short few bytes codes less =
     (λ h. text_falls room s t (omega arith) (omega arith) (All-tail (λ x. x < 256) b s bytes) (All-tail (λ x. x < 256) c t codes) h)
     refl less
 
--- each number of texts stands behind some text
+-- each number of texts stands after some text
 pub text_at : (room n : ℕ) → n < texts_of room → (t : List ℕ) × (length t ≤ room) × All (λ b. b < 256) t × (texts_behind room t ≡ n)
 unfolding texts_of texts_behind
 text_at zero n low = ([], omega arith, All-nil (λ b. b < 256), omega arith)

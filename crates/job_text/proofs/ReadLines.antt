@@ -152,7 +152,7 @@ module _ {X Y : Type 0} (Is : X → Type 0) (rows : X → List Row) (Js : Y → 
   refuses_other to back old (Text line) r = (r.0, r.1, leaves_other Is rows Js others to back (lines_in old.bytes) r.0 r.2)
   refuses_other to back old Memory r = tt
 
--- ---- one part behind another
+-- ---- one part after another
 module _ {A B : Type 0} (Is : A → Type 0) (rows : A → List Row) (More : A → B → Type 0) (more : A → B → List Row) where
   pub reads_both : (old mid new : Unread) (a : A) (b : B) → Reads Is rows old mid a → Reads (More a) (more a) mid new b
       → Reads (BothAre Is More) (both_rows rows more) old new (a, b)
@@ -179,7 +179,7 @@ module _ {A B : Type 0} (Is : A → Type 0) (rows : A → List Row) (More : A �
   )
   refuses_second once old mid a Memory first r = tt
 
--- ---- items one behind the other
+-- ---- items one after the other
 module _ {X : Type 0} (rows : ℕ → X → List Row) (Room : List X → Type 0) where
   pub reads_start : (old : Unread) → Room [] → Reads Room (rows_from rows 0) old old []
   reads_start old room = record { is = room; bytes = refl; lines = refl; taken = omega arith }

@@ -1,4 +1,4 @@
--- A report as parts of its text, one behind the other.
+-- A report as parts of its text, one after the other.
 use Rattle.std.proofs.Common.{◌≡◌, ℕ, List, ◌++◌, length, map, codes, refl, sym, ap, ◌∙◌, subst, arith, lit<}
 use Rattle.mont_base.specs.declared.operation.Entry.{Entry}
 use Rattle.mont_base.specs.Layout.{Shape}

@@ -1,4 +1,4 @@
--- Lists of which each item has fewer behind it than the one before, and the maps that they are.
+-- Lists of which each item has fewer after it than the one before, and the maps that they are.
 use Rattle.std.proofs.Common.{◌≡◌, ℕ, ◌+◌, ◌-◌, ◌<◌, ◌≤◌, T, true, false, Bool, ◌&&◌, List, [], ◌∷◌, ◌++◌, length, refl, sym, ap, ◌∙◌, subst, arith}
 use Rattle.std.proofs.lemmas.List.{length-append, length_push}
 use Rattle.std.specs.declared.cmp.Ordering.{Ordering}
@@ -128,7 +128,7 @@ module _ {K V : Type 0} (R : K → K → Ordering) (IsKey : K → Type 0) (behin
   falls_are_sorted i l (e ∷ es) keys falls =
       both _ _ (all_below (i + 1) e.0 es keys.0 keys.1 falls.1) (falls_are_sorted (i + 1) (behind e.0) es keys.1 falls.1)
 
-  -- a key behind all others goes last
+  -- a key after all others goes last
   pub put_last : (i l : ℕ) (k : K) (v : V) (es : List (K × V)) → IsKey k → AllFrom (λ (i : ℕ) (e : K × V). IsKey e.0) i es
       → Falls behind_key l es → behind k < limit_after behind_key l es → put R k v es ≡ es ++ (k, v) ∷ []
   put_last i l k v [] is keys falls low = refl

@@ -26,7 +26,7 @@ pub pairs_push : (k : ℕ) (run : Run) (p : Key × Value) → AllPairs k run →
 pairs_push k [] p all is = (is, tt)
 pairs_push k (q ∷ run) p all is = (all.0, pairs_push (k + 1) run p all.1 is)
 
--- a run whose words begin with those of another has more pairs behind it
+-- a run whose words begin with those of another has more pairs after it
 pub more_pairs : (j k : ℕ) (run other : Run) (rest : Row) → AllPairs j run → AllPairs k other → run_words other ≡ run_words run ++ rest
     → (more : Run) × (i : ℕ) × AllPairs i more × (rest ≡ run_words more) × (length other ≡ length run + length more)
 more_pairs j k [] other rest all is e = (other, k, is, sym e, omega arith)
@@ -56,7 +56,7 @@ two_off (x ∷ y ∷ rest) d e many =
     ap (λ (ws : List (Bor (List ℕ))). x.now ∷ y.now ∷ Nows ws) (sym (take_all (length (x ∷ y ∷ rest) - 2) rest (omega arith)))
 
 module _ (ws : Row) (run : Run) (rest : List (Bor (List ℕ))) (all : AllPairs 0 run) (so_far : ws ≡ run_words run ++ Nows rest) where
-  -- the pairs that another run has behind those read
+  -- the pairs that another run has after those read
   left_over : (other : Run) → AllPairs 0 other → ws ≡ run_words other
       → (more : Run) × (i : ℕ) × AllPairs i more × (Nows rest ≡ run_words more) × (length other ≡ length run + length more)
   left_over other is e = more_pairs 0 0 run other (Nows rest) all is (sym e ∙ so_far)
@@ -124,7 +124,7 @@ module _ (ws : Row) (run : Run) (rest : List (Bor (List ℕ))) (all : AllPairs 0
       by [] words = omega (arith, ap length words, length-map rest (λ word. word.now), alone)
       by (p ∷ more) words = omega (arith, ap length words, length-map rest (λ word. word.now), alone)
 
--- ---- how words are written behind others
+-- ---- how words are written after others
 first_spaced : (w : List ℕ) (vs : Row) → spaced (w ∷ vs) ≡ w ++ flat_map (λ word. 32 ∷ word) vs
 first_spaced w [] = sym (append-nil w)
 first_spaced w (v ∷ vs) = ap (λ (t : List ℕ). w ++ 32 ∷ t) (first_spaced v vs)

@@ -37,7 +37,7 @@ count_more room count next is step =
     step ∙ ap (λ (n : ℕ). min (min (n * 256) (2 ^ 64 - 1) + 1) (2 ^ 64 - 1)) is
     ∙ cut_once (2 ^ 64 - 1) (texts_of room) 256 1 (omega arith) ∙ ap (λ (n : ℕ). min (texts_of n) (2 ^ 64 - 1)) one
 
--- a byte before what stands behind it
+-- a byte before what stands after it
 pub byte_more : (text : List ℕ) (room count behind at b next : ℕ) → count ≡ min (texts_of room) (2 ^ 64 - 1)
     → behind ≡ min (texts_behind room (drop (TEXT_BYTES - room) text)) (2 ^ 64 - 1) → at + 1 + room ≡ TEXT_BYTES → at < length text
     → b ≡ get_or text at 0 → next ≡ min (min (count * (255 - b)) (2 ^ 64 - 1) + behind) (2 ^ 64 - 1)

@@ -84,7 +84,7 @@ front_small text j rest f =
     let front = length_front (job_lines j) (λ k d within. (short k d within).1) in
     omega (arith, ap length f.joined, length-append (job_text j) rest)
 
--- ---- the line behind the front of a text
+-- ---- the line after the front of a text
 module _ (text : List ℕ) (j : Job) (rest more : List ℕ) (f : IsFront text j rest) (some : 0 < length rest) where
   longer : IsFront (text ++ more) j (rest ++ more)
   longer = front_more text j rest more f

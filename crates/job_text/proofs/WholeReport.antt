@@ -20,7 +20,7 @@ next ls ms was now before step = step ∙ ap (λ bs. bs ++ text_of ms) before �
 first : (words : List (List ℕ)) (start now : List ℕ) → start ≡ [] → now ≡ start ++ line_of words → now ≡ text_of (words ∷ [])
 first words start now empty step = step ∙ ap (λ bs. bs ++ line_of words) empty ∙ sym (append-nil (line_of words))
 
--- the parts are written one behind the other, the lists of the report under other names
+-- the parts are written one after the other, the lists of the report under other names
 module _ (r : Report) (kinds : List UnitKind) (histories : List (List Entry)) (runs : List (List Run)) (outcomes : List (List Outcome))
     (same_kinds : kinds ≡ r.layout.kinds) (same_histories : histories ≡ r.histories) (same_runs : runs ≡ r.runs)
     (same_outcomes : outcomes ≡ r.outcomes) where

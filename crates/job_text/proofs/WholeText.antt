@@ -31,7 +31,7 @@ module _ (clean : (r : Report) → IsReport r → AllClean (report_lines r)) (on
     no_report = λ r it e. l.unfinished r [] it (lines_of_text r it text e);
   }
 
-  -- bytes behind a whole report
+  -- bytes after a whole report
   pub wrong_behind : (text : List ℕ) (new : Unread) (r : Report) (line : ℕ)
       → Reads IsReport report_lines (record { bytes = text; taken = 0 }) new r
       → new.bytes ≢ [] → line ≡ new.taken + 1 → IsFirstWrong text line

@@ -44,7 +44,7 @@ module _ (r : Report) (MayBeCut : Type 0) where
   AnswersSync (Synced epoch) = epoch ≤ r.image_clock
   AnswersSync o = EndsWait o
 
-  -- Units were opened with these records, and the caller's outcomes before this one and behind it
+  -- Units were opened with these records, and the caller's outcomes before this one and after it
   -- are these. A call that was full waits like a sync before it is made again.
   module _ (records : List (List Held)) (caller : ℕ) (before after : List Outcome) where
     abbrev pub AnswersCall : Op → Outcome → Type 0

@@ -18,7 +18,7 @@ so_far d = job_of d.head d.stops d.lines
 abbrev pub lines_so_far : Draft → ℕ
 lines_so_far d = 1 + length d.stops + length d.lines
 
--- a stop may come next: behind stops of lower callers alone
+-- a stop may come next: after stops of lower callers alone
 pub record MayStop (d : Draft) (s : Stop) : Type 0 where
   pub early : d.lines ≡ []
   pub is_stop : IsStop d.head s

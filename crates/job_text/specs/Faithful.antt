@@ -47,7 +47,7 @@ LegalAt s clock base histories unit =
     (state : State) (h : List Entry) → slice_get base unit ≡ Some state
     → slice_get histories unit ≡ Some h → IsLegal s unit state clock h
 
--- the runs of a unit are those that its ranges have on the states behind the entries before them
+-- the runs of a unit are those that its ranges have on the states after the entries before them
 abbrev pub RunsAt : Report → List State → ℕ → Type 0
 RunsAt r base unit =
     (state : State) (h : List Entry) → slice_get base unit ≡ Some state

@@ -34,7 +34,7 @@ pub record IsHead (h : Head) : Type 0 where
   pub few_attempts : h.attempts ≤ MOST_ATTEMPTS
   pub mask : IsNumber h.mask
 
--- a stop is a caller's, or that of the advancer, which counts behind the callers
+-- a stop is a caller's, or that of the advancer, which counts after the callers
 pub record IsStop (h : Head) (s : Stop) : Type 0 where
   pub who : s.who ≤ h.callers
   pub few_steps : s.steps ≤ MOST_STEPS

@@ -24,7 +24,7 @@ head_words h =
     codes "montage-job"
     ∷ (store_words h.layout h.callers ++ decimal h.attempts ∷ hex_digits 16 h.mask ∷ [])
 
--- the words behind the first two
+-- the words after the first two
 abbrev pub head_tail : Head → List (List ℕ)
 head_tail h =
     letters_of h.layout.kinds

@@ -25,11 +25,11 @@ line_at text i = slice_index_or (parts_of text) i []
 abbrev pub IsEnded : List ℕ → ℕ → Type 0
 IsEnded text i = i + 1 < length (parts_of text)
 
--- the last line, which goes on behind the last line feed or is the only one
+-- the last line, which goes on after the last line feed or is the only one
 abbrev pub IsLastLine : List ℕ → ℕ → Type 0
 IsLastLine text i = (i + 1 ≡ length (parts_of text)) × ((0 < length (line_at text i)) ⊎ (i ≡ 0))
 
--- a text has a line for each line feed, and one more where it goes on behind the last of them;
+-- a text has a line for each line feed, and one more where it goes on after the last of them;
 -- where it is empty it has one line, which isn't ended
 abbrev pub HasLine : List ℕ → ℕ → Type 0
 HasLine text i = IsEnded text i ⊎ IsLastLine text i

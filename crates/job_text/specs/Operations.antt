@@ -53,7 +53,7 @@ name_word names.OFloor = codes "ofloor"
 name_word names.ORank = codes "orank"
 name_word names.ORange = codes "orange"
 
--- how many words stand behind it
+-- how many words stand after it
 abbrev pub args_count : OpName → ℕ
 args_count names.Put = 2
 args_count names.Get = 1

@@ -52,7 +52,7 @@ times_named outcomes unit place = sum_by (λ os. count_by (names_entry unit plac
 
 -- An earlier and a later outcome of one caller.
 pub record InOrder (histories : List (List Entry)) (earlier later : Outcome) : Type 0 where
-  -- nothing comes behind a cut
+  -- nothing comes after a cut
   pub uncut : is_cut earlier ≡ false
   -- of the entries, epochs never fall, and the places of one unit rise
   pub epochs : (d e : ℕ) → HasEpoch histories earlier d → HasEpoch histories later e → d ≤ e

@@ -5,7 +5,7 @@ use Rattle.std.specs.Prelude.{◌≡◌, ◌≢◌, ◌≤◌, ℕ, length, slic
 abbrev pub Lacks : ℕ → List ℕ → Type 0
 Lacks byte bytes = All (λ b. (b == byte) ≡ false) bytes
 
--- what stands before the first such byte, and what stands behind it
+-- what stands before the first such byte, and what stands after it
 pub record IsSplit (byte : ℕ) (bytes before after : List ℕ) : Type 0 where
   pub joined : bytes ≡ before ++ byte ∷ after
   pub first : Lacks byte before

@@ -11,7 +11,7 @@ use Rattle.job_text.specs.TextParts.{Row, LeavesAt}
 abbrev pub lines_in : List ℕ → List Row
 lines_in text = map words_of (take (length (parts_of text) - 1) (parts_of text))
 
--- The bytes that are still to be read, behind so many lines.
+-- The bytes that are still to be read, after so many lines.
 pub record Unread : Type 0 where
   pub bytes : List ℕ
   pub taken : ℕ
@@ -30,7 +30,7 @@ Refuses Is rows old (Text line) =
     (place : ℕ) × (line ≡ old.taken + place + 1) × LeavesAt Is rows (lines_in old.bytes) place
 Refuses Is rows old Memory = Unit {0}
 
--- a value was read, and added behind others
+-- a value was read, and added after others
 abbrev pub Adds : {X : Type 0} → (X → Type 0) → (X → List Row) → Unread → Unread → List X → List X
     → Type 0
 Adds {X} Is rows old new before after =

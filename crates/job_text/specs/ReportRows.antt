@@ -47,7 +47,7 @@ graph_counts unit p = graph_words unit p.0 p.1
 abbrev pub end_words : Unit {0} → Row
 end_words end = codes "end" ∷ []
 
--- ---- keys, of each of which so many stand behind it
+-- ---- keys, of each of which so many stand after it
 abbrev pub pair_behind : Key × Value → ℕ
 pair_behind p = texts_behind TEXT_BYTES p.0
 
@@ -67,12 +67,12 @@ all_vertices = 2 ^ 64
 abbrev pub all_edges : ℕ
 all_edges = 2 ^ 64 * 2 ^ 64
 
--- how many stand behind the last key, if there is one
+-- how many stand after the last key, if there is one
 abbrev pub behind_last : {K : Type 0} → (K → ℕ) → ℕ → Option K → ℕ
 behind_last behind all None = all
 behind_last behind all (Some key) = behind key
 
--- a key below the limit, behind which enough are left
+-- a key below the limit, after which enough are left
 abbrev pub MayFollow : {K : Type 0} → (K → ℕ) → ℕ → ℕ → K → Type 0
 MayFollow behind limit left key = (behind key < limit) × (left ≤ behind key)
 
@@ -108,7 +108,7 @@ is_short _ = false
 abbrev pub AllOf : {X : Type 0} → (ℕ → X → Type 0) → ℕ → List X → Type 0
 AllOf Is n xs = AllFrom Is 0 xs × (length xs ≡ n)
 
--- n keys with their values, of each of which fewer stand behind it
+-- n keys with their values, of each of which fewer stand after it
 abbrev pub AllRising : {X : Type 0} → (X → Type 0) → (X → ℕ) → ℕ → ℕ → List X → Type 0
 AllRising Is behind all n xs = LeavesRoom (λ place. Is) behind all n xs × (length xs ≡ n)
 
@@ -116,7 +116,7 @@ AllRising Is behind all n xs = LeavesRoom (λ place. Is) behind all n xs × (len
 abbrev pub RowsOf : {X : Type 0} → (X → Row) → List X → List Row
 RowsOf row xs = rows_from (λ place. line_of_row row) 0 xs
 
--- a clock behind a word, and the contents then
+-- a clock after a word, and the contents then
 abbrev pub IsStart : List UnitKind → ℕ × List State → Type 0
 IsStart ks p = IsNumber p.0 × AreContents ks p.1
 

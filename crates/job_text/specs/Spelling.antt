@@ -54,7 +54,7 @@ op_words (ops.ORank unit key) = codes "orank" ∷ decimal unit ∷ text_word key
 op_words (ops.ORange unit from to most) =
     codes "orange" ∷ decimal unit ∷ text_word from ∷ text_word to ∷ decimal most ∷ []
 
--- The operation tells which of both a value is. Behind the number of a range's pairs stand the
+-- The operation tells which of both a value is. After the number of a range's pairs stand the
 -- pairs themselves.
 abbrev pub reply_words : Reply → List (List ℕ)
 reply_words replies.Nothing = codes "none" ∷ []
@@ -69,6 +69,6 @@ reply_words (replies.Pairs number) = codes "pairs" ∷ decimal number ∷ []
 abbrev pub pair_words : Key × Value → List (List ℕ)
 pair_words p = text_word p.0 ∷ text_word p.1 ∷ []
 
--- the pairs of a run, one behind the other
+-- the pairs of a run, one after the other
 abbrev pub run_words : Run → List (List ℕ)
 run_words run = flat_map pair_words run

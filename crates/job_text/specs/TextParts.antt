@@ -26,14 +26,14 @@ pub record LeavesAt {X : Type 0} (Is : X → Type 0) (rows : X → List Row) (ls
       → ¬ Begins Is rows (before ++ row ∷ [])
   pub unfinished : (x : X) (behind : List Row) → Is x → ls ≢ rows x ++ behind
 
--- ---- one part behind another, which may depend on it
+-- ---- one part after another, which may depend on it
 abbrev pub BothAre : {A B : Type 0} → (A → Type 0) → (A → B → Type 0) → A × B → Type 0
 BothAre Is More p = Is p.0 × More p.0 p.1
 
 abbrev pub both_rows : {A B : Type 0} → (A → List Row) → (A → B → List Row) → A × B → List Row
 both_rows rows more p = rows p.0 ++ more p.0 p.1
 
--- ---- items one behind the other, each with its place
+-- ---- items one after the other, each with its place
 abbrev pub rows_from : {X : Type 0} → (ℕ → X → List Row) → ℕ → List X → List Row
 rows_from {X} rows place xs = flat_map (λ (p : ℕ × X). rows p.0 p.1) (enumerate_from place xs)
 

@@ -34,7 +34,7 @@ pub fn read_head(line: &[u8]) -> Option<Head>
     head_in(words.as_slice())
 }
 
-// What the words behind the first two name.
+// What the words after the first two name.
 fn head_in(words: &[&[u8]]) -> Option<Head>
     ensures { MatchOption result
         ((h : Head) → IsHead h → map (λ word. word.now) words.now ≢ head_tail h)

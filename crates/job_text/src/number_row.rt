@@ -13,10 +13,10 @@ use std::str;
 // A number has at most so many digits.
 const DIGITS: usize = 20;
 
-/// So many bytes hold four numbers, each with a byte behind it.
+/// So many bytes hold four numbers, each with a byte after it.
 pub const ROW: usize = 4 * (DIGITS + 1);
 
-/// The four numbers with which the line of an entry begins, each with a space behind it.
+/// The four numbers with which the line of an entry begins, each with a space after it.
 pub fn entry_head<'a>(place: u64, entry: &Entry, held: &'a mut [u8; ROW]) -> &'a str
     ensures { result.now ≡ spaced (decimal place ∷ decimal entry.now.caller
         ∷ decimal entry.now.call ∷ decimal entry.now.epoch ∷ []) ++ 32 ∷ [] }
@@ -40,7 +40,7 @@ pub fn answered_line<'a>(unit: Unit, place: u64, held: &'a mut [u8; ROW]) -> &'a
     text_from(held, at)
 }
 
-// Writes a number and a byte behind it, so that they end at a place, and answers where they begin.
+// Writes a number and a byte after it, so that they end at a place, and answers where they begin.
 fn write_before(number: u64, behind: u8, held: &mut [u8; ROW], end: usize) -> usize
     requires room { DIGITS + 1 ≤ end }
     requires within { end ≤ ROW }

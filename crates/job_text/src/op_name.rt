@@ -75,7 +75,7 @@ impl OpName {
         }
     }
 
-    /// How many words stand behind it.
+    /// How many words stand after it.
     pub fn args_count(self) -> usize
         ensures { result ≡ args_count self }
     {

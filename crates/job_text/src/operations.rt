@@ -114,7 +114,7 @@ fn unit_key(words: &[&[u8]]) -> Option<(u64, Text)>
     }
 }
 
-// The number that the first word spells, and the words behind it.
+// The number that the first word spells, and the words after it.
 fn of_unit<'a, 'b>(words: &'a [&'b [u8]]) -> Option<(u64, &'a [&'b [u8]])>
     ensures { MatchOption result
         ((n : ℕ) (rest : List (List ℕ)) → IsNumber n

@@ -1,4 +1,4 @@
-// How many keys stand behind a key: so many lines of a map or of a graph may still follow its own.
+// How many keys stand after a key: so many lines of a map or of a graph may still follow its own.
 ghost use Rattle.std.specs.Prelude.{◌≡◌, ◌+◌, ◌-◌, ◌^◌, ◌<◌, min, drop};
 ghost use Rattle.mont_base.specs.declared.constants.TheConstants.{TEXT_BYTES};
 ghost use Rattle.mont_base.specs.Texts.{IsText};
@@ -6,7 +6,7 @@ ghost use Rattle.job_text.specs.Ranks.{texts_of, texts_behind, edges_behind};
 
 use mont_base::{TEXT_BYTES, Text};
 
-/// How many texts stand behind one, or the greatest number where they are more.
+/// How many texts stand after one, or the greatest number where they are more.
 pub fn texts_behind(text: &Text) -> u64
     requires { IsText text.now }
     ensures { result ≡ min (texts_behind TEXT_BYTES text.now) (2 ^ 64 - 1) }
@@ -20,8 +20,8 @@ pub fn texts_behind(text: &Text) -> u64
     behind
 }
 
-// How many stand behind what a text has at the place behind which so many bytes have room, where
-// so many texts have room there, and so many stand behind what the text has there.
+// How many stand after what a text has at the place after which so many bytes have room, where
+// so many texts have room there, and so many stand after what the text has there.
 fn behind_with(text: &Text, room: usize, count: u64, behind: u64) -> u64
     requires text { IsText text.now }
     requires low { room < TEXT_BYTES }
@@ -40,7 +40,7 @@ fn behind_with(text: &Text, room: usize, count: u64, behind: u64) -> u64
     }
 }
 
-/// How many edges stand behind one, or the greatest number where they are more.
+/// How many edges stand after one, or the greatest number where they are more.
 pub fn edges_behind(ends: (u64, u64)) -> u64
     ensures { result ≡ min (edges_behind ends) (2 ^ 64 - 1) }
 {

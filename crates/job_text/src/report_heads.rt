@@ -39,7 +39,7 @@ fn title_of(words: &[&[u8]]) -> Option<(Layout, u64)>
     }
 }
 
-/// The clock behind a word.
+/// The clock after a word.
 pub fn next_clock(lines: &mut Unread<'_>, word: &[u8]) -> Result<Epoch, ReportRefusal>
     ensures { Tells IsNumber (line_of_row (clock_words word.now)) lines.old lines.new result }
 {
@@ -59,7 +59,7 @@ fn clock_of(words: &[&[u8]], word: &[u8]) -> Option<Epoch>
     Some(clock)
 }
 
-/// The count behind a word and the number of a unit or a caller.
+/// The count after a word and the number of a unit or a caller.
 pub fn next_count(lines: &mut Unread<'_>, word: &[u8], place: u64) -> Result<u64, ReportRefusal>
     ensures { Tells IsNumber (line_of_row (count_words word.now place)) lines.old lines.new result }
 {

@@ -62,7 +62,7 @@ fn next_report(alloc: Global, lines: &mut Unread<'_>) -> Result<Report, ReportRe
     })
 }
 
-// The clock behind a word, and the contents then.
+// The clock after a word, and the contents then.
 fn next_contents(
     alloc: Global,
     lines: &mut Unread<'_>,

@@ -7,7 +7,7 @@ use std::alloc::{AllocError, AllocFailed};
 /// Why no report was read.
 #[derive(Clone, Copy, Debug, PartialEq, Eq)]
 pub enum ReportRefusal {
-    /// The first line, counted from 1, that the text of no report has behind the lines before it.
+    /// The first line, counted from 1, that the text of no report has after the lines before it.
     Text { line: u64 },
     /// There was too little memory.
     Memory,

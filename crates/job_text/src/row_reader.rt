@@ -17,7 +17,7 @@ use crate::text_word::text;
 use crate::unread::Unread;
 use mont_base::Text;
 
-/// A pair whose key stands behind the last one, and before so many others.
+/// A pair whose key stands after the last one, and before so many others.
 pub fn next_pair(
     lines: &mut Unread<'_>,
     last: Option<Text>,
@@ -69,7 +69,7 @@ fn pair_in(words: &[&[u8]]) -> Option<(Text, Text)>
     }
 }
 
-// Whether a key stands behind the last one, if there is one, and before so many others.
+// Whether a key stands after the last one, if there is one, and before so many others.
 fn may_follow(last: Option<Text>, key: &Text, left: u64) -> bool
     requires last { IfSome last IsText }
     requires key { IsText key.now }
@@ -112,7 +112,7 @@ fn item_of(words: &[&[u8]]) -> Option<u64>
     Some(item)
 }
 
-/// A vertex behind the last one, and before so many others, with its attribute.
+/// A vertex after the last one, and before so many others, with its attribute.
 pub fn next_vertex(
     lines: &mut Unread<'_>,
     last: Option<u64>,
@@ -173,7 +173,7 @@ fn is_above(last: Option<u64>, vertex: u64) -> bool
     }
 }
 
-/// An edge behind the last one, and before so many others, with its attribute.
+/// An edge after the last one, and before so many others, with its attribute.
 pub fn next_edge(
     lines: &mut Unread<'_>,
     last: Option<(u64, u64)>,
@@ -221,7 +221,7 @@ fn edge_may_follow(last: Option<(u64, u64)>, ends: (u64, u64), left: u64) -> boo
     goes_behind(last, ends) && left <= edges_behind(ends)
 }
 
-// Whether an edge stands behind the last one, if there is one.
+// Whether an edge stands after the last one, if there is one.
 fn goes_behind(last: Option<(u64, u64)>, ends: (u64, u64)) -> bool
     ensures { IsTrue result ↔ (edges_behind ends < behind_last edges_behind all_edges last) }
 {

@@ -59,7 +59,7 @@ fn write_entry(
     Ok(())
 }
 
-// The words of a run, each behind a space.
+// The words of a run, each after a space.
 fn write_run(text: &mut String, run: &[(Text, Text)]) -> Result<(), AllocError>
     ensures { OnOk result (string_bytes text.new
         ≡ string_bytes text.old ++ flat_map (λ word. 32 ∷ word) (run_words run.now)) }

@@ -57,7 +57,7 @@ impl fmt::Display for OpWords<'_> {
     }
 }
 
-/// A reply, as it is spelled. The pairs of a range stand behind it.
+/// A reply, as it is spelled. The pairs of a range stand after it.
 #[derive(Clone, Copy)]
 pub struct ReplyWords<'a>(pub &'a Reply);
 

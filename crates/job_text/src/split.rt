@@ -9,7 +9,7 @@ fn find(bytes: &[u8], byte: u8) -> Option<usize>
     bytes.iter().position(|b| *b == byte)
 }
 
-/// The bytes before the first such byte and those behind it.
+/// The bytes before the first such byte and those after it.
 pub fn split_once(bytes: &[u8], byte: u8) -> Option<(&[u8], &[u8])>
     ensures { MatchOption result (Lacks byte bytes.now)
         (λ parts. IsSplit byte bytes.now parts.0.now parts.1.now) }

@@ -1,4 +1,4 @@
--- What was seen earlier is seen later, and what comes behind the later comes behind the earlier.
+-- What was seen earlier is seen later, and what comes after the later comes after the earlier.
 use Rattle.std.proofs.Common.{◌≡◌, ℕ, ◌≤◌, false, List, [], ◌++◌, length, slice_get, refl, sym, ap, ◌∙◌, subst, arith, append_assoc}
 use Rattle.std.specs.Prelude.{All, Some}
 use Rattle.std.proofs.lemmas.List.{append-nil}

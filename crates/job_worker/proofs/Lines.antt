@@ -61,7 +61,7 @@ cut_pushed xs x cut = (length xs, x, omega (arith, length-append xs (x ∷ [])),
 uncut_none : (xs : List Outcome) → AreUncut xs → Any (λ y. is_cut y ≡ true) xs → ⊥
 uncut_none xs u (k, x, below, is, cut) = false≢true (sym (u k x below) ∙ ap is_cut is ∙ cut)
 
--- what was before and behind an earlier line, with one outcome more
+-- what was before and after an earlier line, with one outcome more
 answers_along : (o : Opening) (t : Report) (M : Type 0) (who : ℕ) (l : Line) (y : Outcome) (xs : List Outcome) (x : Outcome)
     (after : List Outcome) (i : ℕ) → i < length xs
     → Answers t M (opened_records o) who (take i xs) (drop (i + 1) xs ++ x ∷ after) l.deed y
@@ -186,7 +186,7 @@ own_more caller lines i line n below is count own =
     let at = ap (λ (l : Line). cond {A = ℕ} (l.caller == caller) 1 0) (sym is) ∙ ap (λ (t : Bool). cond {A = ℕ} t 1 0) own in
     omega (arith, length-filter_more (λ (l : Line). l.caller == caller) lines i line below, at, count)
 
--- a line that passes a test stands in the list of those that do behind those of them before it
+-- a line that passes a test stands in the list of those that do after those of them before it
 one_behind : (p : Line → Bool) (l : Line) (ls before : List Line) (line : Line) (b : Bool)
     → slice_get (filter p ls) (length (filter p before)) ≡ Some line
     → slice_get (cond b (l ∷ filter p ls) (filter p ls)) (length (cond b (l ∷ filter p before) (filter p before))) ≡ Some line

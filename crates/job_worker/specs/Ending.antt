@@ -1,4 +1,4 @@
--- What the outcome of a line has to do with the outcomes before it and behind it.
+-- What the outcome of a line has to do with the outcomes before it and after it.
 use Rattle.std.specs.Prelude.{◌≡◌, ℕ, ◌+◌, ◌<◌, ◌≤◌, Bool, true, false, List, [], ◌∷◌, ◌++◌, length, map, take, drop, All, AllPairs, Any, count_by, filter_map, slice_get, Option, Some, None, Ok, Err, alloc_error}
 use Rattle.std.specs.declared.result.Result.{Result}
 use Rattle.std.specs.declared.alloc.AllocError.{AllocError}
@@ -61,7 +61,7 @@ units_cut xs = filter_map cut_of xs
 abbrev pub place_answered : Receipt → ℕ × ℕ
 place_answered receipt = (receipt.unit, receipt.place)
 
--- ---- before and behind what a caller has seen
+-- ---- before and after what a caller has seen
 -- the caller has seen the entry at the place
 pub record IsPassed (q : CallerKnown) (unit place : ℕ) : Type 0 where
   pub front : List Entry
@@ -92,7 +92,7 @@ pub record IsSettled (q : CallerKnown) (clock : ℕ) : Type 0 where
   pub newest : q.part.newest + 2 ≤ clock
   pub durable : q.part.durable ≤ clock
 
--- An outcome that came behind all that the caller had seen.
+-- An outcome that came after all that the caller had seen.
 pub record ComesBehind (histories : List (List Entry)) (q : CallerKnown) (x : Outcome)
     : Type 0 where
   pub places : IsAhead q x
@@ -102,7 +102,7 @@ pub record ComesBehind (histories : List (List Entry)) (q : CallerKnown) (x : Ou
 
 -- ---- one line
 -- What a report has to tell of a line, of which the caller had this outcome: whatever outcomes the
--- caller had before it, and whatever came behind it. A gate was asked that shows these counts.
+-- caller had before it, and whatever came after it. A gate was asked that shows these counts.
 pub record IsTold
     (o : Opening) (t : Report) (q r : CallerKnown) (deed : Deed) (x : Outcome) : Type 0 where
   pub answers :

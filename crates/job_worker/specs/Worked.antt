@@ -15,7 +15,7 @@ use Rattle.job_worker.specs.Ending.{places_named, units_cut, place_answered}
 
 -- Every report that continues what the caller has seen in the end finds its lines answered. The
 -- outcomes name the entries of its receipts, one each and in their order, and the units in which it
--- was cut. Behind a cut there is none.
+-- was cut. After a cut there is none.
 pub record HasWorked
     (o : Opening) (MayBeCut : Type 0) (q r : CallerKnown) (lines : List Line)
     (outcomes : List Outcome) : Type 0 where

@@ -10,7 +10,7 @@ use std::alloc::{AllocError, Global};
 use std::test::Fail;
 
 // What lines ask of four maps, of the queues 4 and 5 and of the graphs 6 and 7. A number below 100
-// is drawn for each line, which asks what the first row with a greater number says, and behind it
+// is drawn for each line, which asks what the first row with a greater number says, and after it
 // a number for each bound.
 static DEEDS: &[(u64, &str, &[u64])] = &[
     (1, "tick", &[]),
@@ -36,7 +36,7 @@ static DEEDS: &[(u64, &str, &[u64])] = &[
     (100, "adde 7", &[100, 100, 1000]),
 ];
 
-// The job of so many lines behind this header, for so many callers.
+// The job of so many lines after this header, for so many callers.
 pub(crate) fn drawn_job(alloc: Global, header: &str, callers: u64, lines: u64) -> Result<Job, Fail>
     ensures { IfOk result IsJob }
 {

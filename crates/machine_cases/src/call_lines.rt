@@ -1,7 +1,7 @@
 // How calls on a heap are made that lines tell, one a line. All are of its first unit, and of its
 // one caller.
 //
-//     put 1 10 = none: insert     an operation with its reply, and behind a colon what it does to
+//     put 1 10 = none: insert     an operation with its reply, and after a colon what it does to
 //                                 records, with `, ` between: `insert` (of a queue with the
 //                                 serial), `replace SLOT IDENTITY`, `remove SLOT IDENTITY`
 //     get 1 = was 10              one that changes nothing

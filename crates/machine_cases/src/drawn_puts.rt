@@ -1,4 +1,4 @@
-// Many puts of few keys, with an advance behind some of them. The put of a number has the digits of
+// Many puts of few keys, with an advance after some of them. The put of a number has the digits of
 // the number as its value, and those of its remainder by the number of keys as its key.
 ghost use Rattle.std.specs.Prelude.{IfOk};
 ghost use Rattle.machine_cases.specs.Working.{IsIdle};
@@ -12,7 +12,7 @@ use payload::{pair_body, pair_in};
 use std::alloc::Global;
 use std::sync::Wait;
 
-/// How many puts there are, of how many keys, and behind how many of them the clock moves on.
+/// How many puts there are, of how many keys, and after how many of them the clock moves on.
 #[derive(Clone, Copy)]
 pub struct Drawn {
     pub puts: u64,

@@ -2,11 +2,11 @@
 //
 //     steps       what is told of a run of the machine (following.rt); with a part `ask` that says
 //                 `effects`, each line with what its steps do to the words
-//     calls       with `steps`, behind how many of these steps a heap has other words, when it is
+//     calls       with `steps`, after how many of these steps a heap has other words, when it is
 //                 stopped there; else why a call isn't made
-//     counted     how many steps this call takes behind the `calls`
+//     counted     how many steps this call takes after the `calls`
 //     moves       how many steps a registration takes while the clock moves on so often
-//     puts        how many puts, of how many keys, behind how many of them the clock moves on: how
+//     puts        how many puts, of how many keys, after how many of them the clock moves on: how
 //                 many of them are within the cut of the words that are left, and whether these
 //                 hold it
 //     image       a clock, and the words of all slots: whether a heap of these words has them when
@@ -112,8 +112,8 @@ fn follow_case<R: Wait>(
     };
     let steps = steps_made(run);
     match first_apart(rt, alloc, layout, text_of(calls)?, &run.memories)? {
-        None => writeln!(run.told, "the same words behind each of {steps} steps")?,
-        Some(steps) => writeln!(run.told, "other words behind {steps} steps")?,
+        None => writeln!(run.told, "the same words after each of {steps} steps")?,
+        Some(steps) => writeln!(run.told, "other words after {steps} steps")?,
     }
     Ok(())
 }

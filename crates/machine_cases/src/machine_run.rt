@@ -12,7 +12,7 @@ pub struct Memories {
     pub durable: Vec<u64>,
 }
 
-/// A core, the note that was split off last, both memories at the beginning and behind each step,
+/// A core, the note that was split off last, both memories at the beginning and after each step,
 /// and what is told.
 #[derive(Drop)]
 pub struct Run {

@@ -11,7 +11,7 @@ use mont_base::{Cut, FIRST_CLOCK, Fuel, Gate, Layout, Steady};
 use std::alloc::Global;
 use std::sync::Wait;
 
-// A gate that passes a number of steps, and moves the clock on before so many looks behind an
+// A gate that passes a number of steps, and moves the clock on before so many looks after an
 // announcement. Of the steps of a registration these are the third, the fifth and so on.
 #[derive(Drop)]
 struct MovingClock<'a> {

@@ -10,7 +10,7 @@ use std::sync::Wait;
 // No call that is counted takes more steps.
 const MOST_STEPS: u64 = 10_000;
 
-/// The first number of steps behind which the calls leave other words than these, or aren't at
+/// The first number of steps after which the calls leave other words than these, or aren't at
 /// their end as these are.
 pub fn first_apart<R: Wait>(
     rt: &R,
@@ -31,7 +31,7 @@ pub fn first_apart<R: Wait>(
     Ok(None)
 }
 
-// The words of a heap that is stopped behind so many steps, and whether the calls had ended.
+// The words of a heap that is stopped after so many steps, and whether the calls had ended.
 fn words_after<R: Wait>(
     rt: &R,
     alloc: Global,
@@ -45,7 +45,7 @@ fn words_after<R: Wait>(
     Ok((words, ended))
 }
 
-/// How many steps a call takes behind others: a gate that passes so many doesn't cut it, and one
+/// How many steps a call takes after others: a gate that passes so many doesn't cut it, and one
 /// that passes one less does.
 pub fn steps_of<R: Wait>(
     rt: &R,
@@ -65,7 +65,7 @@ pub fn steps_of<R: Wait>(
     Ok(steps)
 }
 
-// How many steps a gate still passes behind the call, if it doesn't cut it.
+// How many steps a gate still passes after the call, if it doesn't cut it.
 fn left_behind<R: Wait>(
     rt: &R,
     alloc: Global,

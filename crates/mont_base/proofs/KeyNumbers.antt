@@ -14,7 +14,7 @@ number_of_one key = one 0 refl key
     one number none [] = none
     one number none (b ∷ bs) = one (next_digit 1 number b) (mod-one (number * 10 + (b + 208) % 256)) bs
 
--- one digit more, behind a number of the same remainder
+-- one digit more, after a number of the same remainder
 pub number_more :
     (maps : ℕ) (key : List ℕ) (i : ℕ) (number shorter : ℕ) → i < length key → number % maps ≡ key_number maps (take i key)
     → shorter % maps ≡ number % maps

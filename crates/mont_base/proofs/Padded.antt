@@ -1,9 +1,9 @@
--- Lists in place, with one filler behind their last element.
+-- Lists in place, with one filler after their last element.
 use Rattle.std.proofs.Common.{◌≡◌, ℕ, suc, ◌+◌, ◌-◌, ◌<◌, ◌≤◌, List, ◌++◌, take, drop, length, set, replicate, sym, ap, ◌∙◌, arith, length-take}
 use Rattle.std.proofs.lemmas.List.{drop-set-lt, drop-drop, drop-append-le, drop_all, take-append-drop}
 
 module _ {A : Type 0} (filler : A) (most : ℕ) where
-  -- one filler fewer stands behind
+  -- one filler fewer stands after
   pub behind_more :
       (xs : List A) (i : ℕ) (x : A) → i < most → i < length xs → drop i xs ≡ replicate (most - i) filler
       → drop (i + 1) (set xs i x) ≡ replicate (most - (i + 1)) filler
@@ -13,7 +13,7 @@ module _ {A : Type 0} (filler : A) (most : ℕ) where
       ∙ sym (drop-drop 1 i xs)
       ∙ ap (drop 1) (e ∙ ap (λ (n : ℕ). replicate n filler) less)
 
-  -- the list, and the fillers behind it
+  -- the list, and the fillers after it
   pub whole : (xs : List A) (n : ℕ) → n ≤ most → length xs ≡ most → drop n xs ≡ replicate (most - n) filler
       → xs ≡ take n xs ++ replicate (most - length (take n xs)) filler
   whole xs n few long behind =

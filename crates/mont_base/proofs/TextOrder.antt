@@ -116,7 +116,7 @@ slice_cmp_append (x ∷ xs) us (y ∷ ys) vs long =
     ap (ordering_then (nat_cmp x y)) (slice_cmp_append xs us ys vs (omega arith))
     ∙ sym (then_assoc (nat_cmp x y) (slice_cmp nat_cmp xs ys) (slice_cmp nat_cmp us vs))
 
--- ---- lists behind whose fronts all is 0
+-- ---- lists after whose fronts all is 0
 zero_head : (x : ℕ) (xs : List ℕ) → are_zero (x ∷ xs) ≡ true → x ≡ 0
 zero_head x xs h = (Decides-eqb x 0).0 (first_so (x == 0) (are_zero xs) h)
 

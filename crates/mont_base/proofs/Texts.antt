@@ -26,7 +26,7 @@ sum_same f g (suc k) e =
     ap (λ (n : ℕ). n + f (suc k)) (sum_same f g k (λ i h. e i (omega arith)))
     ∙ ap (λ (n : ℕ). sum_through g k + n) (e (suc k) (omega arith))
 
--- a word has eight bytes, and those behind the end of a list are 0
+-- a word has eight bytes, and those after the end of a list are 0
 pub same_word : (xs ys : List ℕ) → ((i : ℕ) → i < 8 → get_or xs i 0 ≡ get_or ys i 0) → from_le_bytes w64 xs ≡ from_le_bytes w64 ys
 same_word xs ys e =
     sum_same (λ i. byte_worth i (slice_index xs i)) (λ i. byte_worth i (slice_index ys i)) 7 (λ i h. ap (byte_worth i) (e i (omega arith)))
@@ -48,7 +48,7 @@ module _ (held : List ℕ) (len : ℕ) (clean : are_zero (drop len held) ≡ tru
       let at : len + (i - len) ≡ i = omega arith in
       subst (λ (j : ℕ). get_or held j 0 ≡ 0) at (sym (get_or-drop len held (i - len) 0) ∙ zero_at (drop len held) clean (i - len))
 
-  -- the front of bytes behind which all are 0 reads as they do
+  -- the front of bytes after which all are 0 reads as they do
   pub front_reads : (i : ℕ) → get_or (take len held) i 0 ≡ get_or held i 0
   front_reads i = ⊎_elim
       (λ (h : i < len). get_or-take len held i 0 h)
@@ -309,7 +309,7 @@ module _
       })
   held_is_text short = record { short = short; words = words_of_front held len clean ∙ ap byte_words (sym view_of_held) }
 
--- words of which the bytes behind the end are 0 are those of a text
+-- words of which the bytes after the end are 0 are those of a text
 words_back :
     (a b c : ℕ) → a < 2 ^ 64 → b < 2 ^ 64 → c < 2 ^ 64 → a ∷ b ∷ c ∷ [] ≡ from_le_bytes w64 (drop 0 (bytes_of_words a b c))
     ∷ from_le_bytes w64 (drop 8 (bytes_of_words a b c)) ∷ from_le_bytes w64 (drop 16 (bytes_of_words a b c)) ∷ []

@@ -53,13 +53,13 @@ no_letter letters i inside none ks e =
     get_or_default (x ∷ xs) zero d e h = refl
     get_or_default (x ∷ xs) (suc i) d e h = get_or_default xs i d e (omega arith)
 
--- one map fewer stands behind
+-- one map fewer stands after
 pub maps_behind :
     (ks : List UnitKind) (i : ℕ) (kind : UnitKind) → i < MOST_UNITS → i < length ks → drop i ks ≡ replicate (MOST_UNITS - i) kinds.Map
     → drop (i + 1) (set ks i kind) ≡ replicate (MOST_UNITS - (i + 1)) kinds.Map
 maps_behind = behind_more kinds.Map MOST_UNITS
 
--- the kinds of the letters, and maps behind them
+-- the kinds of the letters, and maps after them
 pub filled :
     (ks : List UnitKind) (units maps : ℕ) → 1 ≤ units → units ≤ MOST_UNITS → length ks ≡ MOST_UNITS
     → drop units ks ≡ replicate (MOST_UNITS - units) kinds.Map → maps ≡ maps_among (take units ks) → KindsStand units maps ks

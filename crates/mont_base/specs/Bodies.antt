@@ -5,7 +5,7 @@ use Rattle.mont_base.specs.declared.constants.TheConstants.{BODY, VERTEX_TAG, ED
 use Rattle.mont_base.specs.Texts.{byte_words, text_of_words, are_zero}
 use Rattle.mont_base.specs.State.{Key, Value, Ends}
 
--- the words behind the first ones, which aren't used
+-- the words after the first ones, which aren't used
 abbrev pub spare : ℕ → List ℕ
 spare used = replicate (BODY - used) 0
 

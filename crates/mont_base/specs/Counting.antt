@@ -34,7 +34,7 @@ abbrev pub is_enq : Op → Bool
 is_enq (ops.Enq unit item) = true
 is_enq _ = false
 
--- what an operation would do behind these entries
+-- what an operation would do after these entries
 abbrev pub effects_then : State → List Entry → Op → List Effect
 effects_then base h op = (step (state_after base h) op).effects
 
@@ -83,12 +83,12 @@ renewed (Inserts thing) = None
 renewed (Replaces thing) = Some thing
 renewed (Removes thing) = Some thing
 
--- that version would be above the last number, behind so many changes of objects
+-- that version would be above the last number, after so many changes of objects
 abbrev pub LacksVersion : List Object → ℕ → Effect → Type 0
 LacksVersion objects changes effect =
     IsSomeAnd (renewed effect) (λ thing. LAST ≤ version_among objects thing + changes)
 
--- In a unit that was opened with these records, an operation behind these entries would make a
+-- In a unit that was opened with these records, an operation after these entries would make a
 -- later version, and there is none.
 abbrev pub LacksVersions : List Held → State → List Entry → Op → Type 0
 LacksVersions records base h op =

@@ -13,7 +13,7 @@ pub record Calls : Type 0 where
 abbrev pub calls_from_start : ℕ → List ℕ → Calls
 calls_from_start piece failing = record { piece = piece; failing = failing; next = 0 }
 
--- behind the next call; the number stands still at the last value of a `u64`
+-- after the next call; the number stands still at the last value of a `u64`
 abbrev pub behind_next : Calls → Calls
 behind_next calls = record {
   piece = calls.piece;

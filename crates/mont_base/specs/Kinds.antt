@@ -7,7 +7,7 @@ use Rattle.mont_base.specs.declared.kinds.Kinds.TheInside.{Inside}
 use Rattle.mont_base.specs.Layout.{units_from}
 use Rattle.std.proofs.Common.{sym, arith, length-take}
 
--- maps fill the places behind the last unit
+-- maps fill the places after the last unit
 abbrev pub padded : List UnitKind → List UnitKind
 padded ks = ks ++ replicate (MOST_UNITS - length ks) kinds.Map
 

@@ -4,7 +4,7 @@ use Rattle.mont_base.specs.declared.constants.TheConstants.{MOST_PAIRS}
 use Rattle.mont_base.specs.declared.pair_list.PairList.TheInside.{Inside}
 use Rattle.std.proofs.Common.{sym, arith, length-take}
 
--- pairs of empty texts fill the places behind the last pair
+-- pairs of empty texts fill the places after the last pair
 abbrev pub padded_pairs : List (List ℕ × List ℕ) → List (List ℕ × List ℕ)
 padded_pairs ps = ps ++ replicate (MOST_PAIRS - length ps) ([], [])
 

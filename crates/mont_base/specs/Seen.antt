@@ -25,7 +25,7 @@ pub record FitsHistories (histories : List (List Entry)) (view : View) : Type 0 
       (unit front : ℕ) (h : List Entry) → slice_get view.fronts unit ≡ Some front
       → slice_get histories unit ≡ Some h → FrontFits view.newest front h
 
--- An answer comes behind all that its caller had seen, and the caller has then seen it.
+-- An answer comes after all that its caller had seen, and the caller has then seen it.
 pub record ContinuesView (old new : View) (r : Receipt) : Type 0 where
   pub behind : (front : ℕ) → slice_get old.fronts r.unit ≡ Some front → front ≤ r.place
   pub later : old.newest ≤ r.entry.epoch

@@ -26,7 +26,7 @@ vertex_at o = vertex_in o.body
 abbrev pub edge_at : Object → Option (Ends × ℕ)
 edge_at o = edge_in o.body
 
--- ---- the first object with a fault, of objects by rising slot behind these
+-- ---- the first object with a fault, of objects by rising slot after these
 abbrev pub or_else : {A : Type 0} → Option A → Option A → Option A
 or_else None b = b
 or_else (Some a) b = Some a
@@ -112,7 +112,7 @@ part_fault lower o =
     if is_vertex_body o.body then vertex_fault lower (vertex_at o)
     else (if is_edge_body o.body then edge_fault lower (edge_at o) else Some faults.Tag)
 
--- behind these, an edge one of whose ends is no vertex
+-- after these, an edge one of whose ends is no vertex
 abbrev pub lacks_end : List Object → Option (Ends × ℕ) → Bool
 lacks_end all None = false
 lacks_end all (Some e) = not (list_any (has_vertex e.0.0) all && list_any (has_vertex e.0.1) all)

@@ -9,7 +9,7 @@ use Rattle.mont_base.specs.Texts.{byte_words, bytes_of_words}
 unfoldable pub bytes_of_text : Inside → List ℕ
 bytes_of_text t = take t.len (bytes_of_words t.first t.second t.third)
 
--- the words are those of the bytes: behind the end they are 0
+-- the words are those of the bytes: after the end they are 0
 pub record IsTextInside (t : Inside) : Type 0 where
   pub short : t.len ≤ TEXT_BYTES
   pub words : t.first ∷ t.second ∷ t.third ∷ [] ≡ byte_words (bytes_of_text t)

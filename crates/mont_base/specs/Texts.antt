@@ -21,7 +21,7 @@ abbrev pub same_text : List ℕ → List ℕ → Bool
 same_text = eq_by_cmp text_cmp
 
 -- The three words that hold the bytes of a text, eight to a word and the lowest byte of a word
--- first. Behind the end of the text their bytes are 0.
+-- first. After the end of the text their bytes are 0.
 unfoldable pub byte_words : List ℕ → List ℕ
 byte_words text =
     from_le_bytes w64 text ∷ from_le_bytes w64 (drop 8 text) ∷ from_le_bytes w64 (drop 16 text) ∷ []
@@ -36,7 +36,7 @@ bytes_of_words a b c = to_le_bytes w64 a ++ (to_le_bytes w64 b ++ to_le_bytes w6
 abbrev pub are_zero : List ℕ → Bool
 are_zero words = list_all (λ w. w == 0) words
 
--- the text of so many of these bytes, if that isn't too many and all behind them are 0
+-- the text of so many of these bytes, if that isn't too many and all after them are 0
 abbrev pub text_of_bytes : ℕ → List ℕ → Option (List ℕ)
 text_of_bytes len bytes =
     if nat_le len TEXT_BYTES && are_zero (drop len bytes) then Some (take len bytes) else None

@@ -89,7 +89,7 @@ pub struct BadKinds;
 /// They are kept in place. Contracts see them as a list.
 #[derive(Clone, Copy, Debug, PartialEq, Eq)]
 pub struct Kinds {
-    // behind the last unit stand maps
+    // after the last unit stand maps
     of_units: [UnitKind; MOST_UNITS],
     units: usize,
     // how many of the units are maps

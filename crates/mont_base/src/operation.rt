@@ -24,7 +24,7 @@ pub enum Op {
     Del {
         key: Text,
     },
-    /// Adds an item behind the last.
+    /// Adds an item after the last.
     Enq {
         unit: Unit,
         item: u64,

@@ -10,7 +10,7 @@ use std::marker::Model;
 /// Contracts see them as a list.
 #[derive(Clone, Copy, Debug, PartialEq, Eq)]
 pub struct PairList {
-    // behind the last pair stand empty texts
+    // after the last pair stand empty texts
     pairs: [(Text, Text); MOST_PAIRS],
     len: usize,
 }
@@ -66,7 +66,7 @@ impl PairList {
         &self.pairs[..self.len]
     }
 
-    /// Adds a pair behind the last.
+    /// Adds a pair after the last.
     pub fn push(&mut self, key: Text, value: Text)
         requires { length self.old < MOST_PAIRS }
         ensures { self.new ≡ self.old ++ (key, value) ∷ [] }

@@ -21,7 +21,7 @@ pub struct TextTooLong;
 /// A text of at most 24 bytes, which is a key or a value. It is copied without memory.
 ///
 /// Contracts see its bytes as a list. Its four words are its length and its bytes, eight to a word,
-/// the lowest byte of a word first; the bytes behind its end are 0. Texts stand in the order of
+/// the lowest byte of a word first; the bytes after its end are 0. Texts stand in the order of
 /// lists of bytes.
 #[derive(Clone, Copy, Debug)]
 pub struct Text {
@@ -85,7 +85,7 @@ impl Text {
     }
 
     /// The text of four words: its length and its bytes. None where the length is above 24 or a
-    /// byte behind the end isn't 0.
+    /// byte after the end isn't 0.
     pub fn of_words(words: [u64; 4]) -> Option<Text>
         ensures { result ≡ text_of_words (slice_index words 0) (slice_index words 1)
             (slice_index words 2) (slice_index words 3) }
@@ -133,7 +133,7 @@ impl Text {
         self.held()[at as usize]
     }
 
-    // Its bytes, and zeros behind its end.
+    // Its bytes, and zeros after its end.
     pub(crate) fn held(&self) -> [u8; TEXT_BYTES]
         ensures { take (length self.now) result ≡ self.now }
     {

@@ -41,7 +41,7 @@ module _ {A : Type 0} (shown : A → Option ℕ) where
   least_cons : (x : A) (xs : List A) → least shown (x ∷ xs) ≡ joined min (least shown xs) (shown x)
   least_cons x xs = from_any (shown x) xs
 
--- behind each of the last outcomes, so many, it is told which place comes first
+-- after each of the last outcomes, so many, it is told which place comes first
 abbrev pub ToldFrom : Shape → List Line → List Outcome → ℕ → List (Option ℕ) → Type 0
 ToldFrom s lines os passed ahead =
     (i : ℕ) (l : Line) (a : Option ℕ) → length os ≤ i + passed → slice_get lines i ≡ Some l → slice_get ahead i ≡ Some a

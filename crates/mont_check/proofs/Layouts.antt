@@ -28,7 +28,7 @@ kind_Decides Ordered Map = (λ e. absurd cc, λ e. absurd cc)
 kind_Decides Ordered Queue = (λ e. absurd cc, λ e. absurd cc)
 kind_Decides Ordered Graph = (λ e. absurd cc, λ e. absurd cc)
 
--- what fills the places behind the last unit tells nothing
+-- what fills the places after the last unit tells nothing
 same_padded : (ks ls : List UnitKind) → padded ks ≡ padded ls → length ks ≡ length ls → ks ≡ ls
 same_padded ks ls same long =
     sym (take-append_seam ks _) ∙ (λ i. take (long i) (same i)) ∙ take-append_seam ls _

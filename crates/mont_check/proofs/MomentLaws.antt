@@ -1,4 +1,4 @@
--- The moments of a call, told of the places of its caller before and behind it.
+-- The moments of a call, told of the places of its caller before and after it.
 use Rattle.std.proofs.Common.{◌≡◌, ℕ, zero, suc, ◌≤◌, List, [], ◌∷◌, map, length, take, min, Some, get_or, sym, ap, ◌∙◌, subst, arith, length-take}
 use Rattle.std.specs.Prelude.{◌↔◌, All, slice_get}
 use Rattle.std.proofs.lemmas.Option.{same_Some}

@@ -18,7 +18,7 @@ IfBothAt {A} {B} P xs ys i =
 pub fails_at : (P : ℕ → Type 0) (i : ℕ) (b : Bool) → b ≡ false → (IsTrue b ↔ P i) → IsTrue false ↔ ((u : ℕ) → P u)
 fails_at P i b fails says = (λ yes. absurd cc, λ all. subst (λ (v : Bool). IsTrue v) fails (says.1 (all i)))
 
--- behind the end of a list there is nothing
+-- after the end of a list there is nothing
 pub all_at :
     {A : Type 0} (P : ℕ → A → Type 0) (xs : List A) (i : ℕ) → length xs ≤ i → ((u : ℕ) → u < i → IfAt (P u) xs u) → (u : ℕ)
     → IfAt (P u) xs u

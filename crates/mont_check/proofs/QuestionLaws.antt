@@ -161,7 +161,7 @@ all_apart P xs ys = (
   λ both. All-append P xs ys both.0 both.1,
 )
 
--- some of those behind are moved to those before
+-- some of those after are moved to those before
 pub all_moved :
     {A : Type 0} (P : A → Type 0) (xs ys : List A) (i : ℕ)
     → (All P xs × All P ys) ↔ (All P (xs ++ take i ys) × All P (drop i ys))

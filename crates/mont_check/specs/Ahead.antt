@@ -1,4 +1,4 @@
--- The first places that later outcomes name, behind each outcome of a caller.
+-- The first places that later outcomes name, after each outcome of a caller.
 use Rattle.std.specs.Prelude.{◌≡◌, ℕ, ◌+◌, min, List, length, drop, slice_get, Option, Some}
 use Rattle.std.specs.Ordering.{nat_cmp}
 use Rattle.std.specs.BTreeMap as tree
@@ -12,7 +12,7 @@ use Rattle.mont_check.specs.Bounds.{joined, least}
 use Rattle.mont_check.specs.Moments.{IsAheadOf}
 use Rattle.mont_check.specs.Shown.{only_in, place_in}
 
--- there is one for each outcome: the first place that those behind it name in its line's unit
+-- there is one for each outcome: the first place that those after it name in its line's unit
 pub record AreAhead (s : Shape) (lines : List Line) (outcomes : List Outcome)
     (ahead : List (Option ℕ)) : Type 0 where
   pub as_many : length ahead ≡ length outcomes

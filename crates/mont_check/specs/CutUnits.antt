@@ -1,4 +1,4 @@
--- Cuts of callers, behind which nothing stands.
+-- Cuts of callers, after which nothing stands.
 use Rattle.std.specs.Prelude.{◌≡◌, ℕ, false, List, AllPairs, slice_get, Some}
 use Rattle.job_text.specs.declared.outcome.Outcome.{Outcome}
 use Rattle.job_text.specs.Outcomes.{is_cut}

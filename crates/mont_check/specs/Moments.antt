@@ -40,7 +40,7 @@ pub record SomePoint (base : State) (history : List Entry) (span : Span) (c : Ca
   pub there : point ≤ length history
   pub fits : Fits (facts_after (clock_of_cause c.cause) base (take point history)) span c records
 
--- what is known of a unit's places before a call and behind it
+-- what is known of a unit's places before a call and after it
 abbrev pub span_of : Progress → List Outcome → ℕ → Span
 span_of p after unit =
     record { behind = tree.get nat_cmp p.places unit; ahead = least (place_in unit) after }

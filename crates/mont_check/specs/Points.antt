@@ -1,4 +1,4 @@
--- The points of a unit's history: what is known of the slots behind each number of its entries.
+-- The points of a unit's history: what is known of the slots after each number of its entries.
 use Rattle.std.specs.Prelude.{◌≡◌, ℕ, ◌+◌, ◌<◌, ◌≤◌, max, List, length, take, slice_get, AllPairs, Some}
 use Rattle.std.specs.List.Sorted.{IsNonDecreasingBy}
 use Rattle.mont_base.specs.declared.operation.Entry.{Entry}
@@ -17,7 +17,7 @@ EpochsRise h = AllPairs (λ (d e : Entry). d.epoch ≤ e.epoch) h
 abbrev pub retired_by : State → List Entry → ℕ
 retired_by base h = retired_late 0 base h
 
--- what is noted of the point behind these entries
+-- what is noted of the point after these entries
 pub record TellsPoint (base : State) (h : List Entry) (p : Point) : Type 0 where
   pub retired : p.retired ≡ retired_by base h
   pub live : size_of (state_after base h) ≤ p.live
@@ -28,7 +28,7 @@ pub record PointsRise (points : List Point) : Type 0 where
   pub live : IsNonDecreasingBy (λ (p : Point). p.live) points
   pub taken : IsNonDecreasingBy (λ (p : Point). p.taken) points
 
--- these are the points of a history, from that before its first entry to that behind its last
+-- these are the points of a history, from that before its first entry to that after its last
 pub record ArePoints (base : State) (h : List Entry) (points : List Point) : Type 0 where
   pub as_many : length points ≡ length h + 1
   pub each :

@@ -1,4 +1,4 @@
-// The first places that a caller's later outcomes name, told behind each of its outcomes.
+// The first places that a caller's later outcomes name, told after each of its outcomes.
 ghost use Rattle.std.specs.Prelude.{◌≤◌, length, IfOk, OnOk};
 ghost use Rattle.mont_check.specs.Ahead.{AreAhead, IsKnownAhead, LowersPlace};
 
@@ -8,7 +8,7 @@ use mont_base::{Layout, Unit};
 use std::alloc::{AllocError, Global};
 use std::collections::BTreeMap;
 
-/// For each outcome of a caller, the first place that those behind it name in the unit of its
+/// For each outcome of a caller, the first place that those after it name in the unit of its
 /// line's operation. It takes one pass, from the last outcome back.
 pub fn places_ahead(
     alloc: Global,

@@ -19,7 +19,7 @@ use mont_base::{Held, Sequence};
 use std::alloc::{AllocError, Global};
 
 /// Whether the outcomes of each caller answer the caller's lines. What has to be asked of moments
-/// is asked behind all else, once for each unit.
+/// is asked after all else, once for each unit.
 pub fn are_answered(
     alloc: Global,
     job: &Job,
@@ -88,7 +88,7 @@ fn are_counted(lines: &[Line], outcomes: &[Outcome]) -> bool
         && (outcomes.len() == lines.len() || outcomes.iter().any(|outcome| is_cut(outcome)))
 }
 
-// Whether each outcome answers its line and may stand behind those before it, if the answer is yes
+// Whether each outcome answers its line and may stand after those before it, if the answer is yes
 // to the questions that it adds.
 fn answer_in_order(
     alloc: Global,

@@ -9,7 +9,7 @@ use crate::shown::is_cut;
 use job_text::{Outcome, Report};
 use mont_base::Unit;
 
-/// Whether nothing stands behind a cut, whichever caller it is.
+/// Whether nothing stands after a cut, whichever caller it is.
 pub fn all_cuts_last(report: &Report) -> bool
     ensures { IsTrue result ↔ AllCutsLast (report_of report.now) }
 {

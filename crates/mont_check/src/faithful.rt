@@ -16,7 +16,7 @@ use std::alloc::{AllocError, Global};
 /// Whether a report is faithful to a job that was run on a store which was opened at this clock,
 /// with these contents and, unit by unit, these records. A fresh store has none. It takes n log n
 /// steps, where n is the lines and entries of the report, and besides, for each call that was
-/// refused as full or at the end of a number, or was left in the sync behind a refusal, a step for
+/// refused as full or at the end of a number, or was left in the sync after a refusal, a step for
 /// each point of its unit's history from the first that the call may have been made at, and at
 /// which there was as little room as the refusal tells of, to the first at which its cause held.
 pub fn is_faithful(

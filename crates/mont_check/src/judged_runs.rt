@@ -1,4 +1,4 @@
-// Whether the runs of a report are those of the states behind the entries before them.
+// Whether the runs of a report are those of the states after the entries before them.
 ghost use Rattle.std.specs.Prelude.{◌≡◌, ◌↔◌, ◌≤◌, ℕ, List, IsTrue, IfOk, All, slice_get, Some};
 ghost use Rattle.mont_base.specs.declared.operation.Entry.{Entry};
 ghost use Rattle.mont_base.specs.History.{runs_of, IsShort};

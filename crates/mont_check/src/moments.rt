@@ -11,12 +11,12 @@ use job_text::Report;
 use mont_base::{Op, Unit};
 use std::alloc::AllocError;
 
-/// The places of a caller in a unit before a call and behind it, between which the call was made.
+/// The places of a caller in a unit before a call and after it, between which the call was made.
 #[derive(Clone, Copy, Debug, PartialEq, Eq)]
 pub struct Span {
     /// The last place before.
     pub behind: Option<u64>,
-    /// The first place behind.
+    /// The first place after.
     pub ahead: Option<u64>,
 }
 

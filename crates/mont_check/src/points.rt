@@ -1,4 +1,4 @@
-// The points of a unit's history: what is known of the slots behind each number of its entries.
+// The points of a unit's history: what is known of the slots after each number of its entries.
 ghost use Rattle.std.specs.Prelude.{◌≡◌, ◌+◌, length, IfOk};
 ghost use Rattle.plain.specs.States.{state_of};
 ghost use Rattle.mont_check.specs.Points.{ArePoints, AreSettled, EpochsRise, IsClosed, IsNextPoint, PointsRise, UsesFewer};
@@ -9,7 +9,7 @@ use mont_base::{Entry, Epoch};
 use plain::UnitState;
 use std::alloc::{AllocError, Global};
 
-/// What is known behind the first entries of a unit.
+/// What is known after the first entries of a unit.
 #[derive(Clone, Copy, Debug, PartialEq, Eq)]
 pub struct Point {
     /// The slots that the entries retired.
@@ -20,7 +20,7 @@ pub struct Point {
     pub taken: u64,
 }
 
-/// The points of a history, from that before its first entry to that behind its last.
+/// The points of a history, from that before its first entry to that after its last.
 pub fn points_of(
     alloc: Global,
     base: &UnitState,

@@ -10,7 +10,7 @@ use Rattle.mont_image.specs.declared.image_refusal.ImageRefusal.{ImageRefusal}
 use Rattle.mont_image.specs.declared.image_refusal.ImageRefusal.TheVariants.{Magic, Version, Layout, Clock, Short, Long, Read, Memory}
 use Rattle.mont_image.specs.ImageRefusal.{Refuses}
 
--- one piece more stands behind those in the buffer
+-- one piece more stands after those in the buffer
 filled : (buf given : List ℕ) (count n k : ℕ) → count ≤ length buf → n ≤ length given
     → take (count + n) (put_mid count k buf given) ≡ take count buf ++ take n given
 filled buf given count n k inside few =

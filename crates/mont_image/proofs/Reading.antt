@@ -1,4 +1,4 @@
--- Parts of a text, read one behind the other.
+-- Parts of a text, read one after the other.
 use Rattle.std.proofs.Common.{◌≡◌, ℕ, ◌+◌, ◌*◌, ◌≤◌, List, [], ◌++◌, Option, Some, None, IfSome, Err, length, drop, refl, sym, ap, ◌∙◌, subst, arith, append_assoc, append-nil, length-append, length-drop, IsTrue}
 use Rattle.std.proofs.lemmas.List.{drop_all, get_or-drop}
 use Rattle.std.proofs.Math.Seq.{drop-append-add}
@@ -39,7 +39,7 @@ is_image h s words head layout has =
       kinds = old_kinds_has h.version s.kinds layout.kinds;
     }
 
--- A part is refused behind these bytes, of which so many are read then: what follows says that the
+-- A part is refused after these bytes, of which so many are read then: what follows says that the
 -- whole is refused so, and how much of it is asked for.
 module _ (bytes : List ℕ) (count : ℕ) (P : ImageRefusal → List ℕ → Type 0) where
   abbrev IsTold : Type 0
@@ -80,7 +80,7 @@ module _ (bytes : List ℕ) (count : ℕ) (P : ImageRefusal → List ℕ → Typ
 pub drop_range : (words : List ℕ) → AreWords words → AreWords (drop 1 words)
 drop_range words range k d inside = rw get_or-drop (range (1 + k) d (omega (arith, length-drop 1 words)))
 
--- the whole of what is asked for is behind the bytes
+-- the whole of what is asked for is after the bytes
 exactly : (bytes rest : List ℕ) (asked count : ℕ) → asked ≡ length bytes + count → drop asked (bytes ++ rest) ≡ drop count rest
 exactly bytes rest asked count e = ap (λ (n : ℕ). drop n (bytes ++ rest)) e ∙ drop-append-add bytes rest count
 

@@ -52,7 +52,7 @@ slots_more old now new items grown bytes so_far more some spelled is =
 pub same_clock : (items grown more : List ℕ) → 1 ≤ length items → grown ≡ items ++ more → clock_of grown ≡ clock_of items
 same_clock items grown more some is = ap clock_of is ∙ get_or_append_left items more 0 0 some
 
--- a source that ends too early: the words so far, and a piece behind them
+-- a source that ends too early: the words so far, and a piece after them
 pub ends_early : (h : Header) (s : Shape) (old now new : Option (List ℕ)) (items bytes : List ℕ) (whole : ℕ)
     → Consumes old now (bytes_of (drop 1 items)) → Consumes now new bytes → IsAtEnd new → 1 ≤ length items
     → length items + length bytes / WORD < 1 + slot_words (is_old h.version) s

@@ -34,7 +34,7 @@ spelled_more buffer words copied at word k inside is bytes room so_far =
     ∙ sym (bytes_of-append (take at words) (get_or words at 0 ∷ []))
     ∙ ap bytes_of (sym (take_more words at 0 inside))
 
--- a front of what follows was taken behind the whole of what stands before it
+-- a front of what follows was taken after the whole of what stands before it
 pub front_behind : (old now new : Option (List ℕ)) (before bytes : List ℕ) → Appends old now before → AppendsFront now new bytes
     → AppendsFront old new (before ++ bytes)
 front_behind old now new before bytes taken part =
@@ -57,7 +57,7 @@ front_before old new bytes behind part = (
 pub cut_back : (xs front back : List ℕ) (n : ℕ) → front ≡ take n xs → back ≡ drop n xs → xs ≡ front ++ back
 cut_back xs front back n is_front is_back = sym (take-append-drop n xs) ∙ (λ i. sym is_front i ++ sym is_back i)
 
--- the words before a piece, the piece, and those behind it
+-- the words before a piece, the piece, and those after it
 pub three_parts : (words front rest piece behind : List ℕ) → words ≡ front ++ rest → rest ≡ piece ++ behind
     → bytes_of words ≡ bytes_of front ++ (bytes_of piece ++ bytes_of behind)
 three_parts words front rest piece behind is split =
@@ -65,7 +65,7 @@ three_parts words front rest piece behind is split =
     ∙ bytes_of-append front (piece ++ behind)
     ∙ ap (λ (bs : List ℕ). bytes_of front ++ bs) (bytes_of-append piece behind)
 
--- three pieces that are written one behind the other
+-- three pieces that are written one after the other
 module _ (old one two new : Option (List ℕ)) (front mid last : List ℕ) where
   pub all_three : (all : List ℕ) → all ≡ front ++ (mid ++ last) → Appends old one front → Appends one two mid → Appends two new last
       → Appends old new all

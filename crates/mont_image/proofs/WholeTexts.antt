@@ -253,7 +253,7 @@ module _ (h : Header) (head : IsHeader h) (rest : List ℕ) where
             ∙ omega (arith, length-header),
       )
 
-  -- the codes are asked for behind a header that has no fault
+  -- the codes are asked for after a header that has no fault
   pub asked_codes : length (bytes_of (header_words h)) + WORD * code_count h.version h.units ≤ asked_of (bytes_of (header_words h) ++ rest)
   unfolding asked_of
   asked_codes =

@@ -147,7 +147,7 @@ abbrev pub layout_of_kinds : Option (List UnitKind) → ℕ → Result Shape Ima
 layout_of_kinds None slots = Err faults.Layout
 layout_of_kinds (Some ks) slots = Ok (shape ks slots)
 
--- the layout that the header and the words behind it tell
+-- the layout that the header and the words after it tell
 abbrev pub layout_told : Version → Header → List ℕ → Result Shape ImageRefusal
 layout_told First h words = Ok (shape (old_kinds h.units) h.slots)
 layout_told Second h words = Ok (shape (old_kinds h.units) h.slots)

@@ -60,7 +60,7 @@ fn read_text<S: Source>(alloc: Global, source: &mut S) -> Result<Image, ImageRef
     })
 }
 
-// Reads the words of the slots, and gives them behind the clock.
+// Reads the words of the slots, and gives them after the clock.
 fn read_slots<S: Source>(
     alloc: Global,
     source: &mut S,

@@ -20,7 +20,7 @@ due_obsolete x epoch rs r low (inr h) = inr (h.0, h.2)
 delete_of : (q r : Held) → q ≡ r → is_delete q.label.kind ≡ is_delete r.label.kind
 delete_of q r e = ap (λ (p : Held). is_delete p.label.kind) e
 
--- a record behind all others, or one of these
+-- a record after all others, or one of these
 pub push_cases : (rs : List Held) (w r : Held) → Contains (rs ++ w ∷ []) r → Contains rs r ⊎ (r ≡ w)
 push_cases rs w r a = elim (Contains-push_cases rs w r a) [ inl b ↦ inl b | inr e ↦ inr (sym e) ]
 
@@ -158,7 +158,7 @@ module _ (w : Held) where
         ];
       }
 
-      -- an anti-payload goes right behind its victim
+      -- an anti-payload goes right after its victim
       both_gone : AreAllLive (without_slot w.slot (without_slot t.slot (rs ++ w ∷ [])))
       both_gone = record {
         kept = λ r a. let c = stayed r w.slot (without_slot t.slot (rs ++ w ∷ [])) a in
@@ -194,7 +194,7 @@ module _ (w : Held) where
           rest_retires t b n.1 (is_delete w.label.kind) refl,
         )
 
-  -- a written record retires what it follows behind all others
+  -- a written record retires what it follows after all others
   pub retires_push : (ts : List Retired) (rs : List Held) (o : Option Held) → AreApart rs → newest_of w.label.identity rs ≡ o
       → Succeeds o w → ((r : Held) → Contains rs r → r.slot ≢ w.slot) → Retires rs ts → Retires (rs ++ w ∷ []) (ts ++ retired_by o w)
   retires_push [] rs o apart is n new all = retires_last rs new all o is n

@@ -86,7 +86,7 @@ module _ (unit : ℕ) (rs : List Held) (d : Part → Option ℕ) (shown : Shows 
       → Shows (live_things part_for (rs ++ w ∷ [])) (update same_part d t o)
   edit_shows t o w edit = shows_edit same_part one_part part_for rs d t o w shown edit
 
--- a vertex that goes with its edges, one behind the other
+-- a vertex that goes with its edges, one after the other
 removals_show : (unit v a : ℕ) (es : List (Ends × ℕ)) (rs ws : List Held) (d : Part → Option ℕ) → Shows (live_things part_for rs) d
     → AreEffectsInTurn unit rs (map Removes (removals es v a)) ws → Shows (live_things part_for (rs ++ ws)) (after_removals d es v)
 removals_show unit v a [] rs [] d s h = absurd h

@@ -1,4 +1,4 @@
--- The effects of an operation, judged at once or one behind the other, and the identities that they have.
+-- The effects of an operation, judged at once or one after the other, and the identities that they have.
 use Rattle.std.proofs.Common.{◌≡◌, ℕ, List, [], ◌∷◌, sym, subst, arith, inl, inr, ◌⊎◌}
 use Rattle.std.specs.Prelude.{◌≢◌, ◌↔◌, AllPairs}
 use Rattle.mont_base.specs.declared.record.Held.{Held}
@@ -59,7 +59,7 @@ module _ (unit : ℕ) (rs : List Held) where
   forms_apart es ws (inr (inl b)) h = few_apart es ws (inr b) h
   forms_apart es ws (inr (inr b)) h = removed_apart unit b.0 rs ws b.1 (subst (λ (es : List Effect). AreEffects unit rs es ws) b.2 h)
 
-  -- the effects of an operation may be judged at once, or one behind the other
+  -- the effects of an operation may be judged at once, or one after the other
   pub step_in_turn : (ws : List Held) (state : State) (op : Op) → AreEffects unit rs (step state op).effects ws
       ↔ AreEffectsInTurn unit rs (step state op).effects ws
   step_in_turn ws state op = forms_agree (step state op).effects ws (step_form state op)

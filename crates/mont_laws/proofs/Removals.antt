@@ -1,4 +1,4 @@
--- Things of a graph that are removed at once, or one behind the other.
+-- Things of a graph that are removed at once, or one after the other.
 use Rattle.std.proofs.Common.{◌≡◌, ℕ, List, [], ◌∷◌, ◌++◌, map, sym, refl, ap, ◌∙◌, subst, arith, Bool, true, false}
 use Rattle.std.specs.Prelude.{◌≢◌, Some, None, ◌==◌, AllPairs, All, if◌then◌else◌}
 use Rattle.std.proofs.lemmas.Bool.Decides.{nat_tests}

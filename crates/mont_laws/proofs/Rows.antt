@@ -1,4 +1,4 @@
--- Items by rising serial: what stands at a serial when one is added behind the last or the first goes.
+-- Items by rising serial: what stands at a serial when one is added after the last or the first goes.
 use Rattle.std.proofs.Common.{◌≡◌, ℕ, ◌<◌, ◌≤◌, List, [], ◌∷◌, ◌++◌, sym, refl, ap, ◌∙◌, arith, Bool, true, false, cond}
 use Rattle.std.specs.Prelude.{Option, Some, None, T, ◌&&◌, nat_lt, ◌==◌}
 use Rattle.std.specs.declared.cmp.Ordering.{Ordering}

@@ -55,7 +55,7 @@ module _ (kind : UnitKind) where
   same_kind_after (QueueOf items) op = queue_kind items op
   same_kind_after (GraphOf g) op = graph_kind g op
 
--- a unit may have the state behind an operation where it may have the one before
+-- a unit may have the state after an operation where it may have the one before
 pub kind_kept : (kind : Option UnitKind) (state : State) (op : Op) → is_kind_of kind (step state op).state ≡ is_kind_of kind state
 kind_kept None state op = refl
 kind_kept (Some kind) state op = same_kind_after kind state op

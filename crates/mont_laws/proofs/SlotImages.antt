@@ -13,7 +13,7 @@ use Rattle.mont_laws.specs.SlotImages.{ImagesHaveParts, IsOutside, LiesOutside, 
 use Rattle.mont_laws.proofs.SlotReadings.{reading-slot_words}
 use Rattle.mont_laws.proofs.SlotWords.{word_at, first_at}
 
--- ---- words by places, also behind the end
+-- ---- words by places, also after the end
 pub each_word : (cur dur image : List ℕ) (w : ℕ) → IsPermitted cur dur image
     → (get_or image w 0 ≡ get_or cur w 0) ⊎ (get_or image w 0 ≡ get_or dur w 0)
 each_word cur dur image w p = ⊎_elim
@@ -118,7 +118,7 @@ lies_outside cur dur image slot p out = outside_cut image slot
 pub slots_outside_are_unread : SlotsOutsideAreUnread
 slots_outside_are_unread s cur dur image slot p out = none_outside s image slot (lies_outside cur dur image slot p out)
 
--- ---- a slot with a record's words behind the first
+-- ---- a slot with a record's words after the first
 get_behind : (words : List ℕ) (i : ℕ) → get_or words (suc i) 0 ≡ get_or (drop 1 words) i 0
 get_behind [] i = refl
 get_behind (w ∷ words) i = refl
@@ -130,7 +130,7 @@ length-behind : (words others : List ℕ) → drop 1 words ≡ drop 1 others →
 length-behind words others e some =
     let same : length words - 1 ≡ length others - 1 = sym (length-drop 1 words) ∙ ap length e ∙ length-drop 1 others in omega arith
 
--- words between two lists that have these words behind the first are these words, where the first one is
+-- words between two lists that have these words after the first are these words, where the first one is
 pub whole_by_first : (cur dur image whole : List ℕ) → IsPermitted cur dur image → 2 ≤ length whole
     → drop 1 cur ≡ drop 1 whole → drop 1 dur ≡ drop 1 whole
     → get_or image 0 0 ≡ get_or whole 0 0 → image ≡ whole

@@ -72,7 +72,7 @@ module _ where
   below : (r : Held) (rs : List Held) (q : Held) → AllPairs HasLowerSlot (r ∷ rs) → Contains rs q → r.slot < q.slot
   below r rs q rising h = All-contains (HasLowerSlot r) rs q (pairs_head HasLowerSlot r rs rising) h
 
-  -- of two rising lists with the same first element, what stands behind it in one stands behind it in the other
+  -- of two rising lists with the same first element, what stands after it in one stands after it in the other
   behind : (r : Held) (rs : List Held) (x : Held) → AllPairs HasLowerSlot (r ∷ rs) → Contains rs x
       → (q : Held) (qs : List Held) → r ≡ q → Contains (q ∷ qs) x → Contains qs x
   behind r rs x rising h q qs same there = ⊎_elim

@@ -144,7 +144,7 @@ LeadOnInCuts =
     → FollowsHistory s unit base x records history
     → FollowsHistory s unit base x (records ++ written) (history ++ e ∷ [])
 
--- The effects of an operation may be judged at once, or one behind the other.
+-- The effects of an operation may be judged at once, or one after the other.
 abbrev pub JudgedInTurn : Type 0
 JudgedInTurn =
     (unit : ℕ) (records written : List Held) (state : State) (op : Op)

@@ -99,7 +99,7 @@ pub record AreRetired (records : List Held) (queue : List Retired) : Type 0 wher
       → IsIn q.slot queue → StandsBefore r.slot q.slot queue
 
 -- ---- what is retired by written records
--- the version before it, and an anti-payload itself right behind its victim
+-- the version before it, and an anti-payload itself right after its victim
 abbrev pub retired_by : Option Held → Held → List Retired
 retired_by None w = []
 retired_by (Some victim) w =
@@ -162,7 +162,7 @@ FirstCanClose =
     → AreApart (without_slot t.slot records) × Retires (without_slot t.slot records) ts
     × ShowSameAt s unit x (without_slot t.slot records) records
 
--- Written records keep the records apart, and retire what they follow behind all others.
+-- Written records keep the records apart, and retire what they follow after all others.
 abbrev pub WrittenRetire : Type 0
 WrittenRetire =
     (unit : ℕ) (records written : List Held) (queue : List Retired) (state : State) (op : Op)

@@ -20,7 +20,7 @@ abbrev pub SlotsHaveWords : Type 0
 SlotsHaveWords = (s : Shape) (words : List ℕ) (slot : ℕ)
     → length words ≡ words_of s → slot < total_of s → HasWords words slot
 
--- a word behind the clock, by the one slot and the one field that it belongs to
+-- a word after the clock, by the one slot and the one field that it belongs to
 pub record IsWordOf (s : Shape) (word slot field : ℕ) : Type 0 where
   pub in_store : slot < total_of s
   pub in_slot : field < FIELDS

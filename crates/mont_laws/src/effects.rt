@@ -11,7 +11,7 @@ pub fn effects_lead_on_in_cuts()
     ensures { LeadOnInCuts }
 {}
 
-/// Effects may be judged on the records before all of them, or one behind the other.
+/// Effects may be judged on the records before all of them, or one after the other.
 pub fn effects_judged_in_turn()
     ensures { JudgedInTurn }
 {}

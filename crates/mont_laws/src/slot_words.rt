@@ -6,7 +6,7 @@ pub fn slots_have_words()
     ensures { SlotsHaveWords }
 {}
 
-/// Each word behind the clock is one field of one slot.
+/// Each word after the clock is one field of one slot.
 pub fn words_have_slots()
     ensures { WordsHaveSlots }
 {}

@@ -53,7 +53,7 @@ module _ (left : Option (List ℕ)) (p : ImageParts) (of : IsImageOf left p) whe
         ∙ ap (λ (s : Shape). contents_text s (clock_of i.words) states) is.layout;
   }
 
--- no source failed behind the reading
+-- no source failed after the reading
 pub read_behind : {A : Type 0} (most : ℕ) (left : Option (List ℕ)) (old new : SourceSeen) (result : Result A Status)
     → IfErr result (RefusesImage left) → ((which : SourceName) → result ≢ Err (ReadFault which)) → IsRead most sources.Image old new Done
     → IsRead most sources.Image old new (ended_as result)

@@ -83,7 +83,7 @@ pub record TakesFront (bytes : List ℕ) (old new : SinkSeen) : Type 0 where
   pub front : AppendsFront old.taken new.taken bytes
   pub failed : Rose old.faults new.faults
 
--- what is to be written: a text, and the text of an image behind it if there is one
+-- what is to be written: a text, and the text of an image after it if there is one
 pub record Output : Type 0 where
   pub text : List ℕ
   pub image : Option (List ℕ)
@@ -96,7 +96,7 @@ abbrev pub TakesImageFront : Option (List ℕ) → SinkSeen → SinkSeen → Typ
 TakesImageFront None old new = ⊥
 TakesImageFront (Some bytes) old new = TakesFront bytes old new
 
--- What came of writing it, as is seen of both sinks. The image is written behind the whole text.
+-- What came of writing it, as is seen of both sinks. The image is written after the whole text.
 abbrev pub IsWritten : Output → SinkSeen → SinkSeen → SinkSeen → SinkSeen → Status → Type 0
 IsWritten o out told image_out kept Done =
     TakesAll o.text out told × TakesImage o.image image_out kept

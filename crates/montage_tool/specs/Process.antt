@@ -39,7 +39,7 @@ pub record AreAnswered {J O : Type 0} (source : source_trait.Ghosts J) (sink : s
   pub quiet : ¬ HasOutput status → written ≡ out
 
 -- A file that was written whole is moved to its place, which may fail: by the status before and
--- behind that, and by how often its sink had failed.
+-- after that, and by how often its sink had failed.
 abbrev pub IsSettled : Status → ℕ → ℕ → Status → Type 0
 IsSettled status faults now settled =
     ((settled ≡ status) × (now ≡ faults))

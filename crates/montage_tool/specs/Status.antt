@@ -59,7 +59,7 @@ status_bytes (BadReport line) = codes "montage: report line " ++ decimal line
 status_bytes (NotAllowed line) = codes "montage: not allowed at line " ++ decimal line
 status_bytes (BadSchedule line) = codes "montage: schedule line " ++ decimal line
 
--- a text with a line feed behind it, if there is one
+-- a text with a line feed after it, if there is one
 abbrev pub with_line_feed : List ℕ → List ℕ
 with_line_feed [] = []
 with_line_feed (byte ∷ bytes) = (byte ∷ bytes) ++ 10 ∷ []

@@ -4,7 +4,7 @@ ghost use Rattle.montage_tool.specs.Forms.{AreHelp, AreVersion};
 
 /// The answer to `--help`.
 pub const HELP: &str = "\
-montage: runs jobs over buffered durable structures, and goes on behind crashes
+montage: runs jobs over buffered durable structures, and goes on after crashes
 
 usage:
   montage run                    runs the job on standard input, writes its report
@@ -40,7 +40,7 @@ KINDS has a letter for each of 1 to 16 units: m for a map, q a queue, g a graph,
 o an ordered map. S from 8 to 4096 are the slots of a unit, N from 1 to 8 the
 callers, A up to 1000000 how often it is tried beside them to move the clock on.
 MASK is 16 digits 0 to 9, a to f: which words a crash leaves at their current
-values. Then come lines that cut a caller, or as caller N the attempts, behind K
+values. Then come lines that cut a caller, or as caller N the attempts, after K
 steps:
   stop C K
 The others are lines of the callers 0 to N-1, each in a thread of its own:

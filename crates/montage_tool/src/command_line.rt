@@ -9,7 +9,7 @@ use std::alloc::{AllocError, Global};
 use std::env::Args;
 use std::io;
 
-/// The words behind the program's name, where the process has all of these.
+/// The words after the program's name, where the process has all of these.
 pub fn words_of(alloc: Global, all: io::Result<Args>) -> Result<Vec<String>, Status>
     ensures { MatchResult all
         (λ args. MatchResult result (λ words. words.items ≡ drop 1 (into_iter_items args))
@@ -22,7 +22,7 @@ pub fn words_of(alloc: Global, all: io::Result<Args>) -> Result<Vec<String>, Sta
     }
 }
 
-// The words behind the first.
+// The words after the first.
 fn behind_first(alloc: Global, args: Args) -> Result<Vec<String>, AllocError>
     ensures { IfOk result (λ words. words.items ≡ drop 1 (into_iter_items args)) }
 {

@@ -47,7 +47,7 @@ pub(crate) fn send_report<O: Sink>(out: &mut O, run: Result<MadeRun, Status>) ->
     }
 }
 
-// Writes the report of a run, if there is one, and behind all of it the image.
+// Writes the report of a run, if there is one, and after all of it the image.
 pub(crate) fn send_both<O: Sink, K: Sink>(
     out: &mut O,
     image_out: &mut K,
@@ -67,7 +67,7 @@ pub(crate) fn send_both<O: Sink, K: Sink>(
     }
 }
 
-// Writes the report of a run, and behind all of it the image.
+// Writes the report of a run, and after all of it the image.
 fn send_made<O: Sink, K: Sink>(out: &mut O, image_out: &mut K, run: &MadeRun) -> Status
     ensures made { IsWritten
         (record {

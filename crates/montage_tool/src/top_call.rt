@@ -23,7 +23,7 @@ use std::thread::Threads;
 /// `run` reads a job, runs it on a fresh store with a thread for each caller, and writes the
 /// report, which is faithful to the job: what recovery finds in the image that the job's mask picks
 /// is what the operations of all epochs but the last two lead to (buffered durable linearizability,
-/// DISC 2016). `crash` writes that image too, behind the whole report. `resume` goes on from an
+/// DISC 2016). `crash` writes that image too, after the whole report. `resume` goes on from an
 /// image, and `recover` tells what one holds. `check` holds a report against an image, and `replay`
 /// replays a schedule. `big` runs the generated job of a number and tells its summary, and `bank`
 /// the generated bank, whose accounts keep their total. Each map unit is given the next of the

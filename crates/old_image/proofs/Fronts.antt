@@ -44,7 +44,7 @@ pair_now o has =
 pub digits_stand : (o : Object) → HoldsNumbers o → digits_at o ≡ pair_at (renewed_object kinds.Map o)
 digits_stand o has = ap (option_map digits_of) has.are ∙ sym (pair_now o has)
 
--- ---- the fault of an object behind others
+-- ---- the fault of an object after others
 same_key : (k : ℕ) → k < 2 ^ 64 → (o : Object) → HoldsNumbers o → has_key (decimal k) (renewed_object kinds.Map o) ≡ has_number k o
 same_key k small o has =
     ap (names (eq_by_cmp key_cmp (decimal k))) (pair_now o has)
@@ -89,7 +89,7 @@ module _ (s : Shape) (unit : ℕ) (old : IsOldKinds s.kinds) (plain : is_of_kind
       → first_fault (map_fault s unit) [] (map (renewed_object kinds.Map) os) ≡ first_fault (old_map_fault s unit) [] os
   front_fault os all = same_faults [] os (All-nil HoldsNumbers) all
 
--- ---- objects behind others
+-- ---- objects after others
 or_else_assoc : {A : Type 0} (a b d : Option A) → or_else a (or_else b d) ≡ or_else (or_else a b) d
 or_else_assoc None b d = refl
 or_else_assoc (Some x) b d = refl
@@ -111,7 +111,7 @@ module _ (s : Shape) (unit : ℕ) where
       first_fault-append (old_map_fault s unit) [] front behind
       ∙ ap (λ (o : Option (ℕ × ObjectFault)). or_else o (first_fault (old_map_fault s unit) front behind)) first
 
-  -- behind a front without a fault, a word that isn't used and isn't 0 is the first one
+  -- after a front without a fault, a word that isn't used and isn't 0 is the first one
   pub fault_behind : (front : List Object) (o : Object) (os : List Object) → first_fault (old_map_fault s unit) [] front ≡ None
       → number_pair_at o ≡ None → first_fault (old_map_fault s unit) [] (front ++ o ∷ os) ≡ Some (o.slot, faults.Spare)
   fault_behind front o os none spare =

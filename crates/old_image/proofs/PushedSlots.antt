@@ -34,7 +34,7 @@ module _ (s : Shape) (wide : List ℕ) (size : length wide ≡ words_of s) (cloc
   split os e = let next : 1 + left ≡ suc left = omega arith in
       e ∙ ap (λ (n : ℕ). filter_map (object_at s wide) (range_with_len slot n)) next
 
-  -- what stands behind the slot
+  -- what stands after the slot
   behind_slot : (o : Object) → Contains rest o → slot < o.slot
   behind_slot o h =
       let at = mapped_from (object_at s wide) o (range_with_len (slot + 1) left) h in

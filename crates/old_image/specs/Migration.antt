@@ -84,7 +84,7 @@ abbrev pub object_at : Shape → List ℕ → ℕ → Option Object
 object_at s wide slot = object_if (kind_of s (unit_of_slot s slot)) (live_at s wide slot)
 
 -- ---- one slot after the other
--- The words of a slot were added, of so many that are left, in which these objects stand; behind it
+-- The words of a slot were added, of so many that are left, in which these objects stand; after it
 -- stand the others.
 pub record PushesSlot (s : Shape) (wide : List ℕ) (slot left : ℕ) (before now : List ℕ)
     (behind : List Object) : Type 0 where

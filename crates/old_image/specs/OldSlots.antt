@@ -15,7 +15,7 @@ use Rattle.scan.specs.Scanned.{all_slots}
 abbrev pub old_slot : List ℕ → ℕ → List ℕ
 old_slot image slot = take OLD_FIELDS (drop (1 + OLD_FIELDS * slot) image)
 
--- The image with four zeros behind the words of each slot, which are as many as slots have now.
+-- The image with four zeros after the words of each slot, which are as many as slots have now.
 -- Labels are read of it as of any other image, and so are the records within the cut and the live
 -- ones among them. What a body says is another matter.
 abbrev pub wide_slot : List ℕ → ℕ → List ℕ

@@ -40,7 +40,7 @@ abbrev pub IsOldObjectRefusal : Shape → ℕ → List Object → RecoverRefusal
 IsOldObjectRefusal s unit os = IsRefusalFor (IsFirstOldFault s unit os) unit
 
 -- ---- the front of a map's objects
--- the first object behind it, if there is one, has a word that isn't used and isn't 0
+-- the first object after it, if there is one, has a word that isn't used and isn't 0
 abbrev pub EndsAt : Option ℕ → List Object → Type 0
 EndsAt None behind = behind ≡ []
 EndsAt (Some slot) [] = ⊥

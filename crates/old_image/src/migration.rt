@@ -93,7 +93,7 @@ fn push_unit(
     Ok(())
 }
 
-// Adds the words of a slot, and says which objects stand behind it. None stands in front of it.
+// Adds the words of a slot, and says which objects stand after it. None stands in front of it.
 fn push_slot<'a>(
     words: &mut Vec<u64>,
     layout: &Layout,

@@ -9,7 +9,7 @@ use mont_base::{FIELDS, Layout, Slot};
 use mont_image::{Image, OLD_FIELDS};
 use std::alloc::{AllocError, Global};
 
-// The words of an old image with four zeros behind those of each slot.
+// The words of an old image with four zeros after those of each slot.
 pub(crate) fn widen(alloc: Global, image: &Image) -> Result<Vec<u64>, AllocError>
     requires { image.now.old ≡ true }
     ensures { IfOk result (λ wide. wide.items ≡ widened image.now.layout image.now.words) }
@@ -23,7 +23,7 @@ pub(crate) fn widen(alloc: Global, image: &Image) -> Result<Vec<u64>, AllocError
     Ok(wide)
 }
 
-// The words of a slot, with four zeros behind them.
+// The words of a slot, with four zeros after them.
 fn wide_slot(image: &[u64], slot: Slot) -> [u64; FIELDS]
     requires { 1 + OLD_FIELDS * slot + OLD_FIELDS ≤ length image.now }
     ensures { result ≡ wide_slot image.now slot }

@@ -117,7 +117,7 @@ begun_within heap old r q need epoch steps seat ready keeps room comes clock new
       reclaimed = closed;
     }
 
--- behind room that was made
+-- after room that was made
 pub has_begun : (heap : HeapShown) (old r : RegionShown) (q : CallerShown) (need epoch : ℕ) (seat : UnitShown)
     → IsReady heap r → KeepsUnit old r → r.seat.known.learnt ≡ learnt_more old.seat.known.learnt q.known.part
     → need ≤ length r.books.free → HasMadeRoom old r q need

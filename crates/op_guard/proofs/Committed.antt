@@ -54,7 +54,7 @@ module _ (heap : HeapShown) (old : RegionShown) (lent : UnitShown) (is : lent �
       let given = subst (λ (x : UnitShown). IsNotBeyond q x.known) is k in
       record { front = given.front; entries = given.entries }
 
--- and behind the answer
+-- and after the answer
 pub sound_after : (heap : HeapShown) (new : RegionShown) (seat : UnitShown) → new.seat ≡ seat
     → (now durable : ℕ) × IsSoundUnit heap.opening now durable seat.known → IsSound heap new
 sound_after heap new seat is k =

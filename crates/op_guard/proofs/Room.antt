@@ -39,7 +39,7 @@ none_first clock (t ∷ ts) none slot h =
     let some : t ∷ due_at clock ts ≡ [] = sym (due_cons clock t ts true is) ∙ none in
     absurd (cc some)
 
--- what is left behind those that are due has none in front
+-- what is left after those that are due has none in front
 pub none_left : (clock : ℕ) (queue left : List Retired) → queue ≡ due_at clock queue ++ left → due_at clock left ≡ []
 none_left clock [] left e = ap (due_at clock) (sym e)
 none_left clock (t ∷ ts) left e = by (is_due clock t) refl (none_left clock ts left) where

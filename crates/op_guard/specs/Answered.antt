@@ -12,7 +12,7 @@ use Rattle.slots.specs.Books.{RegionShown, books_showing}
 use Rattle.slots.specs.Reclaiming.{IsSound}
 use Rattle.op_guard.specs.Regions.{IsReady}
 
--- The unit has one entry more, of this epoch, and the receipt names it. It stands behind all that
+-- The unit has one entry more, of this epoch, and the receipt names it. It stands after all that
 -- the caller had seen of the unit, which stood first there.
 pub record HasAnswered
     (heap : HeapShown) (old new : RegionShown) (q r : CallerShown) (op : Op) (reply : Reply)

@@ -117,7 +117,7 @@ HasNoted new q r = r ≡ record {
 
 -- Too few slots are free, though the unit's seat took a note of the caller, and then all was closed
 -- that the durable clock lets be closed. So that clock isn't below one that the caller knew. The
--- caller took a note of the unit behind that.
+-- caller took a note of the unit after that.
 pub record IsFull
     (heap : HeapShown) (old new : RegionShown) (q r : CallerShown) (need free clock : ℕ)
     : Type 0 where

@@ -23,7 +23,7 @@ pub(crate) fn answer_place(region: &Region, ticket: &Ticket) -> NextAnswer
     }
 }
 
-// The receipt of the answer that stands there is kept behind the others, and the region follows it.
+// The receipt of the answer that stands there is kept after the others, and the region follows it.
 #[inline(always)]
 pub(crate) fn keep(
     region: &mut Region,
@@ -48,7 +48,7 @@ pub(crate) fn keep(
     region.left(&receipt);
 }
 
-// A copy of a value stands behind the others, in room that was made before.
+// A copy of a value stands after the others, in room that was made before.
 #[inline(always)]
 fn push_copy<T: Copy>(values: &mut Vec<T>, value: &T)
     requires { 1 ≤ spare_of values.old }

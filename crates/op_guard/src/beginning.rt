@@ -52,7 +52,7 @@ pub fn begin<R: Wait, G: Gate>(
 }
 
 /// Begins an operation that needs so many slots, at this epoch alone: the clock is looked at once
-/// behind the announcement. So many slots have to be free, and the unit's seat has to have taken a
+/// after the announcement. So many slots have to be free, and the unit's seat has to have taken a
 /// note of the pass.
 pub fn begin_at<G: Gate>(
     heap: &Heap,

@@ -1,4 +1,4 @@
--- Entries by rising key: how a key stands to the first, and what is at the place behind the keys below it.
+-- Entries by rising key: how a key stands to the first, and what is at the place after the keys below it.
 use Rattle.std.proofs.Common.{◌⊎◌, inl, inr, ◌≡◌, suc, Bool, true, false, cond, List, [], ◌∷◌, ◌++◌, length, take, drop, set, Option, Some, None, refl, ap, ◌∙◌}
 use Rattle.std.specs.Prelude.{not, slice_get}
 use Rattle.std.specs.declared.cmp.Ordering.{Ordering}
@@ -80,7 +80,7 @@ module _ {K X : Type 0} {R : K → K → Ordering} (o : IsTotalOrder R) (k : K) 
   tail : (e : K × X) (es : List (K × X)) → is_sorted R (e ∷ es) ≡ true → is_sorted R es ≡ true
   tail e es s = second_so (below_all R e.0 es) (is_sorted R es) s
 
-  -- the key's value is that of the entry behind the keys below it, if that is the key's
+  -- the key's value is that of the entry after the keys below it, if that is the key's
   pub found : (es : List (K × X)) → is_sorted R es ≡ true → find R k es ≡ value_at R k (slice_get es (count_below R k es))
   found [] s = refl
   found (e ∷ es) s = elim (first e es s) [

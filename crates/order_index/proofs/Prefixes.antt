@@ -36,7 +36,7 @@ module _ {A : Type 0} where
       let t : length (take n xs) ≡ n = omega (arith, length-take n xs, within) in
       ap (λ k. slice_get (take n xs) (k - 1)) t ∙ of_take n xs (n - 1) (omega (arith, some))
 
-  -- of those behind a place, up to another
+  -- of those after a place, up to another
   pub middle_length : (a b : ℕ) (xs : List A) → b ≤ length xs → length (drop a (take b xs)) ≡ b - a
   middle_length a b xs within = let d = length-drop a (take b xs) in let t = length-take b xs in omega (arith, d, t, within)
 
@@ -98,7 +98,7 @@ module _ {K X : Type 0} {R : K → K → Ordering} (o : IsTotalOrder R) where
               ]
         ]
 
-    -- they stand behind the entries of the lower keys
+    -- they stand after the entries of the lower keys
     pub between_there : (es : List (K × X)) → is_sorted R es ≡ true
         → filter is_between es ≡ drop (count_below R from es) (take (count_below R from es + length (filter is_between es)) es)
     between_there es s =

@@ -16,7 +16,7 @@ up_to {X} key entries = filter (λ (e : Key × X). is_le (key_cmp e.0 key)) entr
 abbrev pub between : {X : Type 0} → Key → Key → List (Key × X) → List (Key × X)
 between {X} from to entries = filter (λ (e : Key × X). is_between from to e.0) entries
 
--- the places of the entries from one key to another: behind the entries of all lower keys
+-- the places of the entries from one key to another: after the entries of all lower keys
 pub record IsStretch (from to : Key) (entries : Entries) (places : Stretch) : Type 0 where
   pub first : places.first ≡ count_below key_cmp from entries
   pub behind : places.behind ≡ places.first + length (between from to entries)

@@ -11,7 +11,7 @@ pub record IsKeptInOrder (entries waiting : Entries) : Type 0 where
   pub one : length waiting ≤ 1
   pub few : length entries + length waiting ≤ 2 ^ 60
 
--- behind the entries of keys below it is the key's own
+-- after the entries of keys below it is the key's own
 pub record IsHeldAt (entries : Entries) (key : Key) (at : ℕ) : Type 0 where
   pub behind : at ≡ count_below key_cmp key entries
   pub there : (place : ℕ) × (slice_get entries at ≡ Some (key, place))

@@ -1,7 +1,7 @@
 // Where the entries of a range stand among all.
 ghost use Rattle.std.specs.Prelude.{◌≡◌, ◌-◌};
 
-/// The entries from one key to another by their places: that of the first, and the one behind the
+/// The entries from one key to another by their places: that of the first, and the one after the
 /// last. Where there are none, both are the place where the first would be.
 #[derive(Clone, Copy, Debug, PartialEq, Eq)]
 pub struct Stretch {

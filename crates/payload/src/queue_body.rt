@@ -5,7 +5,7 @@ ghost use Rattle.mont_base.specs.Bodies.{item_body, item_in};
 use crate::spare::are_zero;
 use mont_base::BODY;
 
-/// The body that holds an item behind its serial.
+/// The body that holds an item after its serial.
 pub fn item_body(serial: u64, item: u64) -> [u64; BODY]
     ensures words { result ≡ item_body serial item }
     ensures read_back { item_in result ≡ Some (serial, item) }

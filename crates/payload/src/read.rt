@@ -37,7 +37,7 @@ pub fn read_words(
     Ok(Some((label, body_of(words))))
 }
 
-// The words of a slot behind its label.
+// The words of a slot after its label.
 fn body_of(words: &[u64; FIELDS]) -> [u64; BODY]
     ensures { result ≡ body_at words.now }
 {

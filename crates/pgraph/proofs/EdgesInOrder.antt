@@ -1,4 +1,4 @@
--- The edges behind a vertex are those from or to it, by rising ends.
+-- The edges after a vertex are those from or to it, by rising ends.
 use Rattle.std.proofs.Common.{◌≡◌, ℕ, suc, Bool, true, false, cond, List, [], ◌∷◌, length, refl, sym, ap, subst, ◌∙◌}
 use Rattle.std.specs.Prelude.{Option, Some, None, is_some, IsSome, ◌&&◌, ◌||◌, T, option_map}
 use Rattle.std.specs.declared.cmp.Ordering.TheVariants.{Less}
@@ -79,7 +79,7 @@ module _ (es : List (Ends × Node)) where
       by (Some n) e true f rest = rw f (sym e ∙ ap (value_of edge_cmp es) (sym ((one_edge q k).0 f)))
       by (Some n) e false f rest = rw f rest
 
--- ---- the ends that stand behind a vertex
+-- ---- the ends that stand after a vertex
 module _ (vs : List (ℕ × VertexNode)) (es : List (Ends × Node)) (ix : IsIndex (nodes_in vs es) (stands_behind vs)) (v : ℕ) (x : VertexNode)
     (is : Some x ≡ value_of nat_cmp vs v) where
   abbrev nodes : Nodes

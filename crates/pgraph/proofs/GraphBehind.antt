@@ -1,4 +1,4 @@
--- The graph and the nodes behind an edit.
+-- The graph and the nodes after an edit.
 use Rattle.std.proofs.Common.{◌≡◌, ℕ, ◌==◌, Bool, true, false, cond, refl, sym, ap, ◌∙◌, subst, arith}
 use Rattle.std.specs.Prelude.{◌≢◌, Option, Some, None, is_some, IsSome, option_map, ◌&&◌, ◌||◌, not}
 use Rattle.std.specs.declared.cmp.Ordering.{Ordering}
@@ -101,7 +101,7 @@ neither false true e = absurd (cc)
 neither false false e = (refl, refl)
 
 module _ (nodes : Nodes) where
-  -- ---- the graph of the nodes behind an edit
+  -- ---- the graph of the nodes after an edit
   graph_with : (part : Part) (x : Node) → graph_in (with_node nodes part x) ≡ with_part (graph_in nodes) part x.attribute
   graph_with (AtVertex v) x = graph_same_maps _ _ _ _ (attributes_with nat_cmp_total numbers_exact nodes.vertices v x) refl
   graph_with (AtEdge e) x = graph_same_maps _ _ _ _ refl (attributes_with edges_total edges_exact nodes.edges e x)
@@ -116,7 +116,7 @@ module _ (nodes : Nodes) where
   graph_is (Set name a was) w = graph_with (part_of name) (node_by a w)
   graph_is (Remove name node) w = graph_without (part_of name)
 
-  -- ---- nodes behind an edit
+  -- ---- nodes after an edit
   pub node_with : (part : Part) (x : Node) (t : Part) → node_of (with_node nodes part x) t
       ≡ cond (same_part part t) (Some x) (node_of nodes t)
   node_with (AtVertex v) x (AtVertex w) = get_with nat_cmp_total numbers_exact nodes.vertices v x w

@@ -1,4 +1,4 @@
--- What a graph unit is behind each answer of a call.
+-- What a graph unit is after each answer of a call.
 use Rattle.std.proofs.Common.{◌≡◌, ℕ, ◌+◌, ◌<◌, Bool, true, false, cond, List, [], ◌∷◌, ◌++◌, map, append-nil, length, refl, sym, ap, ◌∙◌, subst, arith, inl, inr, ◌⊎◌}
 use Rattle.std.specs.Prelude.{◌≢◌, ◌==◌, not, AllPairs, Option, Some, None, if◌then◌else◌}
 use Rattle.std.specs.List.{Contains}
@@ -206,7 +206,7 @@ module _ (heap : HeapShown) (old new : RegionShown) (nodes : Nodes) (called : Is
   same_live : (rs : List Held) → ((i : ℕ) → live_of i rs ≡ live_of i olds) → HoldsLive rs nodes
   same_live rs live = holds_kept olds nodes holds old.books.layout old.books.unit called.unit.kind rs live
 
-  -- ---- behind a refusal the same is live, or it is halted
+  -- ---- after a refusal the same is live, or it is halted
   pub unit_uncarried : (q r : CallerShown) (many : ℕ) (why : CallRefusal) → LeavesUncarried heap old new q r many why
       → IsGraphUnit new nodes
   unit_uncarried q r many (Full need free clock) h = record {
@@ -221,7 +221,7 @@ module _ (heap : HeapShown) (old new : RegionShown) (nodes : Nodes) (called : Is
   }
   unit_uncarried q r many _ h = absurd h
 
-  -- ---- behind an answer without changes the index stays
+  -- ---- after an answer without changes the index stays
   kept_live : (receipt : Receipt) (slot : Option ℕ) → HasCarried old new [] receipt slot → HoldsLive news nodes
   kept_live receipt slot carried = same_live news
       (λ i. ap (live_of i) (carried.records_are ∙ append-nil carried.kept) ∙ carried.live i)
@@ -234,7 +234,7 @@ module _ (heap : HeapShown) (old new : RegionShown) (nodes : Nodes) (called : Is
     indexed = λ _. kept_live receipt slot carried;
   }
 
-  -- ---- where the nodes are behind an answer
+  -- ---- where the nodes are after an answer
   lower_identity : (t : Part) (m : Node) → IsNodeOf olds t m → m.identity < old.books.identity
   lower_identity t m p =
       let n = newest_is m.identity olds p.live (live_facts (newest_of m.identity olds) p.live p.is).0 in
@@ -325,7 +325,7 @@ module _ (heap : HeapShown) (old new : RegionShown) (nodes : Nodes) (called : Is
   planned op of_unit reply edit replies effects fits = edit_plan old nodes holds called.unit.kind op
       (subst (λ (s : Shape). IsOpOf s old.books.unit op) (sym called.of_heap.layout) of_unit) reply edit replies effects fits
 
-  -- ---- behind an answer the index has followed
+  -- ---- after an answer the index has followed
   module _ (q r : CallerShown) (op : Op) (receipt : Receipt) (answered : HasAnsweredCall heap old new q r op receipt) (edit : GraphEdit)
       (state : (graph_step (graph_in nodes) op).state ≡ GraphOf (graph_behind (graph_in nodes) edit)) (fits : Fits nodes edit)
       (slot : Option ℕ) (carried : HasCarried old new (changes_of nodes edit) receipt slot) where
@@ -377,7 +377,7 @@ module _ (heap : HeapShown) (old new : RegionShown) (nodes : Nodes) (called : Is
       indexed = λ _. holds_behind;
     }
 
-  -- the index behind a refusal
+  -- the index after a refusal
   pub index_restored : (edit : GraphEdit) → Fits nodes edit → restored (prepared nodes edit) edit ≡ nodes
   index_restored edit fits = restored_is nodes holds.graph.ends edit fits
 
@@ -390,7 +390,7 @@ answer_planned heap shown began nodes stands is unit op of_unit reply replies ef
     (is_called heap shown began shown nodes stands is unit (ap (λ (r : RegionShown). r.books.halted) is ∙ running) (sym is))
     op of_unit reply Keep replies effects tt
 
--- ---- a planned operation, behind checks that left the region and the caller as they were
+-- ---- a planned operation, after checks that left the region and the caller as they were
 module _ (heap : HeapShown) (shown ran : RegionShown) (q s : CallerShown) (op : Op) (reply : Reply) (changes : List Change)
     (same : ran ≡ shown)
     (caller : s ≡ q) (plan : IsPlan ran op reply changes) where

@@ -88,11 +88,11 @@ module _ (n : Nodes) (d : ℕ → Ends → Option Bool) (ix : IsIndex n d) where
       by true there false t = refl
       by false there t f = refl
 
-  -- an edge that isn't there is behind no vertex
+  -- an edge that isn't there is after no vertex
   pub none_listed : (e : Ends) → finite.get n.edges e ≡ None → (v : ℕ) (b : Bool) → d v e ≡ Some b → b ≡ false
   none_listed e none v b h = ix.listed v e b h ∙ ap (λ (o : Option Node). is_some o && touches v e) none
 
-  -- nothing is behind another vertex than before
+  -- nothing is after another vertex than before
   pub index_same : (c : ℕ → Ends → Option Bool) → ((v : ℕ) (e : Ends) → c v e ≡ option_map (λ b. b) (d v e)) → IsIndex n c
   index_same c same = record { joined = ix.joined; listed = λ v e b h. by v e b (d v e) refl (sym (same v e) ∙ h) }
     where
@@ -101,7 +101,7 @@ module _ (n : Nodes) (d : ℕ → Ends → Option Bool) (ix : IsIndex n d) where
       by v e b None f h = absurd (cc)
       by v e b (Some a) f h = ix.listed v e b (f ∙ h)
 
-  -- a vertex has a node, and behind it stand the edges at it
+  -- a vertex has a node, and after it stand the edges at it
   pub vertex_put : (v : ℕ) (x : Node) (held : Ends → Bool) (c : ℕ → Ends → Option Bool)
       → ((e : Ends) → held e ≡ (has_edge n e && touches v e))
       → ((q : ℕ) (e : Ends) → c q e ≡ cond (eq_by_cmp nat_cmp v q) (Some (held e)) (d q e)) → IsIndex (with_vertex n v x) c

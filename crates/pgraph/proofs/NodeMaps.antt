@@ -107,7 +107,7 @@ pub vertices_kept : (vs ws : List (ℕ × VertexNode)) (es fs : List (Ends × No
 vertices_kept vs ws es fs same = finite.same_map nat_cmp_total finite.nat_cmp-IsAntisymmetric _ _
     (λ v. vertex_in ws fs v ∙ same v ∙ sym (vertex_in vs es v))
 
--- what stands behind one vertex is set
+-- what stands after one vertex is set
 pub behind_set : (vs ws : List (ℕ × VertexNode)) (v : ℕ) (w : Option VertexNode) → SetsValue nat_cmp vs ws v w → (q : ℕ) (e : Ends)
     → stands_behind ws q e
     ≡ cond (is_at (nat_cmp v) q) (option_map (λ (n : VertexNode). contains edge_cmp n.ends e) w) (stands_behind vs q e)

@@ -18,7 +18,7 @@ use Rattle.mont_laws.proofs.Members.{first_element, later_element}
 use Rattle.pgraph.specs.declared.node.Node.{Node}
 use Rattle.pgraph.specs.GraphBeginning.{node_at, named_at}
 
--- ---- an entry behind others
+-- ---- an entry after others
 module _ {K V : Type 0} (R : K → K → Ordering) where
   find_append : (q : K) (xs ys : List (K × V)) → find R q (xs ++ ys) ≡ or_else (find R q xs) (find R q ys)
   find_append q [] ys = refl
@@ -29,7 +29,7 @@ module _ {K V : Type 0} (R : K → K → Ordering) where
       by false = refl
 
 module _ {K V : Type 0} {R : K → K → Ordering} (order : IsTotalOrder R) (exact : finite.IsAntisymmetric R) where
-  -- a new key behind others comes in
+  -- a new key after others comes in
   from_push : (es : List (K × V)) (k : K) (v : V) → find R k es ≡ None
       → finite.from_entries {R = R} (es ++ (k, v) ∷ []) ≡ finite.insert (finite.from_entries es) k v
   from_push es k v none = finite.same_map order exact _ _ (λ q. finite.get-from_entries order (es ++ (k, v) ∷ []) q

@@ -1,4 +1,4 @@
--- An edge put behind its ends, and taken from behind them.
+-- An edge put after its ends, and taken from after them.
 use Rattle.std.proofs.Common.{◌≡◌, ℕ, ◌==◌, Bool, true, false, cond, List, refl, sym, ap, subst, ◌∙◌, arith}
 use Rattle.std.specs.Prelude.{◌&&◌, ◌||◌, not, Option, Some, None, option_map, Result, Ok, Err, OnErr}
 use Rattle.std.specs.Cmp.{unsigned_tied}

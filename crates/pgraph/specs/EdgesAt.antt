@@ -1,4 +1,4 @@
--- What edges stand behind a vertex.
+-- What edges stand after a vertex.
 use Rattle.std.specs.Prelude.{List, [], ◌∷◌, Option, Some, None, IsSome}
 use Rattle.mont_base.specs.State.{Ends, edge_cmp}
 use Rattle.pgraph.specs.declared.node.Node.{Node}

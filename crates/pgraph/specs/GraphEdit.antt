@@ -66,7 +66,7 @@ changes_of nodes (Set name attribute was) = setting (part_of name) attribute was
 changes_of nodes (Remove name node) =
     map edge_removal (nodes_with nodes (part_of name)) ++ removal node ∷ []
 
--- ---- the index before and behind the changes
+-- ---- the index before and after the changes
 -- what comes in has a node before its record is written
 abbrev pub unwritten : ℕ → Node
 unwritten attribute = record { attribute = attribute; identity = 0; slot = 0 }
@@ -86,7 +86,7 @@ nodes_behind nodes (Set name attribute was) (Some w) =
 nodes_behind nodes (Remove name node) last = without nodes (part_of name)
 nodes_behind nodes _ _ = nodes
 
--- ---- the graph behind it
+-- ---- the graph after it
 abbrev pub with_part : Graph → Part → ℕ → Graph
 with_part g (AtVertex vertex) attribute =
     record { vertices = finite.insert g.vertices vertex attribute; edges = g.edges }

@@ -131,7 +131,7 @@ abbrev pub node_in : List (ℕ × VertexNode) → ℕ → Option Node
 node_in vertices vertex =
     option_map (λ (n : VertexNode). n.node) (value_of nat_cmp vertices vertex)
 
--- whether an edge stands behind a vertex, where there is such a vertex
+-- whether an edge stands after a vertex, where there is such a vertex
 abbrev pub stands_behind : List (ℕ × VertexNode) → ℕ → Ends → Option Bool
 stands_behind vertices vertex e =
     option_map (λ (n : VertexNode). contains edge_cmp n.ends e) (value_of nat_cmp vertices vertex)
@@ -139,22 +139,22 @@ stands_behind vertices vertex e =
 abbrev pub same_ends : Ends → Ends → Bool
 same_ends e f = eq_by_cmp edge_cmp e f
 
--- this edge behind this vertex
+-- this edge after this vertex
 abbrev pub at_vertex : ℕ → Ends → ℕ → Ends → Bool
 at_vertex vertex e v f = (vertex == v) && same_ends e f
 
--- this edge behind either of its ends
+-- this edge after either of its ends
 abbrev pub at_ends : Ends → ℕ → Ends → Bool
 at_ends e v f = touches v f && same_ends e f
 
--- vertices keep their nodes, and whether an edge stands behind one changes so
+-- vertices keep their nodes, and whether an edge stands after one changes so
 pub record Relists (change : ℕ → Ends → Bool → Bool) (old new : List (ℕ × VertexNode))
     : Type 0 where
   pub nodes : (v : ℕ) → node_in new v ≡ node_in old v
   pub behind : (v : ℕ) (f : Ends)
       → stands_behind new v f ≡ option_map (change v f) (stands_behind old v f)
 
--- an edge is put behind vertices, taken from behind them, or neither
+-- an edge is put after vertices, taken from after them, or neither
 abbrev pub Lists : (ℕ → Ends → Bool) → List (ℕ × VertexNode) → List (ℕ × VertexNode) → Type 0
 Lists places old new = Relists (λ v f b. places v f || b) old new
 
@@ -164,11 +164,11 @@ Unlists places old new = Relists (λ v f b. not (places v f) && b) old new
 abbrev pub KeepsListed : List (ℕ × VertexNode) → List (ℕ × VertexNode) → Type 0
 KeepsListed old new = Relists (λ v f b. b) old new
 
--- an edge is behind no vertex
+-- an edge is after no vertex
 abbrev pub IsUnlisted : List (ℕ × VertexNode) → Ends → Type 0
 IsUnlisted vertices e = (v : ℕ) (b : Bool) → stands_behind vertices v e ≡ Some b → b ≡ false
 
--- Each edge goes from one vertex to another, and behind each vertex stand the edges from or to it.
+-- Each edge goes from one vertex to another, and after each vertex stand the edges from or to it.
 pub record IsIndex (nodes : Nodes) (behind : ℕ → Ends → Option Bool) : Type 0 where
   pub joined : (e : Ends) → finite.contains_key nodes.edges e ≡ true → joins nodes e ≡ true
   pub listed : (v : ℕ) (e : Ends) (b : Bool) → behind v e ≡ Some b

@@ -6,7 +6,7 @@ use Rattle.std.specs.HashMap.Lent.{HashMembers}
 use Rattle.pgraph.specs.Shelf.{SetsValue}
 use Rattle.pgraph.specs.contracts.shelf.Shelf.{the_row}
 
--- The name has the last value behind r, and with no r the shelf stays as it is.
+-- The name has the last value after r, and with no r the shelf stays as it is.
 abbrev pub LendsValue :
     (K V : RattleType) (order : OrdMembers K.Denot) (hash : HashMembers K.Denot)
     → MutBor (List (K.Denot × V.Denot)) → K.Denot

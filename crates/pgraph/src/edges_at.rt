@@ -1,4 +1,4 @@
-// The edges from or to a vertex, one behind the other.
+// The edges from or to a vertex, one after the other.
 ghost use Rattle.std.specs.Prelude.{◌≡◌};
 ghost use Rattle.std.specs.Iterator.{YieldsFirst, item_count};
 ghost use Rattle.pgraph.specs.EdgesAt.{AreThere, edges_behind};
@@ -29,7 +29,7 @@ impl<'a> Model for EdgesAt<'a> {
 }
 
 impl<'a> EdgesAt<'a> {
-    // The edges that stand behind a vertex.
+    // The edges that stand after a vertex.
     pub(crate) fn new(ends: Option<Iter<'a, Ends>>, edges: &'a Shelf<Ends, Node>) -> EdgesAt<'a>
         requires { AreThere edges.now ends }
         ensures { result ≡ edges_behind edges.now ends.entry }

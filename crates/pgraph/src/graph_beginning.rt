@@ -69,7 +69,7 @@ fn vertices_of(alloc: Global, objects: &[Object]) -> Result<GraphIndex, AllocErr
     Ok(index)
 }
 
-// Adds the edges that objects hold, behind all of their vertices. They make a graph.
+// Adds the edges that objects hold, after all of their vertices. They make a graph.
 fn insert_edges(index: &mut GraphIndex, objects: &[Object]) -> Result<(), AllocError>
     requires graph { graph_fault objects.now ≡ None }
     requires vertices { index.old ≡ nodes_of objects.now [] }

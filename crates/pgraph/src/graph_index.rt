@@ -150,7 +150,7 @@ impl GraphIndex {
     }
 }
 
-// Puts an edge behind both of its ends, or behind none.
+// Puts an edge after both of its ends, or after none.
 fn list_edge(vertices: &mut Shelf<u64, VertexNode>, ends: Ends) -> Result<(), AllocError>
     requires { IsUnlisted vertices.old ends }
     ensures ok { OnOk result (Lists (at_ends ends) vertices.old vertices.new) }
@@ -165,7 +165,7 @@ fn list_edge(vertices: &mut Shelf<u64, VertexNode>, ends: Ends) -> Result<(), Al
     Ok(())
 }
 
-// Takes an edge from behind its ends.
+// Takes an edge from after its ends.
 fn unlist_edge(vertices: &mut Shelf<u64, VertexNode>, ends: Ends)
     ensures { Unlists (at_ends ends) vertices.old vertices.new }
 {
@@ -174,7 +174,7 @@ fn unlist_edge(vertices: &mut Shelf<u64, VertexNode>, ends: Ends)
     unlist_at(vertices, to, ends);
 }
 
-// Puts an edge behind a vertex.
+// Puts an edge after a vertex.
 fn list_at(vertices: &mut Shelf<u64, VertexNode>, vertex: u64, ends: Ends) -> Result<(), AllocError>
     ensures ok { OnOk result (Lists (at_vertex vertex ends) vertices.old vertices.new) }
     ensures err { OnErr result (KeepsListed vertices.old vertices.new) }
@@ -185,7 +185,7 @@ fn list_at(vertices: &mut Shelf<u64, VertexNode>, vertex: u64, ends: Ends) -> Re
     Ok(())
 }
 
-// Takes an edge from behind a vertex.
+// Takes an edge from after a vertex.
 fn unlist_at(vertices: &mut Shelf<u64, VertexNode>, vertex: u64, ends: Ends)
     ensures { Unlists (at_vertex vertex ends) vertices.old vertices.new }
 {

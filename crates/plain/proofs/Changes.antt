@@ -30,7 +30,7 @@ module _ (s : State) (h : List Entry) (i : ℕ) (e : Entry) (inside : i < length
   pub changed_here : (step s e.op).effects ≢ [] → SomeChanges s (drop i h)
   changed_here some = subst (SomeChanges s) (sym here) (inl some)
 
-  -- and so is what is changed behind it
+  -- and so is what is changed after it
   pub changed_behind : (next : State) → next ≡ (step s e.op).state → SomeChanges next (drop (i + 1) h) → SomeChanges s (drop i h)
   changed_behind next stepped some =
       subst (SomeChanges s) (sym here) (inr (subst (λ (t : State). SomeChanges t (drop (i + 1) h)) stepped some))

@@ -70,7 +70,7 @@ module _ (s : Shape) (unit : ℕ) (base : State) (clock : ℕ) (es : List Entry)
   first_at : IsLegal s unit base clock (drop i es) → ContinuesHistory s unit clock (step base e.op).reply e
   first_at h = legal_first s unit base clock e (drop (i + 1) es) (subst (IsLegal s unit base clock) left h)
 
-  -- what is left is legal where it is behind its first entry
+  -- what is left is legal where it is after its first entry
   pub legal_on : (reply : Reply) (state : State) → reply ≡ (step base e.op).reply → state ≡ (step base e.op).state
       → ContinuesHistory s unit clock reply e → (Whole : Type 0) → (IsLegal s unit base clock (drop i es) ↔ Whole)
       → IsLegal s unit state e.epoch (drop (i + 1) es) ↔ Whole

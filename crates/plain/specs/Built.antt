@@ -27,7 +27,7 @@ pub record HasParts (parts : GraphParts) (os : List Object) : Type 0 where
   pub vertices : HasNamed nat_cmp vertex_at parts.vertices os
   pub edges : HasNamed edge_cmp edge_at parts.edges os
 
--- Behind lower objects, whose entries the map has, an object adds its own, or it has a fault.
+-- After lower objects, whose entries the map has, an object adds its own, or it has a fault.
 pub record AddsNamed {K X E : Type 0} (R : K → K → Ordering) (name : Object → Option (K × X))
     (fault_of : List Object → Option ObjectFault) (old new : BTreeMap K X) (o : Object)
     (result : Result (Option ObjectFault) E) : Type 0 where

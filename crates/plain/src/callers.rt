@@ -31,7 +31,7 @@ fn front_fits(newest: Epoch, front: u64, history: &[Entry]) -> bool
     front <= history.len() && history[..front].iter().all(|entry| entry.epoch <= newest)
 }
 
-/// Whether an answer comes behind all that its caller had seen, and the caller has then seen it.
+/// Whether an answer comes after all that its caller had seen, and the caller has then seen it.
 pub fn continues_view(old: &View, new: &View, receipt: &Receipt) -> bool
     ensures { IsTrue result ↔ ContinuesView (view_of old.now) (view_of new.now) receipt.now }
 {
@@ -50,7 +50,7 @@ pub fn continues_view(old: &View, new: &View, receipt: &Receipt) -> bool
         && new.newest == receipt.entry.epoch
 }
 
-// Whether the fronts are the old ones, but for that of a unit, which is behind a place.
+// Whether the fronts are the old ones, but for that of a unit, which is after a place.
 fn are_moved(old: &[u64], new: &[u64], unit: Unit, place: u64) -> bool
     ensures { IsTrue result ↔ (new.now ≡ slice_set old.now unit (place + 1)) }
 {
@@ -65,7 +65,7 @@ fn are_moved(old: &[u64], new: &[u64], unit: Unit, place: u64) -> bool
     true
 }
 
-// Whether a front is behind a place where it is that of the unit, and else the old one.
+// Whether a front is after a place where it is that of the unit, and else the old one.
 fn is_moved(at: Unit, unit: Unit, place: u64, old: u64, new: u64) -> bool
     ensures { IsTrue result ↔ (new ≡ (if at == unit then place + 1 else old)) }
 {
@@ -182,7 +182,7 @@ fn is_order(receipts: &[Receipt]) -> bool
     true
 }
 
-// Whether a caller's receipt may stand behind all of these.
+// Whether a caller's receipt may stand after all of these.
 fn comes_behind(earlier: &[Receipt], later: &Receipt) -> bool
     ensures { IsTrue result ↔ All (λ r. IsInOrder r later.now) earlier.now }
 {

@@ -60,7 +60,7 @@ impl QueueState {
         }
     }
 
-    /// Adds an item behind the last. At `Err` nothing changed.
+    /// Adds an item after the last. At `Err` nothing changed.
     pub fn push(&mut self, item: u64) -> Result<(), AllocError>
         ensures ok { OnOk result (self.new ≡ self.old ++ item ∷ []) }
         ensures err { OnErr result (self.new ≡ self.old) }

@@ -65,7 +65,7 @@ module _ (r : RegionShown) (places : Places) (unit : IsMapUnit r places) (runnin
         ∙ of_drop s.first (take s.behind (finite.entries pairs)) number
         ∙ of_take s.behind (finite.entries pairs) (s.first + number) (omega (arith, low)))
 
-  -- the pair behind so many of the range comes next
+  -- the pair after so many of the range comes next
   pub next_pair : (number : ℕ) (run next : Run) (pair : Key × Value) → number < s.behind - s.first
       → HasPairAt r (s.first + number) (Some pair) → HasFirst r from to number run → next ≡ run ++ pair ∷ []
       → HasFirst r from to (number + 1) next
@@ -88,7 +88,7 @@ module _ (r : RegionShown) (places : Places) (unit : IsMapUnit r places) (runnin
       some (x ∷ xs) zero l e = cc
       some (x ∷ xs) (suc i) l e = some xs i (omega arith) e
 
-  -- the walk ends behind the last, or behind as many as are asked for
+  -- the walk ends after the last, or after as many as are asked for
   pub all_pairs : (most many : ℕ) (run : Run) → many ≡ min (s.behind - s.first) most → HasFirst r from to many run
       → HasRun r from to most run
   all_pairs most many run is before pairs shown =

@@ -62,7 +62,7 @@ one_slot [] e = absurd (omega arith)
 one_slot (slot ∷ []) e = (slot, refl)
 one_slot (slot ∷ other ∷ slots) e = absurd (omega arith)
 
--- ---- one change, behind records of which these are the live items
+-- ---- one change, after records of which these are the live items
 module _ (kept : List Held) (items : List Queued) (live : AreLiveItems kept items) (unit next epoch slot : ℕ) where
   pub comes_in : (serial item : ℕ) (body : List ℕ) → body ≡ item_body serial item → 1 ≤ serial → serial ≤ LAST
       → ((p : Queued) → Contains items p → p.serial < serial) → live_of next kept ≡ None

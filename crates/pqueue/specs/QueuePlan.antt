@@ -39,7 +39,7 @@ ChangesQueue serial [] (Some (Remove slot identity)) = ⊥
 ChangesQueue serial (q ∷ items) (Some (Remove slot identity)) =
     (slot ≡ q.slot) × (identity ≡ q.identity)
 
--- the items behind a change, where an item that came in is this one
+-- the items after a change, where an item that came in is this one
 abbrev pub items_behind : List Queued → Option Change → Option Queued → List Queued
 items_behind items None written = items
 items_behind items (Some (Insert body)) written = items ++ option_to_list written

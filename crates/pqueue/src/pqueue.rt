@@ -110,7 +110,7 @@ impl PQueue {
         }
     }
 
-    // An item comes in behind the others.
+    // An item comes in after the others.
     fn enq<R: Wait, G: Gate>(
         &mut self,
         rt: &R,

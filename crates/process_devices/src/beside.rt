@@ -58,7 +58,7 @@ impl<F: Write + OpenFile + Drop> Beside<F> {
         Err(io::Error::from(ErrorKind::AlreadyExists))
     }
 
-    // Writes all of these bytes behind those that it has.
+    // Writes all of these bytes after those that it has.
     pub(crate) fn write(&mut self, bytes: &[u8]) -> io::Result<()> {
         self.file.write_all(bytes)
     }

@@ -20,7 +20,7 @@ const GATHERED_BYTES: usize = 65_536;
 
 const _: () = prove!(GATHERED_BYTES == 65_536);
 
-/// A file as a sink. It stands in its place behind `finish`. What is no regular file, as a pipe, is
+/// A file as a sink. It stands in its place after `finish`. What is no regular file, as a pipe, is
 /// written in its place. A file that can't be made is a sink each of whose calls fails.
 #[derive(Drop)]
 pub struct FileSink<'a, R: Files> {

@@ -1,4 +1,4 @@
--- Images that hold the same, one behind the other.
+-- Images that hold the same, one after the other.
 use Rattle.std.proofs.Common.{◌≡◌, ◌⊎◌, ℕ, List, ◌∙◌, subst, inl, inr}
 use Rattle.std.specs.Prelude.{Option, Some, None, Result, Ok, Err, IfOk, IfSome}
 use Rattle.mont_base.specs.Layout.{Shape}

@@ -6,7 +6,7 @@
 //     scan         the fault of a slot, or the records of all units and the lost slots
 //     units        the fault of the image, or of each unit the slots of its records, its lost
 //                  slots, and the slots of its live objects
-//     sweep N      what sweeps leave that are cut behind 0 to N steps
+//     sweep N      what sweeps leave that are cut after 0 to N steps
 //     parts N      what a store for N callers is taken apart into, when it is swept
 //     pick N       what the mask N picks, where durable words are by 4000 more than current ones
 //     memory       how it is told that memory ran out

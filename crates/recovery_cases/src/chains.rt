@@ -81,7 +81,7 @@ fn first_difference(
     Ok(None)
 }
 
-// Lets a store crash at a clock, and takes the image over that is left behind its sweeps, if
+// Lets a store crash at a clock, and takes the image over that is left after its sweeps, if
 // recovery finds each time what the plain structures come to.
 fn goes_on(
     rt: &(impl Threads + Sync),
@@ -112,7 +112,7 @@ fn image_behind(
     swept(rt, alloc, draws, image, contents.as_slice())
 }
 
-// The image behind a sweep that went to its end, and before that some that were cut, if recovery
+// The image after a sweep that went to its end, and before that some that were cut, if recovery
 // finds these contents each time.
 fn swept(
     rt: &(impl Threads + Sync),
@@ -134,8 +134,8 @@ fn swept(
     behind_whole(rt, alloc, draws, &left, contents)
 }
 
-// The image behind a sweep that may be cut, if recovery finds these contents before that and no
-// more slots are lost behind it.
+// The image after a sweep that may be cut, if recovery finds these contents before that and no
+// more slots are lost after it.
 fn behind_cut(
     rt: &(impl Threads + Sync),
     alloc: Global,
@@ -156,8 +156,8 @@ fn behind_cut(
     Ok(fewer.then_some(left))
 }
 
-// The image behind a whole sweep, if recovery finds these contents before that and no slot is lost
-// behind it.
+// The image after a whole sweep, if recovery finds these contents before that and no slot is lost
+// after it.
 fn behind_whole(
     rt: &(impl Threads + Sync),
     alloc: Global,

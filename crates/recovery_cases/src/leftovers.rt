@@ -1,4 +1,4 @@
-// What is left of a store that was opened from an image and stopped in its sweep, or behind it.
+// What is left of a store that was opened from an image and stopped in its sweep, or after it.
 ghost use Rattle.std.specs.Prelude.{◌≡◌, ◌<◌, ◌≤◌, ℕ, List, false, IfOk};
 ghost use Rattle.mont_base.specs.Image.{IsPermitted};
 ghost use Rattle.recover.specs.StoppedWords.{HoldsBase};
@@ -31,7 +31,7 @@ pub fn opened(
     }
 }
 
-/// The image that a crash leaves of the store of an image behind a sweep with so many steps, as a
+/// The image that a crash leaves of the store of an image after a sweep with so many steps, as a
 /// mask picks it, and whether the sweep was cut.
 pub fn left_by(
     rt: &(impl Threads + Sync),

@@ -35,7 +35,7 @@ pub fn plain_text(alloc: Global, text: &[u8]) -> Result<Result<PlainText, ImageF
     read_words_of(alloc, words.as_slice(), !rest.is_empty())
 }
 
-// Reads the words of a text, behind which there may be a part of one.
+// Reads the words of a text, after which there may be a part of one.
 fn read_words_of(
     alloc: Global,
     words: &[u64],

@@ -1,5 +1,5 @@
-// What a plain recovery finds in the text of an image: one slot behind the other, and one unit
-// behind the other, by the plain structures.
+// What a plain recovery finds in the text of an image: one slot after the other, and one unit
+// after the other, by the plain structures.
 ghost use Rattle.std.specs.Prelude.{◌<◌};
 ghost use Rattle.mont_base.specs.Layout.{units_of};
 

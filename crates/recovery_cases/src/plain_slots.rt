@@ -40,7 +40,7 @@ pub fn slots_in(
     Ok(slots)
 }
 
-// Words, and zeros behind them.
+// Words, and zeros after them.
 fn padded(own: &[u64]) -> [u64; FIELDS] {
     let mut words = [0; FIELDS];
     for (word, own) in words.iter_mut().zip(own) {

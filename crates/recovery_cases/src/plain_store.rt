@@ -207,7 +207,7 @@ impl PlainStore {
         picked(alloc, self.layout, current, durable, mask)
     }
 
-    // The current words, behind this clock.
+    // The current words, after this clock.
     fn current_words(&self, alloc: Global, clock: Epoch) -> Result<Vec<u64>, AllocError> {
         let mut words = Vec::new(alloc);
         words.push(clock)?;
@@ -215,7 +215,7 @@ impl PlainStore {
         Ok(words)
     }
 
-    // The words that are durable at this clock, behind it.
+    // The words that are durable at this clock, after it.
     fn durable_words(&self, alloc: Global, clock: Epoch) -> Result<Vec<u64>, AllocError> {
         let mut words = Vec::new(alloc);
         words.push(clock)?;

@@ -21,7 +21,7 @@ static MASKS: &[(u64, &str)] = &[
 ];
 
 /// A line on the sweeps that were cut, one on how many slots each had still to close, and for each
-/// mask one on how many are lost in the image that it picks. A sweep behind which something isn't
+/// mask one on how many are lost in the image that it picks. A sweep after which something isn't
 /// as it was, or that doesn't go on, is told in a line of its own.
 pub fn sweep_table(
     rt: &(impl Threads + Sync),
@@ -59,7 +59,7 @@ fn push_masks(
     Ok(())
 }
 
-// How many slots are lost behind a sweep with so many steps, as a mask picks the image, and whether
+// How many slots are lost after a sweep with so many steps, as a mask picks the image, and whether
 // its contents are others than these.
 fn push_left(
     table: &mut String,
@@ -92,7 +92,7 @@ fn push_sweeps(
     requires { image.now.old ≡ false }
 {
     let mut open = String::from_str(alloc, "still to close")?;
-    write!(table, "cut behind steps")?;
+    write!(table, "cut after steps")?;
     for steps in 0..most.saturating_add(1) {
         let swept = swept_by(rt, alloc, image, steps)?;
         push_sweep(table, &mut open, steps, swept)?;

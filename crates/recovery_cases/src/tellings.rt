@@ -43,7 +43,7 @@ fn push_image(told: &mut String, image: &Image) -> Result<(), AllocError> {
     push_slots(told, image.words.as_slice(), fields)
 }
 
-// The lines of the slots that aren't all zeros, which stand behind the clock.
+// The lines of the slots that aren't all zeros, which stand after the clock.
 fn push_slots(told: &mut String, words: &[u64], fields: usize) -> Result<(), AllocError> {
     if let Some((_clock, slots)) = words.split_first() {
         for (slot, words) in slots.chunks(fields.max(1)).enumerate() {

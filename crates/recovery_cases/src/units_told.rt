@@ -103,7 +103,7 @@ fn push_unit(told: &mut String, unit: &FoundUnit) -> Result<(), AllocError> {
     writeln!(told)
 }
 
-/// What a store is taken apart into, when its sweep was cut behind three steps and then went on.
+/// What a store is taken apart into, when its sweep was cut after three steps and then went on.
 pub fn told_parts(
     rt: &(impl Threads + Sync),
     alloc: Global,

@@ -65,7 +65,7 @@ abbrev pub AreJobWants : List (List ℕ) → List Wanted → Type 0
 AreJobWants words wants =
     (BeginStop words × (wants ≡ stop_wants)) ⊎ ((¬ BeginStop words) × AreCallWants words wants)
 
--- a stop line stands behind lines of callers
+-- a stop line stands after lines of callers
 abbrev pub IsLate : Given → List (List ℕ) → Type 0
 IsLate g words = BeginStop words × (g.gate ≡ None)
 
@@ -98,7 +98,7 @@ abbrev pub NamesForm : List (List ℕ) → Option Form → Type 0
 NamesForm words None = (form : Form) → slice_get words 0 ≢ Some (form_word form)
 NamesForm words (Some form) = slice_get words 0 ≡ Some (form_word form)
 
--- what words are to be; behind `resume FILE` a second file may stand
+-- what words are to be; after `resume FILE` a second file may stand
 abbrev pub form_wants : Option Form → ℕ → List Wanted
 form_wants None count = wants.Form ∷ []
 form_wants (Some forms.Resume) count =

@@ -39,7 +39,7 @@ pub record IsMissing (g : Given) (wants : List Wanted) (words : List (List ℕ))
   pub place : slice_get wants at ≡ Some wanted
   pub before : AreWordsTo g wants words at
 
--- There is a word behind the last place, and those at the places are what is wanted.
+-- There is a word after the last place, and those at the places are what is wanted.
 pub record IsExtra (g : Given) (wants : List Wanted) (words : List (List ℕ)) (most : ℕ)
     : Type 0 where
   pub counted : length wants ≡ most

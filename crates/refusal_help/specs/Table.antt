@@ -1,4 +1,4 @@
--- The words that texts are made of, and what stands behind each: the table by which lines are judged.
+-- The words that texts are made of, and what stands after each: the table by which lines are judged.
 use Rattle.std.specs.Prelude.{ℕ, List, [], ◌∷◌, codes}
 use Rattle.mont_base.specs.declared.kinds.UnitKind.TheVariants as kinds
 use Rattle.refusal_help.specs.declared.wanted.Wanted.{Wanted}
@@ -107,7 +107,7 @@ event_args events.PersistWord = []
 event_args events.SetClock = []
 event_args events.PersistClock = []
 
--- ---- the word behind `durable`
+-- ---- the word after `durable`
 abbrev pub part_word : Part → List ℕ
 part_word parts.Unit = codes "unit"
 part_word parts.Caller = codes "caller"
@@ -125,7 +125,7 @@ reply_word replies.NoEnds = codes "noends"
 reply_word replies.Key = codes "key"
 reply_word replies.Pairs = codes "pairs"
 
--- ---- the command line; behind `resume` a second file may stand
+-- ---- the command line; after `resume` a second file may stand
 abbrev pub form_word : Form → List ℕ
 form_word forms.Run = codes "run"
 form_word forms.Crash = codes "crash"

@@ -20,7 +20,7 @@ byte_word byte =
     if is_bare byte then byte ∷ []
     else 37 ∷ hex_digit (byte / 16) ∷ hex_digit (byte % 16) ∷ []
 
--- the spellings of bytes, one behind the other
+-- the spellings of bytes, one after the other
 abbrev pub bytes_word : List ℕ → List ℕ
 bytes_word bytes = flat_map byte_word bytes
 

@@ -29,7 +29,7 @@ pub enum NumberFault {
 pub enum TextFault {
     /// The word has no bytes; the empty text is `%`.
     Empty,
-    /// Behind so many bytes of the word no byte of a text is spelled.
+    /// After so many bytes of the word no byte of a text is spelled.
     NoByte { at: u64 },
     /// It spells so many bytes, which are too many.
     Long { bytes: u64 },
@@ -40,7 +40,7 @@ pub enum TextFault {
 pub enum KindsFault {
     /// It has so many letters: none, or more than sixteen.
     Count { kinds: u64 },
-    /// The letter behind so many others is no kind's.
+    /// The letter after so many others is no kind's.
     Letter { at: u64 },
 }
 
@@ -49,7 +49,7 @@ pub enum KindsFault {
 pub enum MaskFault {
     /// It has so many bytes, and not sixteen.
     Count { digits: u64 },
-    /// The byte behind so many others is no digit in base 16.
+    /// The byte after so many others is no digit in base 16.
     Digit { at: u64 },
 }
 
@@ -112,10 +112,10 @@ pub enum Cause {
         at: u64,
         wanted: Wanted,
     },
-    /// There are words behind the last that may stand, of which there are so many.
+    /// There are words after the last that may stand, of which there are so many.
     Extra {
         most: u64,
     },
-    /// A stop line stands behind a line of a caller.
+    /// A stop line stands after a line of a caller.
     LateStop,
 }

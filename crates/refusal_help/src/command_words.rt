@@ -9,7 +9,7 @@ use crate::wanted::Wanted;
 use crate::words::check_words;
 use std::alloc::{AllocError, Global};
 
-/// The first thing that is wrong with the words behind the program's name; none where they are of
+/// The first thing that is wrong with the words after the program's name; none where they are of
 /// a form.
 pub fn command_cause(alloc: Global, words: &[&[u8]]) -> Result<Option<Cause>, AllocError>
     ensures { IfOk result (λ cause. MatchOption cause
@@ -31,7 +31,7 @@ fn wants_of(alloc: Global, words: &[&[u8]]) -> Result<Vec<Wanted>, AllocError>
     form_wants(alloc, form_of(words), words.len())
 }
 
-// What so many words are to be, by the form that the first of them names. Behind `resume FILE`
+// What so many words are to be, by the form that the first of them names. After `resume FILE`
 // another file may stand.
 fn form_wants(alloc: Global, form: Option<Form>, count: usize) -> Result<Vec<Wanted>, AllocError>
     ensures { IfOk result (λ wants. wants.items ≡ form_wants form count) }

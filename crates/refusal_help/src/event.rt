@@ -72,7 +72,7 @@ impl Event {
         }
     }
 
-    /// What the words behind it are to be.
+    /// What the words after it are to be.
     pub fn args(self) -> &'static [Wanted]
         ensures { result.now ≡ event_args self }
     {

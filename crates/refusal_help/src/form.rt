@@ -54,7 +54,7 @@ impl Form {
         }
     }
 
-    /// What the words behind it are to be.
+    /// What the words after it are to be.
     pub fn args(self) -> &'static [Wanted]
         ensures { result.now ≡ form_args self }
     {

@@ -6,7 +6,7 @@ use mont_base::{Layout, UnitKind};
 /// What the lines before a line gave.
 #[derive(Clone, Copy, Debug, PartialEq, Eq)]
 pub struct Given {
-    /// The units and their slots, behind a header.
+    /// The units and their slots, after a header.
     pub layout: Option<Layout>,
     /// How many callers there are.
     pub callers: u64,

@@ -54,7 +54,7 @@ fn header_words_cause(words: &[&[u8]]) -> Option<Cause>
     }
 }
 
-/// The first thing that is wrong with a later line of a job, behind lines that gave this; none
+/// The first thing that is wrong with a later line of a job, after lines that gave this; none
 /// where each of its words is what its place wants, and a stop line may still come if it is one.
 pub fn line_cause(alloc: Global, line: &[u8], given: &Given) -> Result<Option<Cause>, AllocError>
     ensures { IfOk result (λ cause. MatchOption cause (IsJobLine given.now line.now)
@@ -83,7 +83,7 @@ fn words_cause(alloc: Global, words: &[&[u8]], given: &Given) -> Result<Option<C
     }
 }
 
-// Whether a stop line stands behind lines of callers.
+// Whether a stop line stands after lines of callers.
 fn is_late(words: &[&[u8]], given: &Given) -> bool
     ensures { IsTrue result ↔ IsLate given.now (map (λ word. word.now) words.now) }
 {

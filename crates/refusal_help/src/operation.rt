@@ -85,7 +85,7 @@ impl Operation {
         }
     }
 
-    /// What the words behind it are to be.
+    /// What the words after it are to be.
     pub fn args(self) -> &'static [Wanted]
         ensures { result.now ≡ args_of self }
     {

@@ -3,7 +3,7 @@ ghost use Rattle.std.specs.Prelude.{◌≡◌, ◌≢◌, MatchOption};
 
 use crate::wanted::{Figure, Wanted};
 
-/// The word behind `durable`.
+/// The word after `durable`.
 #[derive(Clone, Copy, Debug, PartialEq, Eq)]
 pub enum Part {
     Unit,
@@ -27,7 +27,7 @@ impl Part {
         }
     }
 
-    /// What the words behind it are to be.
+    /// What the words after it are to be.
     pub fn args(self) -> &'static [Wanted]
         ensures { result.now ≡ part_args self }
     {

@@ -5,7 +5,7 @@ use std::fmt;
 pub const QUOTED_BYTES: usize = 40;
 
 /// Bytes between quotes. A byte that can't be seen is `\x` and two digits in base 16, and two dots
-/// stand for those behind the first forty.
+/// stand for those after the first forty.
 #[derive(Clone, Copy)]
 pub struct Quoted<'a>(pub &'a [u8]);
 

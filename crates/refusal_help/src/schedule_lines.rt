@@ -81,7 +81,7 @@ fn wants_of(alloc: Global, words: &[&[u8]]) -> Result<Vec<Wanted>, AllocError> {
     Ok(wants)
 }
 
-// Adds what an operation, behind an event's unit and caller, and its reply are to be.
+// Adds what an operation, after an event's unit and caller, and its reply are to be.
 fn add_answer(wants: &mut Vec<Wanted>, words: &[&[u8]]) -> Result<(), AllocError> {
     let Some(operation) = operation_at(words, 3) else {
         return Ok(());

@@ -28,7 +28,7 @@ impl fmt::Display for Cause {
                 let at = at.saturating_add(1);
                 write!(f, "word {at} is missing: {}", noun(wanted))
             }
-            Cause::Extra { most } => write!(f, "there is a word behind word {most}, the last"),
+            Cause::Extra { most } => write!(f, "there is a word after word {most}, the last"),
             Cause::LateStop => write!(f, "a stop line stands before all lines of callers"),
         }
     }

@@ -67,7 +67,7 @@ fn layout_of(kinds: &[u8], slots: &[u8]) -> Option<Layout> {
     Layout::new(kinds, number_of(slots).ok()?).ok()
 }
 
-// The least gate of a stop line behind a line with these words.
+// The least gate of a stop line after a line with these words.
 fn gate_behind(words: &[&[u8]]) -> Option<u64> {
     match words {
         [stop, gate, _] if *stop == Fixed::Stop.word() => {

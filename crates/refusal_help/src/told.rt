@@ -29,7 +29,7 @@ pub fn schedule_sentence(alloc: Global, text: &[u8], number: u64) -> Result<Stri
     }
 }
 
-/// The sentence on the words behind the program's name: the first of them that is wrong, and what
+/// The sentence on the words after the program's name: the first of them that is wrong, and what
 /// may stand there. It has no line feed, and is empty where the words are of a form.
 pub fn words_sentence(alloc: Global, words: &[String]) -> Result<String, AllocError> {
     let mut spelled = Vec::new(alloc);

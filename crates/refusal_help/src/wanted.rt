@@ -49,7 +49,7 @@ pub enum Figure {
     Attempts,
     /// How many steps a gate passes.
     Steps,
-    /// A gate: a caller's, or the advancer's behind them.
+    /// A gate: a caller's, or the advancer's after them.
     Gate,
     /// A caller.
     Caller,

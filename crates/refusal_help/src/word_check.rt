@@ -20,7 +20,7 @@ use crate::text_word::check_text;
 use crate::wanted::{Figure, Fixed, Wanted};
 use mont_base::{LEAST_SLOTS, MOST_PAIRS, MOST_SLOTS, UnitKind};
 
-/// Whether a word is what its place wants, behind the lines that gave this.
+/// Whether a word is what its place wants, after the lines that gave this.
 pub fn check_word(word: &[u8], wanted: Wanted, given: &Given) -> Result<(), WordFault>
     ensures { MatchResult result (λ _. IsWord given.now wanted word.now)
         (λ fault. IsFault given.now wanted word.now fault) }

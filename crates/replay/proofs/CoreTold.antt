@@ -10,7 +10,7 @@ use Rattle.job_text.specs.Lines.{spaced, line_of}
 use Rattle.job_text.proofs.RunWords.{spaced_behind}
 use Rattle.replay.specs.Replays.{unit_words, core_words}
 
--- the words of a unit, behind a space each
+-- the words of a unit, after a space each
 pub shown : (was : List ℕ) (a b : ℕ) (s t : List ℕ) → a ≡ b → s ≡ t
     → was ++ (32 ∷ (decimal a ++ 32 ∷ s)) ≡ was ++ ((32 ∷ decimal b) ++ ((32 ∷ t) ++ []))
 shown was a b s t e f = (λ i. was ++ (32 ∷ (decimal (e i) ++ 32 ∷ f i))) ∙ ap (λ (bs : List ℕ). was ++ (32 ∷ (decimal b ++ 32 ∷ bs)))

@@ -66,7 +66,7 @@ text_long (w ∷ ws) short =
 pub lines_long : (s : Schedule) → length (schedule_lines s) ≡ 1 + length s.events
 lines_long s = omega (arith, length-map (moves s) move_words, moves_long s.events s.runs)
 
--- the line behind some of a schedule's lines is short, and not one too many
+-- the line after some of a schedule's lines is short, and not one too many
 module _ (k : Schedule) (is : IsSchedule k) (own : List (List ℕ)) (line : List ℕ) (behind : List (List ℕ))
     (lines : map spaced (schedule_lines k) ≡ own ++ line ∷ behind) where
   pub line_early : length own < SCHEDULE_LINES

@@ -1,4 +1,4 @@
--- The newest record of an identity, where one more stands behind others.
+-- The newest record of an identity, where one more stands after others.
 use Rattle.std.proofs.Common.{◌≡◌, ℕ, ◌+◌, ◌<◌, Bool, true, false, List, [], ◌∷◌, ◌++◌, length, take, get_or, refl, sym, ap, ◌∙◌}
 use Rattle.std.specs.Prelude.{Some, None, ◌==◌, if◌then◌else◌}
 use Rattle.std.proofs.lemmas.List.{take_more, append_assoc}

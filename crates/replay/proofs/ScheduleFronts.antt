@@ -171,7 +171,7 @@ module _ (text : List ℕ) (s : Schedule) (rest : List ℕ) (f : IsSoFar text s 
       one_line : (t l a : List ℕ) → t ++ (l ++ 10 ∷ a) ≡ (t ++ ((l ++ 10 ∷ []) ++ [])) ++ a
       one_line t l a = simp (append-nil, append_assoc)
 
--- with nothing behind it the text is the schedule's
+-- with nothing after it the text is the schedule's
 pub whole : (text : List ℕ) (s : Schedule) → IsSoFar text s [] → IsSchedule s × (text ≡ schedule_text s) × (length text < SCHEDULE_BYTES)
 whole text s f =
     let joined : text ≡ schedule_text s = f.joined ∙ append-nil (schedule_text s) in (

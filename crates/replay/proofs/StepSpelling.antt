@@ -1,4 +1,4 @@
--- How events are spelled: by a name, and what stands behind it.
+-- How events are spelled: by a name, and what stands after it.
 use Rattle.std.proofs.Common.{◌≡◌, ◌≢◌, ℕ, ◌+◌, ◌*◌, ◌==◌, List, [], ◌∷◌, length, map, All, codes, decimal, slice_index_or, cond, sym, ap, ◌∙◌, refl, arith}
 use Rattle.std.proofs.lemmas.List.Elements.{All-nil}
 use Rattle.mont_base.specs.declared.operation.Op.{Op}
@@ -126,7 +126,7 @@ named_back names.PersistClock = refl
 pub step_once : (m n : StepName) → step_word m ≡ step_word n → m ≡ n
 step_once m n same = sym (named_back m) ∙ ap (λ w. named (word_number w)) same ∙ named_back n
 
--- ---- words behind a name spell the events of that name
+-- ---- words after a name spell the events of that name
 -- such words spell no event of a name
 abbrev pub NoneNamed : StepName → List (List ℕ) → Type 0
 NoneNamed n args = (e : Event) (run : Run) → IsNamed e → IsRunBeside e run → name_of e ≡ n → args ≢ args_of e run

@@ -35,7 +35,7 @@ title_seen s n is =
     All-cons IsWord (codes "montage-schedule") (codes "1" ∷ title_tail s n) (seen_tested (codes "montage-schedule") refl)
     (All-cons IsWord (codes "1") (title_tail s n) (seen_tested (codes "1") refl) (tail_seen s n is))
 
--- the words behind the first two
+-- the words after the first two
 pub title_tail_words : (line rest : List ℕ) (s : Shape) (n : ℕ) → line ≡ codes "montage-schedule 1 " ++ rest → IsTitle s n
     → line ≡ spaced (title_words s n) → words_of rest ≡ title_tail s n
 title_tail_words line rest s n front is same =

@@ -253,7 +253,7 @@ module _ (c : Core) (sound : IsSound (nothing c.layout) c) (u k : ℕ) (o : Op) 
       }
 
 -- ---- an operation carried out on the state of a unit
--- what is told of it: the reply, and the states behind it
+-- what is told of it: the reply, and the states after it
 abbrev pub IsTold : List State → ℕ → Op → Option Reply → List State → Type 0
 IsTold xs u o told ys =
     MatchOption told (slice_get xs u ≡ None)

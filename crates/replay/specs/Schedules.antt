@@ -39,7 +39,7 @@ title_words s callers =
     codes "montage-schedule" ∷ codes "1"
     ∷ letters_of s.kinds ∷ decimal s.slots ∷ decimal callers ∷ []
 
--- the words behind the first two
+-- the words after the first two
 abbrev pub title_tail : Shape → ℕ → List (List ℕ)
 title_tail s callers = letters_of s.kinds ∷ decimal s.slots ∷ decimal callers ∷ []
 

@@ -21,7 +21,7 @@ step_word names.PersistWord = codes "persistword"
 step_word names.SetClock = codes "setclock"
 step_word names.PersistClock = codes "persistclock"
 
--- behind the word stand numbers alone, and no answer and no part
+-- after the word stand numbers alone, and no answer and no part
 abbrev pub IsNumbered : StepName → Type 0
 IsNumbered names.Leave = ⊥
 IsNumbered names.Read = ⊥

@@ -23,7 +23,7 @@ pub fn write_core(text: &mut String, number: usize, core: &Core) -> Result<(), A
     Ok(())
 }
 
-// The announcement and the stage of each unit, behind a space each.
+// The announcement and the stage of each unit, after a space each.
 fn write_shown(
     text: &mut String,
     told: &Sequence<u64>,

@@ -164,7 +164,7 @@ fn answered(words: &[&[u8]]) -> Option<(u64, u64, Op, Reply, PairList)>
     Some((unit, caller, op, reply, run))
 }
 
-// The number that the first word spells, and the words behind it.
+// The number that the first word spells, and the words after it.
 fn first_number<'a, 'b>(words: &'a [&'b [u8]]) -> Option<(u64, &'a [&'b [u8]])>
     ensures { MatchOption result
         ((n : ℕ) (rest : List (List ℕ)) → IsNumber n

@@ -16,7 +16,7 @@ use mont_base::{Entry, Epoch, Held, Kind, Op, Receipt, Reply, Sequence, Unit};
 use std::alloc::{AllocError, Global};
 
 /// The unit leaves its epoch: what it has written becomes records, what that supersedes retires,
-/// and the caller has its answer. The newest records are those behind it.
+/// and the caller has its answer. The newest records are those after it.
 pub fn leave(
     alloc: Global,
     core: &mut Core,
@@ -118,7 +118,7 @@ fn retire_all(
     Ok(())
 }
 
-// Adds the version before a record, and an anti-payload itself behind its victim.
+// Adds the version before a record, and an anti-payload itself after its victim.
 fn retire(
     retired: &mut Sequence<Retired>,
     victim: Option<Held>,
@@ -143,7 +143,7 @@ fn retire(
     Ok(())
 }
 
-// Keeps the newest among the records and those that are written behind them.
+// Keeps the newest among the records and those that are written after them.
 fn keep_all(newest: &mut NewestKept, written: &[Held]) -> Result<(), AllocError>
     ensures { OnOk result ((records : List Held)
         → HaveSameNewest (values newest.old.records) records
@@ -155,7 +155,7 @@ fn keep_all(newest: &mut NewestKept, written: &[Held]) -> Result<(), AllocError>
     Ok(())
 }
 
-// Adds records behind others.
+// Adds records after others.
 fn push_all(records: &mut Sequence<Held>, written: &[Held]) -> Result<(), AllocError>
     ensures { OnOk result (records.new ≡ records.old ++ written.now) }
 {

@@ -34,7 +34,7 @@ impl NewestKept {
         Ok(newest)
     }
 
-    /// Keeps a record that stands behind all others, unless one of its identity is known that isn't
+    /// Keeps a record that stands after all others, unless one of its identity is known that isn't
     /// older.
     pub fn keep(&mut self, held: &Held) -> Result<(), AllocError>
         ensures { OnOk result ((q : ℕ) → newest_of q (tree.values self.new.records)

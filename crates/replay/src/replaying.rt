@@ -38,7 +38,7 @@ pub fn replay(alloc: Global, schedule: &Schedule) -> Result<Vec<u8>, ReplayRefus
     Ok(text.into_bytes())
 }
 
-// Makes all events, and writes a line behind each.
+// Makes all events, and writes a line after each.
 fn replay_events(
     alloc: Global,
     schedule: &Schedule,

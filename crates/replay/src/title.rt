@@ -17,7 +17,7 @@ pub fn read_title(line: &[u8]) -> Option<(Layout, u64)>
     title_in(words.as_slice())
 }
 
-// What the words behind the first two name.
+// What the words after the first two name.
 fn title_in(words: &[&[u8]]) -> Option<(Layout, u64)>
     ensures { MatchOption result
         ((s : Shape) (n : ℕ) → IsTitle s n → map (λ word. word.now) words.now ≢ title_tail s n)

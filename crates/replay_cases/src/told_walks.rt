@@ -7,7 +7,7 @@ use mont_base::Epoch;
 use plain::Contents;
 use std::alloc::{AllocError, Global};
 
-/// Writes the line behind an event.
+/// Writes the line after an event.
 pub fn tell_core(text: &mut String, number: u64, core: &Core) -> Result<(), AllocError> {
     let (now, durable) = (clock(core), durable_clock(core));
     write!(text, "{number} {now} {durable}")?;
@@ -24,7 +24,7 @@ pub fn tell_core(text: &mut String, number: u64, core: &Core) -> Result<(), Allo
     text.push('\n')
 }
 
-/// Writes what stands behind all lines.
+/// Writes what stands after all lines.
 pub fn tell_memories(alloc: Global, text: &mut String, core: &Core) -> Result<(), AllocError> {
     text.push_str("durable\n")?;
     tell_cut(alloc, text, core, durable_clock(core))?;
@@ -33,7 +33,7 @@ pub fn tell_memories(alloc: Global, text: &mut String, core: &Core) -> Result<()
     text.push_str("end\n")
 }
 
-// The state of each unit behind the entries up to two epochs before a clock.
+// The state of each unit after the entries up to two epochs before a clock.
 fn tell_cut(alloc: Global, text: &mut String, core: &Core, clock: Epoch) -> Result<(), AllocError> {
     let mut states = Contents::empty(alloc, core.layout)?.units;
     for (unit, part) in core.units.as_slice().iter().enumerate() {

@@ -248,7 +248,7 @@ impl Walk {
         }
     }
 
-    // Plans the stores of an operation that is drawn, and the leave behind them; the first of them.
+    // Plans the stores of an operation that is drawn, and the leave after them; the first of them.
     fn write(
         &mut self,
         alloc: Global,

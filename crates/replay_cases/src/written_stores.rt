@@ -7,7 +7,7 @@ use payload::{
 };
 use std::alloc::{AllocError, Global};
 
-/// Adds the stores to a plan, one behind the other. It answers whether each effect has a record and
+/// Adds the stores to a plan, one after the other. It answers whether each effect has a record and
 /// a slot for it.
 pub fn push_stores(
     alloc: Global,

@@ -42,14 +42,14 @@ pub row_holds : (Holds : ℕ → Type 0) (o : Option ℕ) → IsFirst Holds o �
 row_holds Holds None all none = all
 row_holds Holds (Some n) is none = absurd (none n refl)
 
--- what is found in a row behind rows that hold is the lowest
+-- what is found in a row after rows that hold is the lowest
 pub found_in_row : (Holds : ℕ → ℕ → Type 0) (i n : ℕ) (o : Option ℕ) → ((m : ℕ) → m < i → (k : ℕ) → Holds m k)
     → IsFirst (Holds i) o → o ≡ Some n → IsLowestPair Holds i n
 found_in_row Holds i n o below is found =
     let lowest : IsLowest (Holds i) n = subst (IsFirst (Holds i)) found is in
     record { lower = λ m k low. below m low k; before = lowest.before; fails = lowest.fails }
 
--- what holds below a bound, and behind it for want of anything there, holds everywhere
+-- what holds below a bound, and after it for want of anything there, holds everywhere
 pub all_from_below : (Holds : ℕ → ℕ → Type 0) (bound : ℕ) → ((m : ℕ) → m < bound → (n : ℕ) → Holds m n)
     → ((m n : ℕ) → bound ≤ m → Holds m n) → AllHold Holds
 all_from_below Holds bound below behind m n = ⊎_elim

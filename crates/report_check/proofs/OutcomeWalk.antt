@@ -64,7 +64,7 @@ module _ (r : Report) (caller : ℕ) (before : List Outcome) (ms : List (List Bo
 
 -- ---- the outcomes of a caller that is there
 module _ (r : Report) (caller : ℕ) (os : List Outcome) (known : slice_get r.outcomes caller ≡ Some os) where
-  -- before the first outcome, and behind the last
+  -- before the first outcome, and after the last
   pub marks_begin : (ms : List (List Bool)) → AreMarks r.histories (λ u p. times_named (take caller r.outcomes) u p) ms
       → AreMarks r.histories (times_before r caller []) ms
   marks_begin ms are =
@@ -127,7 +127,7 @@ asks_nothing r caller before Cut not = (tt, tt)
 pub no_outcomes : (r : Report) (caller : ℕ) → slice_get r.outcomes caller ≡ None → (n : ℕ) → OutcomeHolds r caller n
 no_outcomes r caller none n qs q e f = absurd (let t : ◌≡◌ {A = Option (List Outcome)} None (Some qs) = sym none ∙ e in cc)
 
--- ---- an outcome of a caller, behind what was shown
+-- ---- an outcome of a caller, after what was shown
 module _ (r : Report) (caller : ℕ) (os : List Outcome) (known : slice_get r.outcomes caller ≡ Some os) (i : ℕ) (inside : i < length os)
     (n : ShownNames) (shown : HaveShown r.histories (take i os) n) (ms : List (List Bool))
     (are : AreMarks r.histories (times_before r caller (take i os)) ms) where

@@ -20,7 +20,7 @@ use Rattle.report_check.specs.Lowest.{IsFirst}
 use Rattle.report_check.specs.NextEntry.{MayFollow}
 use Rattle.report_check.proofs.LongerHistories.{IsNewest, newest_none, newest_more, legal_more, legal_next, runs_longer, the_last}
 
--- what a walk knows behind these entries: the state, the newest epoch, and the runs that are left
+-- what a walk knows after these entries: the state, the newest epoch, and the runs that are left
 pub record HasWalked (r : Report) (unit : ℕ) (base : State) (beside : List Run) (xs : List Entry)
     (now : State) (newest : ℕ) (left : List Run) : Type 0 where
   pub legal : IsLegal r.layout unit base r.base_clock xs
@@ -99,7 +99,7 @@ module _ (r : Report) (unit : ℕ) (base : State) (beside : List Run) where
 
 -- ---- a place
 module _ (r : Report) (unit : ℕ) (base : State) (beside : List Run) (h : List Entry) where
-  -- behind the last entry nothing is added
+  -- after the last entry nothing is added
   pub all_fronts : (i : ℕ) → length h ≤ i → HoldTogether r unit base beside (take i h)
       → ((place : ℕ) → place < i → FrontHolds r unit base beside h place) → (place : ℕ) → FrontHolds r unit base beside h place
   all_fronts i past whole below place = ⊎_elim

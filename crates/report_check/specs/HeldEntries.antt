@@ -10,7 +10,7 @@ abbrev pub BeginWith : List Run → List Run → Type 0
 BeginWith runs first = (behind : List Run) × (runs ≡ first ++ behind)
 
 -- The first entries of a unit's history hold together: they are legal from the state and the clock
--- with which the unit began, the runs of their ranges are those that the states behind the entries
+-- with which the unit began, the runs of their ranges are those that the states after the entries
 -- before give, and the report has their callers.
 pub record HoldTogether (r : Report) (unit : ℕ) (base : State) (beside : List Run)
     (first : List Entry) : Type 0 where

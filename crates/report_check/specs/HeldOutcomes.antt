@@ -16,7 +16,7 @@ pub record NamesInOrder (histories : List (List Entry)) (earlier later : Outcome
   pub places :
       (unit m n : ℕ) → place_of earlier ≡ Some (unit, m) → place_of later ≡ Some (unit, n) → m < n
 
--- Behind these outcomes of its caller, an outcome names the entry that answers some operation as
+-- After these outcomes of its caller, an outcome names the entry that answers some operation as
 -- the caller's next call.
 pub record NamesRightly (r : Report) (caller : ℕ) (before : List Outcome) (unit place : ℕ)
     : Type 0 where

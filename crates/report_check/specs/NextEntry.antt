@@ -6,7 +6,7 @@ use Rattle.mont_base.specs.declared.operation.Entry.{Entry}
 use Rattle.mont_base.specs.State.{Run, unit_of_op}
 use Rattle.job_text.specs.Report.{Report}
 
--- but for its reply and its run: behind entries of which this is the newest epoch
+-- but for its reply and its run: after entries of which this is the newest epoch
 pub record MayFollow (r : Report) (unit newest : ℕ) (e : Entry) : Type 0 where
   pub of_unit : unit_of_op r.layout e.op ≡ Some unit
   pub later : newest ≤ e.epoch

@@ -28,7 +28,7 @@ pub record HaveShown (histories : List (List Entry)) (before : List Outcome) (n 
       (unit front place : ℕ) → slice_get n.fronts unit ≡ Some front
       → (front ≤ place) ↔ AreBefore unit place before
 
--- this is the entry at a place, the caller's next call, and it stands behind all that was shown
+-- this is the entry at a place, the caller's next call, and it stands after all that was shown
 pub record IsNextEntry (r : Report) (caller : ℕ) (n : ShownNames) (unit place : ℕ) (e : Entry)
     : Type 0 where
   pub there : IsEntryAt r.histories unit place e

@@ -9,7 +9,7 @@ use job_text::Run;
 use mont_base::{Op, PairList, Text};
 use plain::UnitState;
 
-/// What is left of the runs behind that of the operation, if it has one; `None` where they don't
+/// What is left of the runs after that of the operation, if it has one; `None` where they don't
 /// begin with it.
 pub fn runs_behind<'a>(state: &UnitState, op: &Op, left: &'a [Run]) -> Option<&'a [Run]>
     requires { IsShortOp op.now }

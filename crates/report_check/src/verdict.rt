@@ -10,7 +10,7 @@ pub enum Verdict {
     /// The layouts differ.
     Layout,
     /// The unit's history fails first at this entry: it isn't legal with it, the run beside the
-    /// entry isn't the one that the state behind the entries before gives, or the report has no
+    /// entry isn't the one that the state after the entries before gives, or the report has no
     /// such caller.
     History { unit: Unit, place: u64 },
     /// This outcome, counted from 0, names no entry, one that isn't the next of its caller, or one

@@ -19,7 +19,7 @@ abbrev pub Held : ℕ → List Column → Type 0
 Held q [] = ⊥
 Held q (c ∷ cs) = (holds c q ≡ true) ⊎ Held q cs
 
--- numbers that rise, the first not below this one; what holds behind the last
+-- numbers that rise, the first not below this one; what holds after the last
 abbrev pub Up : (ℕ → Type 0) → ℕ → List ℕ → Type 0
 Up End low [] = End low
 Up End low (e ∷ es) = (low ≤ e) × Up End (suc e) es

@@ -26,7 +26,7 @@ pub stack_some : (x y : ℕ) (labels : List Drawn) → 0 < length labels → sta
 stack_some x y [] some = absurd (omega arith)
 stack_some x y (label ∷ labels) some = refl
 
--- three texts, one behind the other
+-- three texts, one after the other
 pub three_written : (start one two three first second third : List ℕ) → first ≡ start ++ one → second ≡ first ++ two → third
     ≡ second ++ three → third ≡ start ++ (one ++ two ++ three)
 three_written start one two three first second third a b c =

@@ -38,7 +38,7 @@ without_unit false words = words
 abbrev pub asked_label : Op → List ℕ
 asked_label op = spaced (without_unit (names_unit op) (op_words op))
 
--- a reply behind an arrow, where it says something; of a range's run how many pairs it has
+-- a reply after an arrow, where it says something; of a range's run how many pairs it has
 abbrev pub answered_label : Reply → List ℕ
 answered_label replies.Nothing = []
 answered_label (replies.Was value) = codes " -> " ++ decimal value

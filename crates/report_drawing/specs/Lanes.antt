@@ -69,7 +69,7 @@ caller_lane r os =
     outcome_shown r.image_clock (reached r.base_clock r.histories (take (p.0 + 1) os)) p.1)
     (enumerate_from 0 os)
 
--- ---- the lanes of all units, and behind them those of all callers
+-- ---- the lanes of all units, and after them those of all callers
 abbrev pub unit_lanes : Report → List (List Shown)
 unit_lanes r = map (unit_lane r.image_clock) r.histories
 

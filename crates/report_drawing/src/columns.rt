@@ -21,7 +21,7 @@ const MOST_COLUMNS: usize = 25;
 pub struct Column {
     pub first: Epoch,
     pub last: Epoch,
-    /// Whether it stands behind the cut.
+    /// Whether it stands after the cut.
     pub lost: bool,
 }
 
@@ -41,7 +41,7 @@ impl Column {
     }
 }
 
-/// The columns of a report with these lanes: those of the epochs that are kept, and behind them
+/// The columns of a report with these lanes: those of the epochs that are kept, and after them
 /// those of the others.
 pub fn columns_of(alloc: Global, report: &Report, lanes: &[Lane]) -> Result<Vec<Column>, AllocError>
     ensures { IfOk result (λ columns. AreColumns report.now.image_clock

@@ -25,7 +25,7 @@ pub struct Lane {
     pub cells: Vec<Cell>,
 }
 
-/// The lanes of all units, and behind them those of all callers.
+/// The lanes of all units, and after them those of all callers.
 pub fn lanes_of(alloc: Global, report: &Report) -> Result<Vec<Lane>, AllocError>
     ensures { IfOk result (λ lanes. map cells_of lanes.items ≡ lanes_of report.now) }
 {

@@ -1,5 +1,5 @@
 //! Draws a report: what is in a picture of it, as SVG or as lines for a terminal. Epochs stand from
-//! left to right, the cut is a wall, and what is lost behind it is grey.
+//! left to right, the cut is a wall, and what is lost after it is grey.
 #![tactic(auto)]
 
 mod columns;

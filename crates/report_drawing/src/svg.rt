@@ -117,7 +117,7 @@ fn push_head(svg: &mut String, width: u64, height: u64) -> Result<(), AllocError
     )
 }
 
-// The wall before the first column that is lost, and grey ground behind it.
+// The wall before the first column that is lost, and grey ground after it.
 fn push_wall(svg: &mut String, start: u64, right: u64, below: u64) -> Result<(), AllocError> {
     let wall = start.saturating_sub(BESIDE);
     let behind = right.saturating_sub(wall);

@@ -53,7 +53,7 @@ fn layout_of(alloc: Global, picture: &Picture) -> Result<Layout, AllocError> {
     })
 }
 
-// Where the longest name ends, with a space behind it.
+// Where the longest name ends, with a space after it.
 fn names_end(picture: &Picture) -> usize {
     let mut longest = picture.heads.name.len();
     for strip in picture.strips.as_slice() {

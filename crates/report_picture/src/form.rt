@@ -30,7 +30,7 @@ pub(crate) fn form_of(words: &[String]) -> Result<Form, Trouble>
     }
 }
 
-/// The words behind the program's name.
+/// The words after the program's name.
 pub(crate) fn words_of(alloc: Global, all: io::Result<Args>) -> Result<Vec<String>, Trouble> {
     match all {
         Ok(args) => Ok(behind_first(alloc, args)?),
@@ -38,7 +38,7 @@ pub(crate) fn words_of(alloc: Global, all: io::Result<Args>) -> Result<Vec<Strin
     }
 }
 
-// The words behind the first.
+// The words after the first.
 fn behind_first(alloc: Global, args: Args) -> Result<Vec<String>, AllocError>
     ensures { IfOk result (λ words. words.items ≡ drop 1 (into_iter_items args)) }
 {

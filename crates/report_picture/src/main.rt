@@ -1,6 +1,6 @@
 //! Draws a report: it is read on standard input, and a picture of it is written as SVG, or with
 //! the word `text` as lines for a terminal. Epochs stand from left to right, the cut is a wall, and
-//! what is lost behind it is grey.
+//! what is lost after it is grey.
 #![tactic(auto)]
 
 mod form;

@@ -1,4 +1,4 @@
--- The operations that survive in a chain of rounds, and a chain with a further round behind it.
+-- The operations that survive in a chain of rounds, and a chain with a further round after it.
 use Rattle.std.proofs.Common.{◌≡◌, ℕ, zero, suc, ◌<◌, ◌≤◌, List, [], ◌∷◌, ◌++◌, Bool, true, false, ap, sym, ◌∙◌, subst, refl, arith}
 use Rattle.std.specs.Prelude.{length, slice_get, nat_le, Some, All, AllPairs}
 use Rattle.std.proofs.lemmas.Bool.Decides.{nat_tests}
@@ -19,7 +19,7 @@ abbrev IsBefore : Entry → Entry → Type 0
 IsBefore d e = d.epoch ≤ e.epoch
 
 -- ---- replies
--- those of two histories, one behind the other
+-- those of two histories, one after the other
 replies_behind : (s : State) (g h : List Entry) → RepliesFollow s g → RepliesFollow (state_after s g) h → RepliesFollow s (g ++ h)
 replies_behind s [] h a b = b
 replies_behind s (e ∷ g) h a b = (a.0, replies_behind (step s e.op).state g h a.1 b)
@@ -70,7 +70,7 @@ module _ (x : ℕ) where
   }
 
 -- ---- epochs
--- no entry of the front is of a later epoch than any behind it
+-- no entry of the front is of a later epoch than any after it
 rising_behind : (x : ℕ) (g h : List Entry) → AllPairs IsBefore g → AllPairs IsBefore h → All (λ (e : Entry). e.epoch ≤ x) g
     → All (λ (e : Entry). x ≤ e.epoch) h → AllPairs IsBefore (g ++ h)
 rising_behind x [] h a b low high = b
@@ -81,7 +81,7 @@ rising_behind x (e ∷ g) h a b low high =
     (All-weaker (λ (d : Entry). x ≤ d.epoch) (IsBefore e) (λ d above. omega arith) h high))
     (rising_behind x g h (pairs_tail IsBefore e g a) b (All-tail (λ (d : Entry). d.epoch ≤ x) e g low) high)
 
--- a legal history, and behind it one that is legal from where it leads
+-- a legal history, and after it one that is legal from where it leads
 pub legal_behind : (s : Shape) (unit : ℕ) (base : State) (clock x later : ℕ) (g h : List Entry) → clock ≤ later → x ≤ later
     → IsLegal s unit base clock g → All (λ (e : Entry). e.epoch ≤ x) g → IsLegal s unit (state_after base g) later h
     → IsLegal s unit base clock (g ++ h)

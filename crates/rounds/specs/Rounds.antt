@@ -54,7 +54,7 @@ abbrev pub IsChain : Shape → List Round → Type 0
 IsChain s rs = AreRoundsFrom s FIRST_CLOCK (empty_states s) rs
 
 -- ---- what a chain comes to
--- the operations of a unit that survive, of one round behind those of the other
+-- the operations of a unit that survive, of one round after those of the other
 abbrev pub strung : ℕ → List Round → List Entry
 strung unit [] = []
 strung unit (r ∷ rs) = kept_in r unit ++ strung unit rs

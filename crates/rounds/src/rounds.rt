@@ -6,7 +6,7 @@ ghost use Rattle.rounds.specs.Rounds.{
   SweptImagesOpenTheSame,
 };
 
-/// The operations that survive in all rounds of a chain, one round behind the other, are one legal
+/// The operations that survive in all rounds of a chain, one round after the other, are one legal
 /// history of each unit from the empty store, and lead to the state with which the last round ends.
 /// Call numbers begin anew in each round.
 pub fn chains_are_legal()

@@ -47,7 +47,7 @@ module _ (s : Shape) (image : List ℕ) where
     readable = All-push (IsReadAt s image) slots slot so_far.readable none;
   }
 
-  -- what was found among some slots, and then among those behind
+  -- what was found among some slots, and then among those after
   pub scan_joined : (xs ys : List ℕ) (front back new : Scan) → IsScanOf s image xs front → IsScanOf s image ys back
       → new.records ≡ front.records ++ back.records → new.lost ≡ front.lost ++ back.lost → IsScanOf s image (xs ++ ys) new
   scan_joined xs ys front back new f b records lost = record {
@@ -67,7 +67,7 @@ module _ (s : Shape) (image : List ℕ) where
     has = f.has;
   }
 
-  -- and among the slots behind some that have none
+  -- and among the slots after some that have none
   pub fault_behind : (xs ys : List ℕ) (slot : ℕ) (fault : SlotFault) → All (IsReadAt s image) xs → IsFirstFault s image ys slot fault
       → IsFirstFault s image (xs ++ ys) slot fault
   fault_behind xs ys slot fault none f = record {
@@ -82,7 +82,7 @@ module _ (s : Shape) (image : List ℕ) where
       → IsFirstFault s image (slots ++ slot ∷ []) slot fault
   fault_here slots slot fault none is = record { before = slots; after = []; among = refl; readable = none; has = is }
 
-  -- a refusal stays, whatever slots are behind
+  -- a refusal stays, whatever slots are after
   pub refusal_stays : (xs ys : List ℕ) (refusal : ScanRefusal) → IsAnswer s image xs (Err refusal)
       → IsAnswer s image (xs ++ ys) (Err refusal)
   refusal_stays xs ys (Slot slot fault) h = fault_before xs ys slot fault h

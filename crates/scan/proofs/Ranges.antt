@@ -19,7 +19,7 @@ range_more first k h =
     ∙ sym (range_append first m 1)
     ∙ ap (λ (j : ℕ). range_with_len first m ++ j ∷ []) last
 
--- a number, those before it and those behind it
+-- a number, those before it and those after it
 pub range_split : (first k end : ℕ) → first ≤ k → k < end
     → range_with_len first (end - first) ≡ (range_with_len first (k - first) ++ k ∷ []) ++ range_with_len (k + 1) (end - (k + 1))
 range_split first k end low high =

@@ -21,7 +21,7 @@ pub(crate) fn nothing(alloc: Global) -> Found
     })
 }
 
-// Looks at the slots from `first` to before `end`, behind those of what was found.
+// Looks at the slots from `first` to before `end`, after those of what was found.
 pub(crate) fn look_on(found: Found, layout: &Layout, image: &[u64], first: Slot, end: Slot) -> Found
     requires size { length image.now ≡ words_of layout.now }
     requires clock { clock_of image.now ≤ LAST }
@@ -91,7 +91,7 @@ fn words_at(layout: &Layout, image: &[u64], slot: Slot) -> [u64; FIELDS]
     words
 }
 
-// What was found among some slots and among those behind them.
+// What was found among some slots and among those after them.
 pub(crate) fn joined(front: Found, back: Found) -> Found
     ensures { (s : Shape) (image xs ys : List ℕ) → IsAnswer s image xs front
         → IsAnswer s image ys back → IsAnswer s image (xs ++ ys) result }

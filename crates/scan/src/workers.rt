@@ -94,7 +94,7 @@ fn look_at_piece(found: Found, layout: Layout, image: &[u64], workers: u64, piec
     look_on(found, &layout, image, first, end)
 }
 
-// The first slot of a piece. Behind the last piece this is the number of slots.
+// The first slot of a piece. After the last piece this is the number of slots.
 fn piece_start(layout: Layout, workers: u64, piece: u64) -> Slot
     requires some { 1 ≤ workers }
     requires few { workers ≤ 64 }

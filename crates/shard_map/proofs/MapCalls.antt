@@ -1,4 +1,4 @@
--- What a map unit is behind each answer of a call.
+-- What a map unit is after each answer of a call.
 use Rattle.std.proofs.Common.{◌≡◌, ℕ, ◌≤◌, List, [], ◌∷◌, ◌++◌, append-nil, sym, refl, ap, ◌∙◌, subst, arith, Bool, true, false}
 use Rattle.std.specs.Prelude.{Option, Some, None, Result, Ok, Err, IfErr, IsErrAnd, All, length, is_some}
 use Rattle.std.specs.FinMap as finite
@@ -108,7 +108,7 @@ pairs_of_same_live : (s : Shape) (u : ℕ) (rs qs : List Held) (m : Pairs) → (
 pairs_of_same_live s u rs qs m same h =
     subst (λ (l : ℕ → Option (Option (Key × Value))). Shows l (finite.get m)) (fun_ext (λ i. ap (held_in (pair_for s u)) (sym (same i)))) h
 
--- ---- a planned operation, behind checks that left the unit and the caller as they were
+-- ---- a planned operation, after checks that left the unit and the caller as they were
 module _ (heap : HeapShown) (shown ran : RegionShown) (q s : CallerShown) (op : Op) (reply : Reply) (changes : List Change)
     (same : ran ≡ shown) (caller : s ≡ q) (plan : IsPlan shown op reply changes) where
   both : ◌≡◌ {A = RegionShown × CallerShown} (ran, s) (shown, q)
@@ -173,7 +173,7 @@ module _ (heap : HeapShown) (old new : RegionShown) (places : Places) (called : 
       subst (λ (s : Shape). HoldsLiveKeys s new.books.unit new.seat.known.part.records after) (called.of_heap.layout ∙ sym of_heap.layout)
       (subst (λ (u : ℕ). HoldsLiveKeys old.books.layout u new.seat.known.part.records after) (sym unit) holds)
 
-  -- ---- behind a refusal nothing else is live, or it is halted
+  -- ---- after a refusal nothing else is live, or it is halted
   pub unit_uncarried : (q r : CallerShown) (many : ℕ) (why : CallRefusal) → LeavesUncarried heap old new q r many why → IsMapUnit new places
   unit_uncarried q r many (Full need free clock) h = record {
     agrees = h.1.ready.runs.agrees;
@@ -189,7 +189,7 @@ module _ (heap : HeapShown) (old new : RegionShown) (places : Places) (called : 
   }
   unit_uncarried q r many _ h = absurd h
 
-  -- ---- behind an answer without changes the index stays
+  -- ---- after an answer without changes the index stays
   pub unit_answered : (q r : CallerShown) (op : Op) (receipt : Receipt) (slot : Option ℕ) → HasAnsweredCall heap old new q r op receipt
       → HasCarried old new [] receipt slot → IsMapUnit new places
   unit_answered q r op receipt slot answered carried = record {
@@ -202,7 +202,7 @@ module _ (heap : HeapShown) (old new : RegionShown) (places : Places) (called : 
         (called.unit.indexed called.running)));
   }
 
-  -- ---- behind an answer the index has followed
+  -- ---- after an answer the index has followed
   module _ (q r : CallerShown) (op : Op) (receipt : Receipt) (answered : HasAnsweredCall heap old new q r op receipt) (reply : Reply)
       (changes : List Change) (slot : Option ℕ) (plan : IsPlan old op reply changes)
       (carried : HasCarried old new changes receipt slot) where

@@ -1,5 +1,5 @@
 -- An operation of one of two units. It is planned, room is made, and it begins, is written and ends
--- behind that; what it leaves is told of the unit as it was when it was planned.
+-- after that; what it leaves is told of the unit as it was when it was planned.
 use Rattle.std.proofs.Common.{◌≡◌, ℕ, ◌+◌, ◌-◌, ◌≤◌, Bool, true, false, cond, List, [], ◌∷◌, ◌++◌, length, refl, sym, ap, ◌∙◌, subst, arith}
 use Rattle.std.specs.Prelude.{◌&&◌, nat_lt, slice_set, All, count_by, Option, Some, None}
 use Rattle.std.specs.List.{AllZip, list_any}
@@ -85,7 +85,7 @@ none_at_end q r cs k =
     (none_if (list_any (ends_version r.seat.known.part.records) cs) _ _ k.versions
     (none_if (adds_item r.books cs && nat_lt LAST r.books.serial) _ _ (unless (adds_item r.books cs) r.books.serial k.serial) refl))))
 
--- ---- a unit behind room that was made
+-- ---- a unit after room that was made
 module _ (heap : HeapShown) (old room : RegionShown) (ready : IsReady heap old) (rested : IsReady heap room)
     (keeps : KeepsUnit old room) where
   same_layout : room.books.layout ≡ old.books.layout

@@ -1,4 +1,4 @@
--- What two map units are behind a pair of operations, or a try of one.
+-- What two map units are after a pair of operations, or a try of one.
 use Rattle.std.proofs.Common.{◌≡◌, ℕ, ◌≤◌, [], ◌∷◌, sym, ap, ◌∙◌, subst, ⊎_elim}
 use Rattle.std.specs.Prelude.{Some, None}
 use Rattle.mont_base.specs.declared.record.Change.{Change}

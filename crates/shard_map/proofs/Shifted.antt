@@ -169,7 +169,7 @@ module _ (T : Type 0) (up : Bool) (low high : RegionShown) (q : CallerPart) (fro
   before_memory (refusals.Full unit need free clock) k = absurd k
   before_memory (refusals.Cut unit first) k = absurd k
 
--- ---- a refusal behind that is one of the pair
+-- ---- a refusal after that is one of the pair
 pub cut_alike : (T U : Type 0) (why : PairUncarried) → was_cut {T = T} (Err (refusal_of why)) ≡ carrying.was_cut {T = U} (Err why)
 cut_alike T U (Full unit need free clock) = refl
 cut_alike T U (Cut unit first) = refl

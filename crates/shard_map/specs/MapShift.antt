@@ -48,7 +48,7 @@ pub record KeepBoth (up : Bool) (low high : RegionShown) (from to : Key) : Type 
   pub lower : KeepsKey low (of_low up (from, to))
   pub higher : KeepsKey high (of_high up (from, to))
 
--- ---- a unit behind a shift, or a try of one: it is the same unit, and stands
+-- ---- a unit after a shift, or a try of one: it is the same unit, and stands
 pub record StandsBehind (heap : HeapShown) (old new : MapShown) : Type 0 where
   pub of_unit : new.region.books.unit ≡ old.region.books.unit
   pub stands : IsStanding heap new.region

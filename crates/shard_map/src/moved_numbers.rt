@@ -6,7 +6,7 @@ use crate::number_texts::number_in;
 use crate::shift_refusal::ShiftRefusal;
 use mont_base::Text;
 
-// The numbers that stand under both keys behind the move.
+// The numbers that stand under both keys after the move.
 pub(crate) fn moved(
     from: &Text,
     to: &Text,

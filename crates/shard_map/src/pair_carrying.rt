@@ -206,7 +206,7 @@ fn carried(receipts: PairReceipt, low: Option<Slot>, high: Option<Slot>) -> Carr
     }
 }
 
-// Takes a guard apart behind a cut, and answers the unit in which it fell.
+// Takes a guard apart after a cut, and answers the unit in which it fell.
 fn spend(guard: PairGuard) -> Unit
     ensures { result ≡ unit_at_hand guard }
 {

@@ -19,7 +19,7 @@ use Rattle.slots.specs.Books.{BooksShown, AreBooks, times, slots_in, record_in, 
 use Rattle.slots.proofs.Times.{times_there, no_record}
 use Rattle.slots.proofs.RowFacts.{find_none, find_there, row_of_slot}
 
--- the records of a list, and of one behind it
+-- the records of a list, and of one after it
 pub all_before : {A : Type 0} (P : A → Type 0) (xs ys : List A) → All P (xs ++ ys) → (a : A) → Contains xs a → P a
 all_before P xs ys all a c = All-contains P (xs ++ ys) a all (Contains-append_left xs ys a c)
 

@@ -34,7 +34,7 @@ among_push (z ∷ ys) y x = by (z == x) (among_push ys y x)
     by false e = e
 
 module _ (s : Shape) (u : ℕ) (some : 1 ≤ s.slots) where
-  -- the marks of slots, one behind the other
+  -- the marks of slots, one after the other
   pub marks_are : (slots before : List ℕ) → ((y : ℕ) → Contains slots y → unit_of_slot s y ≡ u)
       → marked (u * s.slots) (map (is_among before) (slots_of s u)) slots ≡ map (is_among (before ++ slots)) (slots_of s u)
   marks_are [] before own = ap (λ (l : List ℕ). map (is_among l) (slots_of s u)) (sym (append-nil before))

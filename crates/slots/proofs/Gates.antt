@@ -41,7 +41,7 @@ module _ {G : Type 0} (cuts : G → ℕ) (endless : G → Bool) (asked : G → G
         passes = λ e. once.passes (before.same ∙ e);
       }
 
-  -- and a call's questions behind them
+  -- and a call's questions after them
   pub asks_on : (g m n : G) (cut : Bool) → IsAskedOften cuts endless g m false → IsAskedOften cuts endless m n cut
       → IsAskedOften cuts endless g n cut
   asks_on g m n cut before now =

@@ -102,7 +102,7 @@ serial_put b rs (Replace old i body) epoch slot queue = rw queue refl
 serial_put b rs (Remove old i) epoch slot queue = rw queue refl
 
 -- ---- what was written becomes records
--- a record behind others is its identity's newest
+-- a record after others is its identity's newest
 live_behind : (rs : List Held) (w : Held) (i : ℕ) (r : Held) → IsAbove (newest_of w.label.identity rs) w → live_of i (rs ++ w ∷ []) ≡ Some r
     → (live_if (Some w) ≡ Some r) ⊎ (live_of i rs ≡ Some r)
 live_behind rs w i r above e = by (w.label.identity == i) (ap live_if (sym (newest_push i rs w above)) ∙ e)

@@ -138,7 +138,7 @@ pub rows_push : (s : Shape) (u : ℕ) (w : Held) (rs : List Held) → 1 ≤ s.sl
 rows_push s u w rs some is none = rows_changed s u w.slot some is rs (rs ++ w ∷ []) (Some w) (find_pushed rs w none)
     (λ x ne. sym (find_push x rs w (λ e. ne (sym e))))
 
--- ---- the row of a slot, by its place behind the unit's first one
+-- ---- the row of a slot, by its place after the unit's first one
 pub row_found : (b v : BooksShown) → b ≡ v → 1 ≤ b.layout.slots → length b.rows ≡ b.layout.slots → (slot place : ℕ) (row : Option Held)
     → b.unit * b.layout.slots ≤ slot → place ≡ slot - b.unit * b.layout.slots → slice_get b.rows place ≡ Some row → row ≡ row_at v slot
 row_found b v is some long slot place row low at found =

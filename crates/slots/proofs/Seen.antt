@@ -91,12 +91,12 @@ module _ (s : Shape) (t x : UnitShown) (w : Held) (may : MayStore s t.known w) (
   cut_end (Ok a) y few e = tt
   cut_end (Err a) y few e = cut_stored y few e
 
--- the words of a body stand behind the four of the label
+-- the words of a body stand after the four of the label
 pub body_word : (w : Held) (at : ℕ) → get_or w.body at 0 ≡ get_or (held_words w) (4 + at) 0
 body_word w at =
     let behind : suc (suc (suc (suc at))) ≡ 4 + at = omega arith in ap (λ (field : ℕ). get_or (held_words w) field 0) behind
 
--- the three words behind the label's epoch, one by one
+-- the three words after the label's epoch, one by one
 module _ (s : Shape) (t : UnitShown) (w : Held) (may : MayStore s t.known w) (word : ℕ)
     (is : word ≡ 256 * number_of_kind w.label.kind + w.label.unit) where
   pub kind_may : CanStore (IsFreeSlot s t.known.unit t.known.part w.slot) t.known.unit t.known.part w.slot 1 word

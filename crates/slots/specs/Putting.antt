@@ -27,7 +27,7 @@ pub record MayWrite (p : UnitPart) (epoch : ℕ) : Type 0 where
   pub last : epoch ≤ LAST
 
 -- ---- what the stores of a record leave
--- its first fields behind the label's epoch were stored, so many
+-- its first fields after the label's epoch were stored, so many
 abbrev pub unit_writing : UnitKnown → Held → ℕ → UnitKnown
 unit_writing h w n = record h {
   part = record h.part {

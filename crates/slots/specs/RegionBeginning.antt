@@ -43,7 +43,7 @@ serial_at_first s unit records =
     if is_queue s unit then greatest (live_serials records) + 1 else 1
 
 -- ---- Records and lost slots of a unit, each in a slot of its own. In a queue there is a number
--- behind the serials of the live items.
+-- after the serials of the live items.
 pub record AreFound (s : Shape) (unit : ℕ) (records : List Held) (lost : List ℕ) : Type 0 where
   pub valid : All (IsRecordOf unit) records
   pub apart : AreApart records

@@ -256,7 +256,7 @@ fn place_records(rows: &mut [Option<Held>], first: Slot, written: &[Written])
     }
 }
 
-// Retires what each written record supersedes, and an anti-payload right behind its victim.
+// Retires what each written record supersedes, and an anti-payload right after its victim.
 fn retire_all(retired: &mut VecDeque<Retired>, written: &[Written])
     requires { length (retired.old.items ++ flat_map retired_with written.now)
         ≤ deque_capacity retired.old }

@@ -83,7 +83,7 @@ fn has_nothing(rows: &[Option<Held>], marks: &[bool], place: usize) -> bool
     rows[place].is_none() && !marks[place]
 }
 
-// A slot behind the others, if it is kept.
+// A slot after the others, if it is kept.
 fn push_if(slots: &mut VecDeque<Slot>, keep: bool, slot: Slot) -> Result<(), AllocError>
     ensures items { IfOk result (λ _. slots.new.items
         ≡ slots.old.items ++ (if keep then slot ∷ [] else [])) }
@@ -128,7 +128,7 @@ fn by_version(alloc: Global, records: &[Held]) -> Result<Vec<Held>, AllocError>
     Ok(sorted)
 }
 
-// What retires a record that these stand behind, if anything does.
+// What retires a record that these stand after, if anything does.
 fn retires_before(held: &Held, rest: &[Held]) -> Option<Retired>
     ensures { option_to_list result ≡ retired_before held.now rest.now }
 {
@@ -187,7 +187,7 @@ fn greatest_serial(records: &[Held], first: Slot, marks: &[bool]) -> u64
     most
 }
 
-// A retired slot behind the others, if there is one.
+// A retired slot after the others, if there is one.
 fn push_found(
     queue: &mut VecDeque<Retired>,
     slots: &mut Vec<Slot>,

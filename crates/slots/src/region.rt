@@ -105,7 +105,7 @@ impl Region {
         &mut self.seat
     }
 
-    /// Pushes the slots of what was written behind the unit's list of its epoch, in their order.
+    /// Pushes the slots of what was written after the unit's list of its epoch, in their order.
     pub fn list_written(&mut self, heap: &Heap)
         requires heap { IsRegionOf heap.now self.old }
         requires agrees { Agrees self.old }

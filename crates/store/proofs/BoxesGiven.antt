@@ -56,7 +56,7 @@ gives_to_other s unit kind old is other boxes left = record {
   given = lower_or_here s boxes unit left.given (λ map. absurd (cc));
 }
 
--- behind the last unit none is given
+-- after the last unit none is given
 pub gives_to_none : (s : Shape) (unit : ℕ) (left : List ℕ) → units_of s ≤ unit → GivesBox s unit left left
 gives_to_none s unit old past boxes left = record {
   left_are = left.left_are ∙ sym (ap (λ n. drop n boxes) same);

@@ -1,4 +1,4 @@
--- A call that was answered is one entry, behind all that its caller had seen.
+-- A call that was answered is one entry, after all that its caller had seen.
 use Rattle.std.proofs.Common.{◌≡◌, ◌≤◌, List, [], ◌∷◌, ◌++◌, length, take, set, refl, sym, ap, ◌∙◌, subst, arith}
 use Rattle.std.specs.Prelude.{slice_get, slice_index, Some}
 use Rattle.std.proofs.lemmas.List.{length-take}

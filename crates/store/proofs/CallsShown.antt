@@ -107,7 +107,7 @@ module _ (heap : HeapShown) (before behind : RegionShown) (q r : CallerShown) (o
   }
 
 -- ---- a refusal
--- no front is lower behind a note
+-- no front is lower after a note
 fronts_rise : (ns ms : List ℕ) (unit n m : ℕ) → slice_get ns unit ≡ Some n → slice_get (greater_fronts ns ms) unit ≡ Some m → n ≤ m
 fronts_rise [] ms unit n m e f = absurd (cc)
 fronts_rise (x ∷ xs) [] unit n m e f = let same = same_Some n m (sym e ∙ f) in omega arith

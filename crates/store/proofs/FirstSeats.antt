@@ -44,7 +44,7 @@ use Rattle.caller.specs.Continued.{IsUnanswered}
 use Rattle.heap_rule.specs.declared.views.AdvKnown.{AdvKnown}
 use Rattle.advance.specs.Stage.{IsAtRest}
 
--- ---- one behind the other
+-- ---- one after the other
 module _ (heap : HeapShown) where
   many_dealt : (n : ℕ) → length (dealt_units heap.table heap.opening n) ≡ n
   many_dealt zero = refl

@@ -1,4 +1,4 @@
--- The pairs that are handed over with a range are its run behind the entries before its own.
+-- The pairs that are handed over with a range are its run after the entries before its own.
 use Rattle.std.proofs.Common.{◌≡◌, ℕ, true, List, refl, sym, ap, ◌∙◌, subst}
 use Rattle.std.specs.Prelude.{Some}
 use Rattle.mont_base.specs.declared.kinds.UnitKind.TheVariants as kinds

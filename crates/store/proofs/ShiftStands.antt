@@ -185,7 +185,7 @@ module _ (heap : HeapShown) (up : Bool) (low low_now high high_now : RegionShown
       )
   both_count (Err why) k l may = refused_count why l may
 
--- the structure of a map unit stands behind it
+-- the structure of a map unit stands after it
 pub map_stands : {I : Type 0} (heap : HeapShown) (number : ℕ) (x y : MapShown) → StandsAt {I = I} heap number (Map x)
     → StandsBehind heap x y → HasCounted heap y.region → StandsAt {I = I} heap number (Map y)
 map_stands heap number x y k behind counted = record {

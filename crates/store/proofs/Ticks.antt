@@ -81,7 +81,7 @@ shown_fits named heap found shown q same fits shows =
     subst (λ (h : HeapShown). IsAdvancerOf h shown) (sym same)
     (subst (IsAdvancerOf named) (sym shows) (shown_advancer_of named found q fits))
 
--- and behind an advance
+-- and after an advance
 pub same_fits : (heap : HeapShown) (shown behind : AdvShown) → IsAdvancerOf heap shown → IsSameSeat shown behind
     → IsAdvancerOf heap behind
 same_fits heap shown behind fits same = record {
@@ -95,7 +95,7 @@ same_fits heap shown behind fits same = record {
 
 -- ---- the caller's pass
 module _ {G : Type 0} {gate : Ghosts G} (old new : Pass G gate) (receipts : new.receipts ≡ old.receipts) where
-  -- it is the same one behind a note
+  -- it is the same one after a note
   pub heard_same : (note : NoteKnown) → new.ticket ≡ record { table = old.ticket.table; known = caller_heard old.ticket.known note }
       → IsSamePass old new
   heard_same note noted = record {
@@ -104,7 +104,7 @@ module _ {G : Type 0} {gate : Ghosts G} (old new : Pass G gate) (receipts : new.
     whole = λ whole. ap (λ v. v.items) receipts ∙ whole ∙ sym (ap (λ (x : CallerShown). x.known.part.receipts) noted);
   }
 
-  -- and behind a sync
+  -- and after a sync
   pub seen_same : KeepsSeen old.ticket new.ticket → IsSamePass old new
   seen_same k = record {
     table = k.table;

@@ -69,7 +69,7 @@ pub record ContinuesByShift
       receipts.1.entry.op receipts.1.entry.reply
 
 -- ---- refused: what the caller has now seen of both units
--- behind the entries that it has now seen of the unit, the operation would be answered so
+-- after the entries that it has now seen of the unit, the operation would be answered so
 abbrev pub WouldReply : StoreShown → ℕ → CallerShown → Op → Reply → Type 0
 WouldReply store unit r op reply = HasLearntCause store unit r
     (λ base history. reply ≡ (step (state_after base history) op).reply)

@@ -45,8 +45,8 @@ abbrev pub RepliesBehind : StoreShown → ℕ → List Entry → Op → Reply �
 RepliesBehind store unit history op reply =
     HoldsOfBase store unit (λ base. reply ≡ (step (state_after base history) op).reply)
 
--- The call is one entry of its unit, behind all that the caller had seen. Its reply is that of the
--- plain structure behind the entries before it, and of that unit the caller has then seen it and
+-- The call is one entry of its unit, after all that the caller had seen. Its reply is that of the
+-- plain structure after the entries before it, and of that unit the caller has then seen it and
 -- all of these.
 pub record ContinuesCaller
     (store : StoreShown) (q r : CallerShown) (op : Op) (receipt : Receipt) : Type 0 where
@@ -62,7 +62,7 @@ abbrev pub IsRange : Op → Type 0
 IsRange (ops.ORange unit from to most) = most ≤ MOST_PAIRS
 IsRange _ = ⊥
 
--- The pairs are those of the range in the plain structure behind the entries before it, all of
+-- The pairs are those of the range in the plain structure after the entries before it, all of
 -- which the caller has then seen.
 pub record HandsRun (store : StoreShown) (r : CallerShown) (receipt : Receipt) (run : Run)
     : Type 0 where
@@ -119,7 +119,7 @@ pub record FoundFull
   pub known : q.known.part.durable ≤ clock
   pub learnt : clock ≤ r.known.part.durable
 
--- The number was at its end then, behind so many calls of the caller, by the records that the unit
+-- The number was at its end then, after so many calls of the caller, by the records that the unit
 -- was opened with and by its entries.
 abbrev pub NeedsNumber : StoreShown → ℕ → CallerShown → CallerShown → Op → Which → Type 0
 NeedsNumber store unit q r op which =

@@ -28,7 +28,7 @@ use std::vec::IntoIter;
 impl<N: HeapName, I: Index> Store<N, I> {
     /// Opens a store that was never used, with its heap and all seats of it, and gives the pass of
     /// each caller. Each map unit is given the next of the boxes, in their order, which is to be
-    /// empty; boxes behind the last map unit are dropped. After a refusal the heap is gone.
+    /// empty; boxes after the last map unit are dropped. After a refusal the heap is gone.
     pub fn fresh<G: Gate + Drop>(
         alloc: Global,
         heap: Heap,

@@ -12,7 +12,7 @@ use mont_base::{CallRefusal, Gate, Op, Receipt, Unit};
 use std::sync::Wait;
 
 impl<N: HeapName, I: Index> Store<N, I> {
-    /// Adds an item behind the last.
+    /// Adds an item after the last.
     #[inline]
     #[tactic(auto, using(crate::proofs::UnitOps::enq_of))]
     pub fn enq<R: Wait, G: Gate>(

@@ -111,7 +111,7 @@ impl<N: HeapName, I: Index> Store<N, I> {
 }
 
 // Carries a range of the unit with this number out and hands its pairs over, under its lock. The
-// receipt is copied from the pass behind it.
+// receipt is copied from the pass after it.
 fn range_at<const UNIT: u64, R: Wait, N: HeapName, I: Index, G: Gate>(
     rt: &R,
     heap: &Heap,

@@ -32,7 +32,7 @@ impl<N: HeapName, I: Index> Store<N, I> {
     /// Goes on with a store that was recovered and swept, and gives the pass of each caller. Its
     /// base is what recovery found: the image's clock and contents. Each map unit is given the next
     /// of the boxes, in their order, which is to be empty, and fills it with its live keys; boxes
-    /// behind the last map unit are dropped. After a refusal the store is gone; the image isn't.
+    /// after the last map unit are dropped. After a refusal the store is gone; the image isn't.
     pub fn resume<G: Gate + Drop>(
         alloc: Global,
         recovered: Recovered,

@@ -19,7 +19,7 @@ use std::sync::Wait;
 
 impl<N: HeapName, I: Index> Store<N, I> {
     /// Advances the clock once, or goes on with the advance that is under way, under the advancer's
-    /// lock. The advancer takes a note of the pass before, and the pass one of the advancer behind,
+    /// lock. The advancer takes a note of the pass before, and the pass one of the advancer after,
     /// whatever the answer is.
     pub fn tick<R: Wait, G: Gate>(
         &self,

@@ -26,7 +26,7 @@ pub(crate) enum End {
     Sync,
 }
 
-// So many ends, each behind these operations.
+// So many ends, each after these operations.
 #[derive(Drop)]
 struct Rounds {
     end: End,
@@ -44,7 +44,7 @@ impl<R: Wait + Clock> Work<R, Fuel> for Rounds {
     }
 }
 
-// The nanoseconds of so many ends, each behind so many puts.
+// The nanoseconds of so many ends, each after so many puts.
 pub(crate) fn time_ends<R: AllocGlobal + Threads + Wait + Clock + Sync>(
     rt: &R,
     end: End,
@@ -88,7 +88,7 @@ fn go_round<R: Wait + Clock, N: HeapName, I: Index>(
     Ok(nanos)
 }
 
-// The second of three ticks. The records of an epoch are written back by the second advance behind
+// The second of three ticks. The records of an epoch are written back by the second advance after
 // it; the others write nothing.
 fn time_tick<R: Wait + Clock, N: HeapName, I: Index>(
     rt: &R,

@@ -196,7 +196,7 @@ static REMOVALS: Shape = Shape {
     long: false,
 };
 
-// Items are added behind those that stay, and then as many are taken.
+// Items are added after those that stay, and then as many are taken.
 static ADDITIONS: Shape = Shape {
     first: &[(Deed::Enq, Things::Size)],
     before: &[],
@@ -205,7 +205,7 @@ static ADDITIONS: Shape = Shape {
     long: false,
 };
 
-// Items are taken, behind as many that were added.
+// Items are taken, after as many that were added.
 static TAKINGS: Shape = Shape {
     first: &[(Deed::Enq, Things::Size)],
     before: &[(Deed::Enq, Things::Items)],

@@ -1,4 +1,4 @@
-// Calls of a store, one behind the other.
+// Calls of a store, one after the other.
 ghost use Rattle.std.specs.Prelude.{◌≡◌, All};
 ghost use Rattle.store.specs.StoreCalls.{IsSamePass};
 ghost use Rattle.store_bench.specs.AskableOps.{CanBeAsked};

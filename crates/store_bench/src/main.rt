@@ -59,7 +59,7 @@ fn main(rt: HostRuntime) -> ExitCode {
     }
 }
 
-// The words behind the program's name.
+// The words after the program's name.
 fn behind_first(alloc: Global, args: Args) -> Result<Vec<String>, AllocError> {
     let mut rest = args;
     let _ = rest.next();

@@ -28,7 +28,7 @@ pub(crate) fn plan_of(words: &[String]) -> Option<Plan> {
     if is_in_range(&plan) { Some(plan) } else { None }
 }
 
-// What the first word names, with the words behind the numbers.
+// What the first word names, with the words after the numbers.
 fn subject_of(name: &str, rest: &[String]) -> Option<Subject> {
     if let Some(work) = work_of(name) {
         let by = callers_of(rest)?;

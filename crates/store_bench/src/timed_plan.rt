@@ -7,7 +7,7 @@ pub(crate) enum Subject {
     Calls { work: Timed, by: Callers },
     // An advance that writes the records of one epoch back.
     Tick,
-    // A sync behind some puts.
+    // A sync after some puts.
     Sync,
     // The stop of a store.
     Stop,

@@ -89,7 +89,7 @@ fn time_opening<R: Clock>(rt: &R, alloc: Global, layout: Layout) -> Result<u64, 
 }
 
 // Opens a store on the heap that N names, and answers the nanoseconds since then. The store is let
-// go behind.
+// go after.
 fn open_on<R: Clock, N: HeapName>(
     rt: &R,
     alloc: Global,
@@ -136,7 +136,7 @@ fn time_stop<R: Threads + Wait + Clock + Sync>(
     }
 }
 
-// A store that was stopped behind so many calls, with the nanoseconds that its stop took.
+// A store that was stopped after so many calls, with the nanoseconds that its stop took.
 fn stop_one<R: Threads + Wait + Clock + Sync>(
     rt: &R,
     alloc: Global,

@@ -12,7 +12,7 @@ use plain::UnitState;
 use std::sync::Wait;
 use store::Store;
 
-// Behind so many operations the caller moves the clock on.
+// After so many operations the caller moves the clock on.
 const TICK_BEHIND: u64 = 10;
 
 /// Makes so many operations, of a seed, on names below a number. Tells of how many the plain
@@ -86,7 +86,7 @@ fn draw_call<R: Wait, N: HeapName, I: Index>(
     }
 }
 
-// Makes an operation, and once more behind a sync where the unit is full.
+// Makes an operation, and once more after a sync where the unit is full.
 fn call_until_roomy<R: Wait, N: HeapName, I: Index>(
     rt: &R,
     store: &Store<N, I>,

@@ -4,7 +4,7 @@ use mont_base::{Entry, PairList, Sequence};
 use std::alloc::{AllocError, Global};
 use std::slice;
 
-/// Tells what stands behind a mark in the line of an entry, with the pairs of a range.
+/// Tells what stands after a mark in the line of an entry, with the pairs of a range.
 pub fn tell_behind(
     told: &mut String,
     alloc: Global,

@@ -66,7 +66,7 @@ fn tell_images(
     Ok(tell_texts(told, masks.as_slice(), texts.as_slice())?)
 }
 
-// Tells each text once, behind all of its masks.
+// Tells each text once, after all of its masks.
 fn tell_texts(told: &mut String, masks: &[u64], texts: &[String]) -> Result<(), AllocError> {
     for (at, text) in texts.iter().enumerate() {
         if is_first(texts, at, text.as_str()) {

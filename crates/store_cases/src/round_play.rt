@@ -12,7 +12,7 @@
 //     clocks, base, histories, judge      what a store that was stopped tells
 //     image MASK ..                       the images that masks pick; without one, that six do
 //     contents MASK ..                    the same without what is lost
-//     recover MASK                        goes on from such an image; behind that `sweep STEPS`
+//     recover MASK                        goes on from such an image; after that `sweep STEPS`
 //                                         has the sweep cut once
 //     sweep MASK STEPS                    opens one, and stops in its sweep
 //     each FROM TO                        before the store: the script is run with each number of

@@ -1,5 +1,5 @@
 // A script that is run as often as it asks: with boxes of each kind, and with each number of steps
-// of a range, where numbers one behind the other of which the same is told are told together.
+// of a range, where numbers one after the other of which the same is told are told together.
 use crate::empty_box::EmptyBox;
 use crate::refusing_index::RefusingIndex;
 use crate::round_play::run_script;
@@ -32,7 +32,7 @@ pub fn tell_script<R: Threads + Wait + Sync>(
     }
 }
 
-// What stands behind a word at the begin of a line, if there is such a line.
+// What stands after a word at the begin of a line, if there is such a line.
 fn behind<'a>(lines: &[&'a str], word: &str) -> Option<&'a str> {
     for line in lines {
         if let Some(rest) = line.strip_prefix(word) {
@@ -50,7 +50,7 @@ fn has_no_map(lines: &[&str]) -> bool {
     }
 }
 
-// What is told of a script with sorted boxes, and behind that what is told of it with others where
+// What is told of a script with sorted boxes, and after that what is told of it with others where
 // that is something else.
 fn tell_kinds<R: Threads + Wait + Sync>(
     rt: &R,

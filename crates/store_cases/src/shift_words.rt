@@ -5,7 +5,7 @@ use mont_base::{CallRefusal, Op, PairList, Receipt, Text, Unit};
 use std::alloc::{AllocError, Global};
 use store::ShiftRefusal;
 
-/// Tells why a shift was refused. A cut behind the first of its two entries tells that one too.
+/// Tells why a shift was refused. A cut after the first of its two entries tells that one too.
 pub fn tell_shift_refusal(
     told: &mut String,
     alloc: Global,
@@ -38,7 +38,7 @@ fn tell_cut(
 ) -> Result<(), AllocError> {
     write!(told, "{}", Outcome::CutIn { unit })?;
     if let Some(receipt) = first {
-        write!(told, " behind ")?;
+        write!(told, " after ")?;
         tell_receipt(told, alloc, receipt, &PairList::empty())?;
     }
     Ok(())

@@ -6,7 +6,7 @@ use job_text::Outcome;
 use mont_base::{CallRefusal, Epoch, PairList, Receipt};
 use std::alloc::{AllocError, Global};
 
-/// Tells a receipt: `at UNIT PLACE EPOCH = REPLY`, and behind that the pairs of a range.
+/// Tells a receipt: `at UNIT PLACE EPOCH = REPLY`, and after that the pairs of a range.
 pub fn tell_receipt(
     told: &mut String,
     alloc: Global,
@@ -31,7 +31,7 @@ pub fn tell_refusal(told: &mut String, refusal: CallRefusal) -> Result<(), Alloc
 }
 
 /// Tells what a tick was answered. `notyet UNIT EPOCH` is an epoch that a unit still announces, and
-/// `cut` behind that says that its caller was cut.
+/// `cut` after that says that its caller was cut.
 pub fn tell_tick(
     told: &mut String,
     answer: Result<Epoch, AdvanceRefusal>,

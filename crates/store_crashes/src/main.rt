@@ -1,4 +1,4 @@
-//! Two stores that crash: one of a queue, which goes on behind its crash, and one of two maps
+//! Two stores that crash: one of a queue, which goes on after its crash, and one of two maps
 //! between which callers transfer amounts, whose total stands in what the crash leaves.
 #![tactic(auto)]
 

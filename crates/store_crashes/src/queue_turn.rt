@@ -1,4 +1,4 @@
-// What a caller does with the queue before the crash, and again behind it.
+// What a caller does with the queue before the crash, and again after it.
 ghost use Rattle.std.specs.Prelude.{◌≡◌};
 ghost use Rattle.store.specs.StoreCalls.{IsSamePass};
 

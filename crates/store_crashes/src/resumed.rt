@@ -1,4 +1,4 @@
-// A store of a queue that goes on behind a crash: a caller takes a turn, the store is stopped, and
+// A store of a queue that goes on after a crash: a caller takes a turn, the store is stopped, and
 // an image is picked as a crash may leave it. The store is recovered from it, a caller takes a turn
 // on what it holds, and it is stopped again.
 ghost use Rattle.std.specs.Prelude.{◌≡◌, false, IfOk};
@@ -27,12 +27,12 @@ pub fn tell(rt: &HostRuntime, stopped: &Stopped, turns: &[Turn]) -> io::Result<(
         println!(rt; "took {:?}", turn.took)?;
     }
     for history in stopped.histories.as_slice() {
-        println!(rt; "stopped again behind {} calls", history.len())?;
+        println!(rt; "stopped again after {} calls", history.len())?;
     }
     Ok(())
 }
 
-/// What the store leaves that goes on from the image of a crash, behind a second turn.
+/// What the store leaves that goes on from the image of a crash, after a second turn.
 pub fn crash_and_resume<R: AllocGlobal + Threads + Wait + Sync>(
     rt: &R,
 ) -> Result<(Stopped, Vec<Turn>), StoreRefusal> {
@@ -45,7 +45,7 @@ pub fn crash_and_resume<R: AllocGlobal + Threads + Wait + Sync>(
     Ok(with_recovered(rt, alloc, store, gates, no_indexes(rt), turns)?)
 }
 
-// The image that a crash leaves of a store of one queue behind one turn.
+// The image that a crash leaves of a store of one queue after one turn.
 fn crash<R: AllocGlobal + Threads + Wait + Sync>(rt: &R) -> Result<Image, StoreRefusal>
     ensures { IfOk result (λ image. image.old ≡ false) }
 {

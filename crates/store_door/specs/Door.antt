@@ -53,7 +53,7 @@ pub record AreDeeds {W : Type 0} (did : Deed W) (heap : HeapShown) (olds news : 
       → slice_get news caller ≡ Some new → slice_get callers caller ≡ Some ticket
       → did old new heap ticket
 
--- A store of this heap was stopped behind the works of all its callers.
+-- A store of this heap was stopped after the works of all its callers.
 pub record IsDone {W : Type 0} (did : Deed W) (heap : HeapShown) (olds news : List W) (t : Stopped)
     : Type 0 where
   pub callers : List CallerShown

@@ -28,7 +28,7 @@ const MOST_CALLERS: usize = 8;
 pub trait Work<R, G: Gate> {
     ghost use Rattle.heap.specs.HeapShown.{HeapShown, CallerShown};
 
-    /// How it was before and is behind, with the heap of the store and the caller's ticket then.
+    /// How it was before and is after, with the heap of the store and the caller's ticket then.
     ghost did: { Self → Self → HeapShown → CallerShown → Type 0 };
 
     /// Works with the store. The pass may make no step more once its gate cut.

@@ -19,7 +19,7 @@ pub all_gives : {A : Type 0} (P : A → Type 0) (xs : List A) (i : ℕ) (x : A) 
 all_gives P xs i x all e =
     subst P (get_or_from_slice_get xs i x x e) (All-get_or P xs i x (slice_get_within xs i x e) all)
 
--- what holds of all of two lists, one behind the other, holds of all of each
+-- what holds of all of two lists, one after the other, holds of all of each
 pub all_split : {A : Type 0} (P : A → Type 0) (xs ys : List A) → All P (xs ++ ys) → All P xs × All P ys
 all_split P [] ys all = (All-nil P, all)
 all_split P (x ∷ xs) ys all =

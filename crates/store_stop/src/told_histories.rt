@@ -55,7 +55,7 @@ fn place_entries(
 }
 
 // Puts an entry at its place. Where nothing was put yet below it, it stands there for now. Most
-// entries come in their order, and stand behind the others.
+// entries come in their order, and stand after the others.
 fn place_entry(history: &mut Vec<Entry>, receipt: &Receipt) -> Result<(), AllocError>
     ensures { OnOk result (IsPut receipt.now history.old.items history.new.items) }
 {

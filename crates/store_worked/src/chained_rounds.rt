@@ -29,7 +29,7 @@ pub(crate) struct Chain {
     // What the numbers of all maps have to come to, if to anything.
     pub(crate) total: Option<u64>,
     pub(crate) draws: Draws,
-    // Whether any call was answered behind the first round.
+    // Whether any call was answered after the first round.
     is_answered: bool,
     // Whether any caller was cut there.
     is_cut: bool,

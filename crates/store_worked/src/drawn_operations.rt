@@ -49,7 +49,7 @@ impl Draws {
         }
     }
 
-    // An operation on one of the units of a store, which are so many maps, and behind them a queue,
+    // An operation on one of the units of a store, which are so many maps, and after them a queue,
     // a graph and an ordered unit.
     pub(crate) fn op(&mut self, maps: u64) -> Op {
         match self.below(4) {

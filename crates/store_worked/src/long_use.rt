@@ -20,7 +20,7 @@ use std::test::Fail;
 use std::thread::Threads;
 use store::{Store, StoreRefusal};
 
-// How many calls are made. A caller forgets its receipts behind each thousand.
+// How many calls are made. A caller forgets its receipts after each thousand.
 const CALLS: u64 = 200_000;
 
 const THOUSAND: u64 = 1000;
@@ -94,7 +94,7 @@ fn use_first<N: HeapName>(
     }
 }
 
-// Makes all calls, and forgets the receipts behind each thousand; then it syncs.
+// Makes all calls, and forgets the receipts after each thousand; then it syncs.
 fn use_long<N: HeapName>(
     rt: &impl Wait,
     store: &Store<N, SortedIndex>,
@@ -135,7 +135,7 @@ fn use_once<N: HeapName>(
     Ok(())
 }
 
-// Calls the store, behind a sync where it is full.
+// Calls the store, after a sync where it is full.
 fn call<N: HeapName>(
     rt: &impl Wait,
     store: &Store<N, SortedIndex>,

@@ -29,7 +29,7 @@ pub(crate) struct Crashed {
     pub(crate) contents: Contents,
 }
 
-// The store of what a crash left, behind some sweeps that may be cut. It is swept.
+// The store of what a crash left, after some sweeps that may be cut. It is swept.
 pub(crate) fn swept(
     rt: &(impl Threads + Sync),
     alloc: Global,

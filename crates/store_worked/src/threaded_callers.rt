@@ -35,7 +35,7 @@ pub(crate) enum Part {
     Calls,
     // In one turn of eight it ticks, in one it syncs, and in the others it makes such an operation.
     TakesTurns,
-    // It puts the first number under two keys, and syncs behind each.
+    // It puts the first number under two keys, and syncs after each.
     Puts,
     // It shifts amounts.
     Shifts,

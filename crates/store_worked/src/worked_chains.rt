@@ -13,7 +13,7 @@ fn follow(rt: &(impl Threads + Wait + Sync), alloc: Global, seed: u64) -> Result
     go_on(rt, alloc, &mut chain, crashed, 49)
 }
 
-// Rounds of callers that shift amounts between four maps, behind one in which the first numbers are
+// Rounds of callers that shift amounts between four maps, after one in which the first numbers are
 // put there.
 fn keep_the_total(rt: &(impl Threads + Wait + Sync), alloc: Global, seed: u64) -> Result<(), Fail> {
     let mut chain = Chain::new(b"mmmm", 8, Part::Puts, seed)?;

@@ -1,4 +1,4 @@
--- An operation that was carried out behind the checks of its call, which left the region, the caller and its receipts as they were.
+-- An operation that was carried out after the checks of its call, which left the region, the caller and its receipts as they were.
 use Rattle.std.proofs.Common.{◌≡◌, ℕ, List, subst}
 use Rattle.std.specs.Prelude.{Option}
 use Rattle.mont_base.specs.declared.operation.Receipt.{Receipt}

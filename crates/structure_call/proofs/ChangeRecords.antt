@@ -9,7 +9,7 @@ use Rattle.mont_base.specs.Layout.{Shape}
 use Rattle.slots.specs.WrittenRecords.{record_by, identity_after, inserts, is_insert, has_serial, serial_in}
 use Rattle.structure_call.specs.Carrying.{records_by, last_of, serial_behind}
 
--- the next identity behind one change more
+-- the next identity after one change more
 pub inserts_more : (cs : List Change) (c : Change) → inserts (cs ++ c ∷ []) ≡ inserts cs + cond (is_insert c) 1 0
 inserts_more cs c = sum_by_push (λ (x : Change). cond (is_insert x) 1 0) cs c
 

@@ -48,7 +48,7 @@ module _ (heap : HeapShown) (r : RegionShown) where
   abbrev opened : List Held
   opened = records_opened heap r.books.unit
 
-  -- a unit has the records that it was opened with, has answered nothing, and its next numbers are those behind the records
+  -- a unit has the records that it was opened with, has answered nothing, and its next numbers are those after the records
   pub counted_at_first : r.books.identity ≡ greatest_opened heap r.books.unit + 1
       → r.books.serial ≡ serial_at_first heap.opening.layout r.books.unit opened → r.seat.known.part.records ≡ opened
       → r.seat.known.part.history ≡ [] → HasCounted heap r

@@ -1,4 +1,4 @@
--- What live records tell, where the same are live behind steps.
+-- What live records tell, where the same are live after steps.
 use Rattle.std.proofs.Common.{◌≡◌, ℕ, List, [], ◌∷◌, sym, ap, ◌∙◌}
 use Rattle.std.specs.Prelude.{Option, Some}
 use Rattle.std.specs.List.{AllZip}

@@ -96,7 +96,7 @@ module _ (b : BooksShown) (kept : List Held) (queue : Bool) (of_kind : is_of_kin
       by false is many rest =
           let low = rest (sym (ap (λ (t : Bool). t || list_any has cs) is) ∙ adds) in omega (arith, many, low)
 
-  -- the serial that comes next behind the first change
+  -- the serial that comes next after the first change
   next_behind : (next : ℕ) (e : Effect) (c : Change) (cs : List Change) (t : Bool) → FitsKind queue e → Makes b kept e c
       → is_enqueuing e ≡ t
       → serial_behind b.layout b.unit next (c ∷ cs) ≡ serial_behind b.layout b.unit (cond t (b.serial + 1) next) cs

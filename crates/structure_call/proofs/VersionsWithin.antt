@@ -64,7 +64,7 @@ pub kept_versions : (s : Shape) (unit : ℕ) (objects : List Object) (changes : 
 kept_versions s unit objects changes old new same within thing kind identity r live is =
     within thing kind identity r (sym (same identity) ∙ live) is
 
--- ---- behind more records
+-- ---- after more records
 -- a live record is one of these, and no anti-payload, or it was live before
 live_among : (rs ws : List Held) (identity : ℕ) (r : Held) → live_of identity (rs ++ ws) ≡ Some r
     → (Contains ws r × (is_delete r.label.kind ≡ false)) ⊎ (live_of identity rs ≡ Some r)

@@ -28,7 +28,7 @@ use Rattle.structure_call.specs.Planning.{IsPlan}
 use Rattle.structure_call.specs.Checking.{WasHaltedBefore, EndsCount}
 use Rattle.structure_call.specs.Carrying.{HasCarried, LeavesUncarried}
 
--- Behind records of which the same are live as before stand those that the effects write, each
+-- After records of which the same are live as before stand those that the effects write, each
 -- with the entry's epoch.
 pub record HasWritten
     (unit : ℕ) (old new : List Held) (effects : List Effect) (epoch : ℕ) : Type 0 where
@@ -39,7 +39,7 @@ pub record HasWritten
   pub are_effects : AreEffects unit kept effects written
   pub epochs : All (λ (w : Held). w.label.epoch ≡ epoch) written
 
--- The unit has one entry more, behind all that the caller had seen of it, which stood first there.
+-- The unit has one entry more, after all that the caller had seen of it, which stood first there.
 -- Its reply is the plain step's on the state that the unit's records showed, and to which its
 -- history had led.
 pub record HasAnsweredCall

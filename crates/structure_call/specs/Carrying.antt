@@ -29,7 +29,7 @@ last_of [] = None
 last_of (n ∷ []) = Some n
 last_of (n ∷ m ∷ ms) = last_of (m ∷ ms)
 
--- the serial that the next item is given behind changes
+-- the serial that the next item is given after changes
 abbrev pub serial_behind : Shape → ℕ → ℕ → List Change → ℕ
 serial_behind s unit next [] = next
 serial_behind s unit next (c ∷ cs) =
@@ -48,7 +48,7 @@ pub record CanPutAll (b : BooksShown) (records : List Held) (changes : List Chan
   pub serials : All (HasSerialLeft b) changes
 
 -- ---- what was carried out
--- The changes are written into slots, behind records of which the same are live as before.
+-- The changes are written into slots, after records of which the same are live as before.
 pub record HasCarried
     (old new : RegionShown) (changes : List Change) (receipt : Receipt) (last : Option ℕ)
     : Type 0 where

@@ -6,7 +6,7 @@ pub fn fresh_units_are_counted()
     ensures { FreshAreCounted }
 {}
 
-/// The next numbers of a unit that was recovered are those behind the records that were found.
+/// The next numbers of a unit that was recovered are those after the records that were found.
 pub fn recovered_units_are_counted()
     ensures { RecoveredAreCounted }
 {}

@@ -18,7 +18,7 @@ const BYTES: &[u8] = b"0123456789 \n=%abcdefghiklmnopqrstuvyz-\x00\xff";
 
 /// Changes one byte of a report's text, as often as the second number tells, by the seed that the
 /// first one is. Where the text is no report's then, the first refused line is to be the changed
-/// one or one behind it; else its report is to be spelled by it, and the verdict is to be yes
+/// one or one after it; else its report is to be spelled by it, and the verdict is to be yes
 /// exactly where the report agrees with what the unchanged one tells of the image.
 pub fn answer_changed(
     rt: &(impl AllocGlobal + Threads + Sync),

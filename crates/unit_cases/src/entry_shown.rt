@@ -116,7 +116,7 @@ pub fn tell_pair(answer: &mut String, key: &Text, value: &Text) -> Result<(), Al
     push_text(answer, value)
 }
 
-// Adds a text as reports spell it: bytes that don't stand for themselves by two digits behind `%`.
+// Adds a text as reports spell it: bytes that don't stand for themselves by two digits after `%`.
 fn push_text(answer: &mut String, text: &Text) -> Result<(), AllocError> {
     if text.is_empty() {
         write!(answer, "%")?;

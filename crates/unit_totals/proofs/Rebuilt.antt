@@ -1,4 +1,4 @@
--- What is found behind a crash in each unit, and what the entries of its history within the cut put in and take out.
+-- What is found after a crash in each unit, and what the entries of its history within the cut put in and take out.
 use Rattle.std.proofs.Common.{◌≡◌, ◌≢◌, ℕ, zero, suc, ◌+◌, Bool, true, false, cond, List, [], ◌∷◌, ◌++◌, length, Some, refl, sym, ap, ◌∙◌, subst, arith}
 use Rattle.std.specs.Prelude.{All, sum_by, slice_get, nat_le}
 use Rattle.std.proofs.lemmas.List.Elements.{All-head, All-tail}

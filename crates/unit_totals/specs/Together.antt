@@ -30,7 +30,7 @@ OneEpochStandsTogether =
     → one.entry.epoch ≡ other.entry.epoch
     → IsInCut t.histories (cut_of image) one ↔ IsInCut t.histories (cut_of image) other
 
--- An entry of an epoch within which a caller left a unit halted is behind the cut of every image
+-- An entry of an epoch within which a caller left a unit halted is after the cut of every image
 -- that a crash permits: so is the half of a shift that a cut left alone.
 abbrev pub EntryLeftAloneIsBehindCut : Type 0
 EntryLeftAloneIsBehindCut =

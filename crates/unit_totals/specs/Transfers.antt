@@ -26,7 +26,7 @@ pub record IsTransfer (amount : Value → ℕ) (pair : Receipt × Receipt) : Typ
 abbrev pub both_of : Receipt × Receipt → List Receipt
 both_of pair = pair.0 ∷ pair.1 ∷ []
 
--- an entry that leaves the total as it is, as a look does, or is behind the cut
+-- an entry that leaves the total as it is, as a look does, or is after the cut
 abbrev pub IsNoMatter : (Value → ℕ) → ℕ → Receipt → Type 0
 IsNoMatter amount x r =
     (x < r.entry.epoch) ⊎ (put_in amount r.entry ≡ taken_out amount r.entry)

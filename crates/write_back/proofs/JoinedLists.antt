@@ -1,4 +1,4 @@
--- A unit's list among the lists of all units, one behind the other.
+-- A unit's list among the lists of all units, one after the other.
 use Rattle.std.proofs.Common.{◌≡◌, ℕ, zero, suc, ◌+◌, List, [], ◌∷◌, ◌++◌, length, take, refl, sym, ap, ◌∙◌, arith, length-append}
 use Rattle.std.specs.Prelude.{slice_get, Some}
 use Rattle.heap_rule.specs.Views.{joined, list_at}

@@ -58,7 +58,7 @@ module _ (f : Flush) (a : AdvKnown) (s : StandsAt f a) where
       by true e = e
       by false e = refl
 
-  -- ---- a unit that listed nothing is behind
+  -- ---- a unit that listed nothing is after
   pub skipped : a.turn.out ≡ false → a.turn.emptied < a.units → list_at a.lists a.turn.emptied ≡ []
       → StandsAt (record f { unit = f.unit + 1 }) (advancer_gave (advancer_took a))
   skipped home inside none =

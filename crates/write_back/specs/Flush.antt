@@ -45,7 +45,7 @@ part_at flush a =
     else Flushing (slots_given a + flush.at) flush.field
 
 -- The flush stands where the seat stands: its list is the one that is out, and the word at hand is
--- the seat's. Behind the last slot of a list there is no word at hand.
+-- the seat's. After the last slot of a list there is no word at hand.
 pub record StandsAt (flush : Flush) (a : AdvKnown) : Type 0 where
   pub part : a.part ≡ part_at flush a
   pub unit : flush.unit ≡ a.turn.emptied
@@ -65,7 +65,7 @@ slot_in (Some list) at = slice_get list.slots at
 abbrev pub words_done : Flush → ℕ
 words_done flush = FIELDS * flush.at + flush.field
 
--- the word behind the one at hand, not loaded
+-- the word after the one at hand, not loaded
 abbrev pub behind_word : Flush → Flush
 behind_word flush =
     if nat_lt (flush.field + 1) FIELDS then

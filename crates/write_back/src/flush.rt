@@ -73,7 +73,7 @@ impl Flush {
     }
 
     // Takes the list of the unit out, unless it is out, and tells whether one is. A unit that
-    // listed nothing is behind at once.
+    // listed nothing is after at once.
     fn take(&mut self, heap: &Heap, seat: &mut AdvSeat) -> bool
         requires heap { seat.old.table ≡ heap.now.table }
         requires layout { IsOfLayout heap.now.opening.layout seat.old.known }
@@ -266,7 +266,7 @@ impl Flush {
         Ok(())
     }
 
-    // The word behind the one at hand, not loaded.
+    // The word after the one at hand, not loaded.
     fn go_on(&mut self)
         requires place { self.old.at + 1 < 2 ^ 64 }
         requires field { self.old.field < FIELDS }

@@ -1,4 +1,4 @@
--- Room in two units, and what tries to register both behind it leave.
+-- Room in two units, and what tries to register both after it leave.
 use Rattle.std.proofs.Common.{◌≡◌, ℕ, ◌≤◌, Bool, false, length, refl, ap, sym, ◌∙◌, subst, arith, inl, inr, ⊎_elim}
 use Rattle.std.specs.Prelude.{Option, Some, None}
 use Rattle.mont_base.specs.Faults.{Rose}
@@ -31,7 +31,7 @@ keeps_on old mid new k l =
       durable = omega arith;
     }
 
--- so a unit that was halted behind the first one was halted since before it
+-- so a unit that was halted after the first one was halted since before it
 pub halted_behind : (heap : HeapShown) (old mid new : RegionShown) (q r : CallerShown) → KeepsUnit old mid → WasHalted heap mid new q r
     → WasHalted heap old new q r
 halted_behind heap old mid new q r k h = halted_since heap old mid new q r k.of_unit k.history h
@@ -67,7 +67,7 @@ has_learnt old new q same k = record {
   durable = subst (λ (l : Learnt). q.known.part.durable ≤ l.durable) (sym same) k.durable;
 }
 
--- ---- behind room that was made
+-- ---- after room that was made
 pub begun_half : (heap : HeapShown) (old before new : RegionShown) (q : CallerShown) (g : Guard) → HasRoomIn heap old before q
     → HasBegun heap before new q 1 g → HasBegunHalf heap old new q g
 begun_half heap old before new q g room begun =
@@ -129,7 +129,7 @@ cut_since heap low low_mid low_now high high_mid high_now p q r (Cut unit) same 
     ))
     k
 
--- one that registered both has begun, and behind another one there is room as before
+-- one that registered both has begun, and after another one there is room as before
 pub begun_since : (heap : HeapShown) (low low_mid low_now high high_mid high_now : RegionShown) (p q : CallerShown)
     (found : Option PairGuard) (g : PairGuard) → p ≡ q → found ≡ Some g → HasRoomIn heap low low_mid q → HasRoomIn heap high high_mid q
     → HasTriedPair heap low_mid low_now high_mid high_now p found → HasBegunPair heap low low_now high high_now q g

@@ -1,4 +1,4 @@
--- Two units that leave their epoch one behind the other.
+-- Two units that leave their epoch one after the other.
 use Rattle.std.proofs.Common.{◌≡◌, ℕ, ◌+◌, ◌≤◌, ap, ◌∙◌, arith}
 use Rattle.mont_base.specs.declared.constants.TheConstants.{LAST}
 use Rattle.mont_base.specs.declared.operation.Op.{Op}
@@ -12,7 +12,7 @@ use Rattle.heap.specs.HeapShown.{HeapShown, CallerShown}
 use Rattle.slots.specs.Books.{RegionShown}
 use Rattle.op_guard.specs.Answered.{HasCommitted}
 
--- ---- the second unit may leave behind the first
+-- ---- the second unit may leave after the first
 pub can_leave_next : (s : Shape) (u : ℕ) (p : UnitPart) (q r : CallerPart) (op : Op) (reply : Reply) (epoch : ℕ) → r.calls ≡ q.calls + 1
     → q.calls + 1 ≤ LAST → r.newest ≡ epoch → CanLeave s u p q op reply epoch → CanLeave s u p r op reply epoch
 can_leave_next s u p q r op reply epoch next last newest k = record {

@@ -23,7 +23,7 @@ pub record IsPairUnderWay (heap : HeapShown) (g : PairGuard) (low high : RegionS
   pub lower : IsUnderWay heap (low_half g) low
   pub higher : IsUnderWay heap (high_half g) high
 
--- the unit whose record is written next, behind so many records
+-- the unit whose record is written next, after so many records
 abbrev pub unit_behind : ℕ → ℕ → ℕ → ℕ
 unit_behind low high zero = low
 unit_behind low high (suc written) = high
@@ -32,7 +32,7 @@ abbrev pub unit_at_hand : PairGuard → ℕ
 unit_at_hand g = unit_behind g.low g.high g.written
 
 -- ---- cut
--- The caller was cut in the one unit, and the other was halted behind that.
+-- The caller was cut in the one unit, and the other was halted after that.
 pub record WereHalted
     (heap : HeapShown) (one one_now other other_now : RegionShown) (q r : CallerShown)
     : Type 0 where

@@ -17,7 +17,7 @@ use slots::Region;
 /// Ends an operation whose records are written: both units leave the epoch with one entry each, the
 /// lower one first, and the pass keeps both receipts.
 ///
-/// A cut before the lower unit has left adds no entry and halts both units. Behind that it halts
+/// A cut before the lower unit has left adds no entry and halts both units. After that it halts
 /// the higher unit alone, the lower unit's entry stands alone, and the pass keeps its receipt.
 pub fn commit_pair<G: Gate>(
     guard: PairGuard,

@@ -48,7 +48,7 @@ pub struct PairCut {
 }
 
 impl PairGuard {
-    /// The unit of the record that is to be written next. Behind a cut of `write_pair` it is the
+    /// The unit of the record that is to be written next. After a cut of `write_pair` it is the
     /// unit before whose step the gate cut.
     pub fn unit_at_hand(&self) -> Unit
         ensures { result ≡ unit_at_hand self.now }

@@ -3,7 +3,7 @@ use Rattle.image_info.specs.AllFaults.{repeats, slot_faults, unit_faults_below}
 use Rattle.image_units.specs.Found.{all_records}
 use Rattle.image_info.proofs.all_faults.all_faults.Given as goal
 
--- behind the others, the faults of the objects of the units so far
+-- after the others, the faults of the objects of the units so far
 abbrev pub invariant-loop-unit : goal.invariant-loop-unit
 invariant-loop-unit l =
     l.faults.items

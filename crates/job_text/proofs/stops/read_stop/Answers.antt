@@ -12,7 +12,7 @@ use Rattle.job_text.proofs.OpSpelling.{two}
 use Rattle.job_text.proofs.SeenWords.{words_lack, decimal_seen, two_words}
 use Rattle.job_text.proofs.stops.read_stop.Goals as goal
 
--- the words behind `stop`
+-- the words after `stop`
 stop_tail : (line rest : List ℕ) (s : Stop) → line ≡ codes "stop " ++ rest → IsNumber s.who → IsNumber s.steps
     → line ≡ spaced (stop_words s) → words_of rest ≡ decimal s.who ∷ decimal s.steps ∷ []
 stop_tail line rest s front who steps is =

@@ -5,7 +5,7 @@ use Rattle.mont_check.specs.Ahead.{KnowsFirst}
 use Rattle.mont_check.specs.Moments.{IsAheadOf}
 use Rattle.mont_check.proofs.ahead.places_ahead.Given as goal
 
--- behind each outcome that was passed it is told, and of all of them the first places are known
+-- after each outcome that was passed it is told, and of all of them the first places are known
 abbrev pub invariant-loop-passed : goal.invariant-loop-passed
 invariant-loop-passed l = record {
   as_many : length l.ahead.items ≡ length l.outcomes;

@@ -9,7 +9,7 @@ use Rattle.recover.proofs.Dealt.{seat_here, place_inside, found_at, units_many}
 use Rattle.recover.proofs.Passed.{one_more_passed, none_left, as_many, has_place, has_room}
 use Rattle.recover.proofs.image_opening.regions_of.Goals as goal
 
--- how many units are behind
+-- how many units are after
 pub bounds-found-unit : goal.bounds-found-unit
 bounds-found-unit c =
     let i = c.loop-seat.invariant in

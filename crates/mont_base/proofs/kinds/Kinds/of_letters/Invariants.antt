@@ -4,7 +4,7 @@ use Rattle.mont_base.specs.declared.kinds.UnitKind.TheVariants as kinds
 use Rattle.mont_base.specs.Layout.{letters_of}
 use Rattle.mont_base.proofs.kinds.Kinds.of_letters.Given as goal
 
--- the letters so far are read, and maps stand behind
+-- the letters so far are read, and maps stand after
 abbrev pub invariant-loop-unit : goal.invariant-loop-unit
 invariant-loop-unit l = record {
   long : length l.of_units ≡ MOST_UNITS;

@@ -7,7 +7,7 @@ use Rattle.mont_base.specs.Layout.{units_from, map_units}
 use Rattle.mont_base.proofs.Units.{absent}
 use Rattle.mont_base.proofs.layout.Layout.map_unit.Goals as goal
 
--- behind the last unit every map unit was passed
+-- after the last unit every map unit was passed
 pub unreachable-requires : goal.unreachable-requires
 unreachable-requires c =
     let items = c.as_slice-kind-items.result.now in

@@ -3,7 +3,7 @@ use Rattle.std.specs.Fmt.{decimal}
 use Rattle.mont_base.specs.TextDigits.{front_digits}
 use Rattle.mont_base.proofs.text.Text.of_number.Given as goal
 
--- the digits that are written, behind those that are left to write
+-- the digits that are written, after those that are left to write
 abbrev pub invariant-loop-left : goal.invariant-loop-left
 invariant-loop-left l = record {
   long : length l.digits ≡ 20;

@@ -15,7 +15,7 @@ called g c = is_called c.args.heap.now c.args.self.now.region c.self.inside.regi
     (ap (λ (m : MapShown). m.region) c.self.view_is) c.self.invariant c.in_ok-check_running.ensures.ok.0 c.in_ok-check_running.ensures.ok.1
     c.in_ok-check_numbers.ensures.ok.1 c.make_room.ensures.places
 
--- ---- the plan, behind the checks
+-- ---- the plan, after the checks
 same : (g : Over) (c : After-check_numbers g) → c.check_running.new.region ≡ c.args.self.now.region
 same g c = c.in_ok-check_running.ensures.ok.1 ∙ ap (λ (m : MapShown). m.region) c.self.view_is
 
@@ -64,7 +64,7 @@ returns-in_err-slot-clause-unit g c = unit_uncarried c.args.heap.now c.check_num
     (g.I.Index.places c.make_room.new.index) (called g (goal.at.returns-in_err-slot-clause-unit g c).After-carry_out)
     c.make_room.new.pass.ticket c.carry_out.new.pass.ticket _ _ c.in_err-slot.ensures.refused
 
--- what was planned before the numbers were checked is planned behind that
+-- what was planned before the numbers were checked is planned after that
 planned : (g : Over) (c : After-carry_out g) → IsPlan c.check_numbers.new.region c.args.op.now c.args.reply.now c.args.changes.now
 planned g c = subst (λ (r : RegionShown). IsPlan r c.args.op.now c.args.reply.now c.args.changes.now)
     (sym (c.in_ok-check_numbers.ensures.ok.1 ∙ c.in_ok-check_running.ensures.ok.1 ∙ ap (λ (m : MapShown). m.region) c.self.view_is))
