@@ -57,8 +57,8 @@ impl Heap {
         Ok(answer.receipt(op, reply, epoch))
     }
 
-    /// The same as `leave`, and answers the epoch alone. What the receipt is tells the unit's
-    /// `NextAnswer` of before.
+    /// The same as `leave`, and returns only the epoch. The receipt is given by the `NextAnswer`
+    /// that the unit had before.
     pub fn leave_epoch<G: Gate>(
         &self,
         seat: &mut UnitSeat,
@@ -196,8 +196,8 @@ impl Heap {
         Ok(answer.receipt(op, reply, epoch))
     }
 
-    /// The same as `read_entry`, and answers the entry's epoch alone, which is the clock. What the
-    /// receipt is tells the unit's `NextAnswer` of before.
+    /// The same as `read_entry`, and returns only the entry's epoch, which is the clock. The receipt
+    /// is given by the `NextAnswer` that the unit had before.
     pub fn read_epoch<G: Gate>(
         &self,
         seat: &mut UnitSeat,

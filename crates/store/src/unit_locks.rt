@@ -15,8 +15,8 @@ use std::hint::spin_loop;
 use std::sync::{Mutex, MutexGuard, Wait};
 
 impl<N: HeapName, I: Index> Store<N, I> {
-    // Carries an operation of the unit out, and copies the receipt from the pass. What holds of a
-    // store on the heap with any base holds of this one.
+    // Carries an operation of the unit out, and copies the receipt from the pass. Facts that are
+    // proved for every base hold for this store's base.
     #[inline(always)]
     pub(crate) fn call_unit<R: Wait, G: Gate>(
         &self,
@@ -120,8 +120,8 @@ const TRIES: u64 = 200;
 
 const RESTS: u64 = 2;
 
-// The guard of a lock. Who waits sleeps until it is woken, which takes longer than a call; so a
-// caller tries a while before.
+// The guard of a lock. To wait puts the thread to sleep, which costs more than a call; so a caller
+// tries a while first.
 #[inline(always)]
 fn lock_soon<'a, T, R: Wait>(rt: &R, lock: &'a Mutex<T>) -> MutexGuard<'a, T> {
     match lock.try_lock() {
